@@ -100,15 +100,15 @@ class Answers:
 
 
 def asked(words, text):
-    """The questions of a file that are answered in the mode of these words; in mode `copy` with the copies of the file's head, or the
-    reason against them; in mode `sharing` the one that is made of the file. Each has the texts of what it is about, as a report
-    tells them. `Fault` where the file has no reading."""
+    """The questions of a file that are answered in the mode of these words; in mode `copy`, and in mode `best` where there is a head, with
+    the copies of the file's head, or the reason against them; in mode `sharing` the one that is made of the file. Each has the texts of
+    what it is about, as a report tells them. `Fault` where the file has no reading."""
     if "sharing" in words:
         question = sharing.made(text)
         question.about = {"sharing": re.sub("[^\0-\x7f]", "?", text)}
         return [question]
-    if "copy" not in words:
-        questions = read(text)
+    copies, questions = read_with_head(text) if "copy" in words or "best" in words else ([], read(text))
+    if "copy" not in words and not copies:
         for question in questions:
             question.about = {"question": question.text}
         return questions
@@ -121,7 +121,6 @@ def asked(words, text):
         found.about = {"copies": "".join(copy.text for copy in copies), "question": question.text}
         return found
 
-    copies, questions = read_with_head(text)
     return [with_copies(question) for question in questions]
 
 

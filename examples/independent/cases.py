@@ -2,9 +2,9 @@
 
 `valid` files are right, `broken` ones have a few tokens, lines or bytes changed; `limits` are at a limit or just past it; `wide` ones
 have numbers near 2**64 and denominators near 2**32; `large` ones have nine or ten variables; `reports` are right and damaged lines.
-`copies` are files with a head, right ones, broken ones, and ones whose questions can't have the copies. `factors` are right files whose
-questions ask for factors, most of them `prove E >= F`, in mode `best`. `bounds` are right files for mode `outer`. `sharing` are sharing
-files, right ones, broken ones, and ones with dozens of lists.
+`copies` are files with a head, right ones, broken ones, and ones whose questions can't have the copies. `factors` are files whose
+questions ask for factors, most of them `prove E >= F`, in mode `best`: right ones without a head, and right and broken ones with one.
+`bounds` are right files for mode `outer`. `sharing` are sharing files, right ones, broken ones, and ones with dozens of lists.
 """
 
 import re
@@ -85,7 +85,12 @@ class Case:
     def factors(self):
         asked = self.generator.system() if self.chance(0.1) else ""
         signs = [">="] * 8 + ["<=", "="]
-        return self.loose(asked + "".join(self.generator.question(signs) for _ in range(self.pick([1, 1, 2, 3]))))
+        if self.chance(0.7):
+            return self.loose(asked + "".join(self.generator.question(signs) for _ in range(self.pick([1, 1, 2, 3]))))
+        self.words = [*self.words, "--pivots", "60"] if not any("--pivots" in word for word in self.words) else self.words
+        text = self.loose(self.head() + asked + "".join(self.generator.question(signs) for _ in range(self.pick([1, 1, 2]))))
+        pieces = TOKENS.findall(text)
+        return text if self.chance(0.7) else "".join(self.changed(pieces) or ["\n"])
 
     def bounds(self):
         return self.loose("".join(self.generator.system() for _ in range(self.pick([1, 1, 2]))))
@@ -270,7 +275,7 @@ class Case:
         for _ in range(self.pick([1, 2, 3])):
             make, words = self.pick([
                 (self.questions, ["answer", "--format", "json", *BUDGETS]), (self.generator.question, ["best", "--report"]),
-                (self.generator.system, ["outer", "--report", *BUDGETS]),
+                (lambda: self.head() + self.generator.question([">="]), ["best", "--report", "--pivots", "60"]), (self.generator.system, ["outer", "--report", *BUDGETS]),
             ])
             text, _ = outcome(words, make().encode())
             lines += text.splitlines()

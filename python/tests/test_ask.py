@@ -8,9 +8,10 @@ import sys
 import tempfile
 import time
 import unittest
+from fractions import Fraction
 from pathlib import Path
 
-from itip import copy, prove, relation, rv, sharing
+from itip import H, I, best, copy, prove, relation, rv, sharing
 from itip.ask import MODES, SETTINGS, grouped, mode_of, unused
 from itip.program import default
 
@@ -80,7 +81,7 @@ class Calls(Asks):
     def test_words(self):
         path = self.file("vars X\nprove H(X) >= 0\n")
         for words in [
-            [], ["--steps"], ["--latx", "f"], ["--help", "f"], ["--document", "f"], ["--"], ["--copy", "--best", "f"], ["--answer", "f"],
+            [], ["--steps"], ["--latx", "f"], ["--help", "f"], ["--document", "f"], ["--"], ["--copy", "--outer", "f"], ["--answer", "f"],
             ["-copy", "f"], ["--latex=1", "f"], ["--pivots"], ["--pivots", "7"], ["--run", "fast", path], ["--pivots", "few", path],
             ["--tries", "7", "--copy", path],
         ]:  # fmt: skip
@@ -247,6 +248,7 @@ class Calls(Asks):
             (f"vars X\nprove H(X) >= 0\n{shannon}", [], 2, ["1 yes", "2 yes"]),
             (f"copy R of X over Y\nvars X, Y\nprove H(X) >= 0\n{shannon}", ["--copy"], 2, ["1 yes", "2 yes"]),
             (f"vars X\nprove H(X) <= H(X)\n{shannon}", ["--best"], 2, ["1 other", "2 best 1/1"]),
+            (f"copy R of X over Y\nvars X\nprove H(X) >= 0\n{shannon}", ["--best"], 2, ["1 misfit copy 1", "2 best 1/1"]),
             (f"{PATH}prove H(b) + H(c) >= 3 H(s)\n", ["--sharing"], 1, ["sharing 3 3", "1 yes"]),
             (f"{PATH}best H(b) + H(c) >= H(s)\n", ["--sharing"], 1, ["sharing 3 3", "1 best 1/3"]),
         ]:
@@ -309,7 +311,7 @@ class Modes(Asks):
         return len(proofs)
 
     def test_copy(self):
-        self.assertGreater(self.judge("copy", "copies", "[!m]*.txt"), 5)
+        self.assertGreater(self.judge("copy", "copies", "[!bm]*.txt"), 5)
         told = self.asks((EXAMPLES / "copies" / "zhang-yeung.txt").read_text(), "--copy")
         self.assertEqual([line for line in told if line[0] != " "], ["1 yes", "2 yes", "3 no"])
 
@@ -329,6 +331,24 @@ class Modes(Asks):
 
     def test_best(self):
         self.assertGreater(self.judge("best", ".", "best-[!c]*.txt"), 10)
+        self.assertGreater(self.judge("best", "copies", "best-*.txt"), 4)
+
+    def test_best_with_copies(self):
+        """How far Ingleton's inequality may fail: by 1/4 of the whole by Shannon's inequalities, and by 1/5 with the copy of Zhang and Yeung."""
+        head, text = "copy R of A over C, D\n", "vars A, B, C, D\nprove H(A,B,C,D) >= I(C;D) - I(C;D|A) - I(C;D|B) - I(A;B)\n"
+        self.assertEqual(self.asks(text, "--best")[0], "1 best 1/4")
+        told = self.asks(head + text, "--best")
+        self.assertEqual(told[0], "1 best 1/5")
+        self.are_equations([told[1].strip()])
+        for words in (["--best", "--copy"], ["--copy", "--best"]):
+            self.assertEqual(self.asks(head + text, *words), told)
+        a, b, c, d, one = rv("A B C D R")
+        found = best(H(a, b, c, d), I(c & d) - I(c & d | a) - I(c & d | b) - I(a & b), copies=[copy(one, a, c + d)])
+        self.assertEqual(found.value, Fraction(1, 5))
+        self.assertEqual([f"  {line}" for line in (*found.holds.told, *found.attained.told)], told[1:])
+        paper = "\n".join(self.asks(head + text, "--best", "--latex"))
+        self.assertIn("Given: $R$ a copy of $A$ over $C,D$.", paper)
+        self.assertIn("The least factor is $1/5$", paper)
 
     def test_best_of_the_literature(self):
         """Shearer's 1/2, of the edges of a triangle (1986): the pairs of one variable in three show that no smaller one does."""

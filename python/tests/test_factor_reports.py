@@ -17,6 +17,12 @@ class FactorReports(unittest.TestCase):
         self.assertEqual((holds["answer"], holds["proofs"]), ("yes", line["proofs"]))
         self.assertEqual((smaller["answer"], smaller["point"], smaller["side"]), ("no", line["point"], "forward"))
 
+    def test_with_copies(self):
+        """R is independent of X: at the point both have the entropy 1."""
+        line = {"answer": "best", "copies": "copy R of X over 0\n", "factor": ["1", "1"], "point": ["1", "1", "2"], "proofs": [{"scale": "1", "weights": []}], "question": "vars X\nprove H(X) >= H(X)\n"}
+        said, parts = of_report(json.dumps(line))
+        self.assertEqual((said, [json.loads(part)["question"].split("\n")[0] for part in parts]), ("best 1/1", ["vars X, R"] * 2))
+
     def test_none(self):
         said, parts = of_report(json.dumps({"answer": "none", "point": ["0", "1", "1"], "question": "vars X, Y\nprove H(X) >= H(Y)\n"}))
         self.assertEqual((said, [json.loads(part)["point"] for part in parts]), ("none", [["0", "1", "1"]]))

@@ -148,21 +148,28 @@ class Command(Asks):
         self.assertEqual([text for text, _ in told_rays(alone)], ["line F = 1", ""])
 
     def test_proofs(self):
-        """Each row has a proof that is an equation, with the row's numbers on its left, and each ray facts of its point."""
+        """Each row has a proof with the row's numbers on its left, which its steps reach, and each ray facts of its point."""
         steps = self.asks(SECRECY, "--outer", "--per", "HM", "--proofs", "--steps")
         told = [line for line in steps if not line.startswith("      ")]
         self.assertEqual(told[0], "1 outer 3 3")
         rows, proofs = [line.strip() for line in told[1:7:2]], told[2:7:2]
         self.assertEqual(set(rows), {"HM >= 0", "HC >= 0", "HK >= HM"})
-        self.are_equations([proof.strip() for proof in proofs])
         for row, proof in zip(rows, proofs):
             self.assertEqual(proof.partition(" = ")[0], "    " + " - ".join(side for side in row.split(" >= ") if side != "0"))
         rays = ["  corner (HK, HC) = (1, 0) per HM", "  direction (HK, HC) = (1, 0)", "  direction (HK, HC) = (0, 1)"]
         self.assertEqual(told[7::2], rays)
         self.assertEqual(told[8].split(", ")[-4:-1], ["HM = 1", "HK = 1", "HC = 0"])
-        self.are_equations([line.strip() for line in steps if line.startswith("      ")])
+        proof, reached = "", {}
+        for line in steps:
+            if line.startswith("      "):
+                reached[proof] = line.strip().partition(" = ")[2]
+            else:
+                proof = line
+        self.assertTrue(reached)
+        for proof, total in reached.items():
+            self.assertEqual(proof.strip().partition(" = ")[0], total)
         named = self.asks(SECRECY, "--outer", "--proofs", "--per", "HM")
-        self.assertEqual((len(named), set(named) & {"  HM >= 0", "    HM = H(M) + (row 1)"}), (len(told), {"  HM >= 0", "    HM = H(M) + (row 1)"}))
+        self.assertEqual((named, set(named) & {"  HM >= 0", "    HM = H(M) + (row 1)"}), (told, {"  HM >= 0", "    HM = H(M) + (row 1)"}))
 
     def test_numbers_past_those_of_questions(self):
         """Where no question file holds a row's numbers its proof and its point are told as the mode has them. Lines by hand."""

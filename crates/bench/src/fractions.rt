@@ -29,7 +29,7 @@ fn next_fraction(numbers: &mut SplitWhitespace<'_>) -> Option<Fraction> {
     fraction(numbers.next()?, numbers.next()?)
 }
 
-/// The pair of a line.
+/// The pair of fractions on a line, if it has one.
 fn pair_of(line: &str) -> Option<Pair> {
     let mut numbers = line.split_whitespace();
     let left = next_fraction(&mut numbers)?;
@@ -48,7 +48,7 @@ fn pairs(alloc: Global, text: &str) -> Result<Vec<Pair>, AllocError> {
     Ok(pairs)
 }
 
-/// The sum so far with one more result.
+/// `sum` with the result of one more operation.
 fn add_outcome(sum: i128, outcome: Result<Fraction, Wide>) -> i128 {
     match outcome {
         Ok(fraction) => sum
@@ -58,7 +58,7 @@ fn add_outcome(sum: i128, outcome: Result<Fraction, Wide>) -> i128 {
     }
 }
 
-/// A sum over the pairs' sums, turn after turn.
+/// A sum over the sums of the pairs, `turns` times over.
 fn sums(pairs: &[Pair], turns: u32) -> i128 {
     let mut sum: i128 = 0;
     for _ in 0..turns {
@@ -69,7 +69,7 @@ fn sums(pairs: &[Pair], turns: u32) -> i128 {
     sum
 }
 
-/// A sum over the pairs' products.
+/// A sum over the products of the pairs, `turns` times over.
 fn products(pairs: &[Pair], turns: u32) -> i128 {
     let mut sum: i128 = 0;
     for _ in 0..turns {
@@ -80,7 +80,7 @@ fn products(pairs: &[Pair], turns: u32) -> i128 {
     sum
 }
 
-/// How often the left one is greater, less how often it is less.
+/// The number of times that the left one is greater, less the number of times that it is less.
 fn orders(pairs: &[Pair], turns: u32) -> i128 {
     let mut sum: i64 = 0;
     for _ in 0..turns {
@@ -95,7 +95,7 @@ fn orders(pairs: &[Pair], turns: u32) -> i128 {
     i128::from(sum)
 }
 
-/// Writes what an operation gives, a fraction or `wide`, and a space.
+/// Writes the result of an operation, a fraction or `wide`, and a space.
 fn write_outcome(out: &mut Output, outcome: Result<Fraction, Wide>) {
     match outcome {
         Ok(fraction) => out.put_fraction(&fraction),

@@ -45,7 +45,7 @@ pub struct Task<'a> {
     pub turns: u32,
 }
 
-/// How many questions a file has.
+/// The number of questions of a file.
 fn count(alloc: Global, file: &[u8]) -> usize
     requires { length file.now ≤ 1048577 }
 {

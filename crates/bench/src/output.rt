@@ -1,4 +1,4 @@
-//! What kernels write.
+//! The output of kernels.
 
 use it_fraction::Fraction;
 use std::fmt::Display;
@@ -17,7 +17,7 @@ impl Output {
         Output { rt, end: Ok(()) }
     }
 
-    /// Writes a value as it shows itself.
+    /// Writes a value as its `Display` does.
     pub fn put<T: Display + Drop>(&mut self, value: T) {
         if self.end.is_ok() {
             self.end = print!(self.rt; "{value}");

@@ -22,7 +22,7 @@ fn write_set(out: &mut Output, front: &str, set: VarSet) {
     out.put(set.number());
 }
 
-/// Writes what a term has a number of.
+/// Writes the atom of a term.
 fn write_atom(out: &mut Output, atom: Atom) {
     match atom {
         Atom::Nothing => {}
@@ -149,7 +149,7 @@ fn write_containment(out: &mut Output, first: &Region, second: &Region, tries: &
     }
 }
 
-/// Writes a verb with what it has.
+/// Writes a verb with its parts.
 fn write_verb(out: &mut Output, verb: &Verb) {
     match verb {
         Verb::Prove(relation) => write_relation(out, " prove ", relation),
@@ -170,7 +170,7 @@ fn write_question(out: &mut Output, question: &Question) {
     out.put('\n');
 }
 
-/// Writes a row after what it is.
+/// Writes the terms of a row.
 fn write_row(out: &mut Output, row: &Row) {
     for (coordinate, coefficient) in row.terms() {
         out.put(' ');
@@ -181,7 +181,7 @@ fn write_row(out: &mut Output, row: &Row) {
     out.put('\n');
 }
 
-/// Writes where a constraint is from.
+/// Writes the origin of a constraint.
 fn write_origin(out: &mut Output, origin: Origin) {
     match origin {
         Origin::Given { line, part, parts } => {
@@ -199,7 +199,7 @@ fn write_origin(out: &mut Output, origin: Origin) {
     }
 }
 
-/// Writes constraints: where each is from, whether it is an equation, and its row.
+/// Writes constraints: of each its origin, whether it is an equation, and its row.
 fn write_constraints(out: &mut Output, constraints: &[Constraint]) {
     for constraint in constraints {
         write_origin(out, constraint.origin);
@@ -238,7 +238,7 @@ fn write_asked(alloc: Global, out: &mut Output, question: &Question) -> Result<(
 fn write_problem(alloc: Global, out: &mut Output, question: &Question) -> Result<(), AllocError>
     requires { IsQuestion (question_body question.now) }
 {
-    write_constraints(out, problem(alloc, question)?.constraints.as_slice());
+    write_constraints(out, problem(alloc, question)?.constraints());
     write_asked(alloc, out, question)
 }
 

@@ -5,7 +5,6 @@ ghost use Rattle.std.specs.Bool.{OnTrue};
 ghost use Rattle.it_question.specs.Limits.{IsQuestion};
 ghost use Rattle.it_question.specs.Questions.{question_body};
 ghost use Rattle.it_redundant.specs.Reduction.{IsSystemUnder};
-ghost use Rattle.it_space.specs.Problems.{IsProblem, problem_view};
 ghost use Rattle.it_space.specs.Rows.{IsOver};
 
 use crate::Task;
@@ -37,14 +36,14 @@ fn is_up_to(row: &Row, size: u32) -> bool
         .all(|(coordinate, _)| 1 <= *coordinate && *coordinate <= size)
 }
 
-/// Whether all rows do.
+/// Whether all rows use coordinates up to `size` alone.
 fn are_up_to(rows: &[Row], size: u32) -> bool
     ensures { OnTrue result (All (IsOver size) rows.now) }
 {
     rows.iter().all(|row| is_up_to(row, size))
 }
 
-/// One more constraint of a row.
+/// Appends the constraint of a row.
 fn push(
     alloc: Global,
     constraints: &mut Vec<Constraint>,
@@ -57,7 +56,7 @@ fn push(
     Ok(())
 }
 
-/// The rows as ones that are to be at least 0.
+/// Appends rows as constraints that are to be at least 0.
 fn push_rows(
     alloc: Global,
     constraints: &mut Vec<Constraint>,
@@ -75,50 +74,45 @@ fn push_rows(
     Ok(())
 }
 
-/// The givens.
+/// Appends the givens.
 fn push_givens(
     alloc: Global,
     constraints: &mut Vec<Constraint>,
     givens: &Problem,
 ) -> Result<(), AllocError> {
-    for given in givens.constraints.as_slice() {
+    for given in givens.constraints() {
         push(alloc, constraints, &given.row, given.kind, given.origin)?;
     }
     Ok(())
 }
 
-/// The givens, and the rows before and after one.
+/// Whether there are at most 65,535 constraints, of `size` coordinates.
+fn are_constraints(constraints: &[Constraint], size: u32) -> bool
+    ensures few { OnTrue result (length constraints.now ≤ 65535) }
+    ensures rows { OnTrue result (All (λ c. IsOver size c.row) constraints.now) }
+{
+    constraints.len() <= 65535
+        && constraints
+            .iter()
+            .all(|constraint| is_up_to(&constraint.row, size))
+}
+
+/// The problem of the givens with the rows `before` and `after`; `None` where these are too many, or not of the givens' space.
 fn problem_around(
     alloc: Global,
     givens: &Problem,
     before: &[Row],
     after: &[Row],
-) -> Result<Problem, AllocError> {
+) -> Result<Option<Problem>, AllocError> {
     let mut constraints = Vec::new(alloc);
     push_givens(alloc, &mut constraints, givens)?;
     push_rows(alloc, &mut constraints, before)?;
     push_rows(alloc, &mut constraints, after)?;
-    Ok(Problem {
-        space: givens.space,
-        constraints,
-    })
-}
-
-/// Whether the constraints are few, and rows of the space.
-fn is_problem(problem: &Problem) -> bool
-    ensures problem { OnTrue result (IsProblem (problem_view problem.now)) }
-    ensures few { OnTrue result (length problem.now.constraints.items ≤ 65535) }
-{
-    let space = problem.space;
-    if space.variables < 1 || space.variables > 10 || space.rates > 16 {
-        return false;
+    let space = givens.space();
+    if !are_constraints(constraints.as_slice(), space.size()) {
+        return Ok(None);
     }
-    let size = space.size();
-    problem.constraints.len() <= 65535
-        && problem
-            .constraints
-            .iter()
-            .all(|constraint| is_up_to(&constraint.row, size))
+    Ok(Some(Problem { space, constraints }))
 }
 
 /// Whether a row is proved under the givens and the rows before and after it, by a call of its own.
@@ -130,14 +124,16 @@ fn follows(
     after: &[Row],
     asking: &mut Asking,
 ) -> Result<bool, AllocError> {
-    let problem = problem_around(alloc, givens, before, after)?;
-    if !is_problem(&problem) || !is_up_to(row, problem.space.size()) {
+    let Some(problem) = problem_around(alloc, givens, before, after)? else {
+        return Ok(false);
+    };
+    if !is_up_to(row, problem.size()) {
         return Ok(false);
     }
     asking.proves(alloc, &problem, row)
 }
 
-/// A list without the rows that the others give, each by a call of its own.
+/// The list without the rows that follow from the others, each asked about by a call of its own.
 fn reduction_anew(
     alloc: Global,
     list: &System,
@@ -158,7 +154,7 @@ fn reduction_anew(
     })
 }
 
-/// A list without the rows that the others give, in one of the ways.
+/// The list without the rows that follow from the others, in one of the ways.
 fn reduction(
     alloc: Global,
     list: System,
@@ -166,7 +162,7 @@ fn reduction(
     way: &str,
     asking: &mut Asking,
 ) -> Result<System, AllocError>
-    requires under { IsSystemUnder (problem_view givens.now) list }
+    requires under { IsSystemUnder givens.now list }
     requires few { length list.rows.items ≤ 65535 }
 {
     match way {
@@ -181,13 +177,14 @@ fn reduction(
 
 /// Whether the list has few rows of the givens' space.
 fn is_under(list: &System, givens: &Problem) -> bool
-    ensures under { OnTrue result (IsSystemUnder (problem_view givens.now) list.now) }
+    ensures under { OnTrue result (IsSystemUnder givens.now list.now) }
     ensures few { OnTrue result (length list.now.rows.items ≤ 65535) }
 {
-    list.space == givens.space
-        && is_problem(givens)
+    givens.facts();
+    list.space == givens.space()
+        && givens.constraints().len() <= 65535
         && list.rows.len() <= 65535
-        && are_up_to(list.rows.as_slice(), givens.space.size())
+        && are_up_to(list.rows.as_slice(), givens.size())
 }
 
 /// The list after a rate, if there is one.
@@ -206,8 +203,8 @@ fn after(
     }
 }
 
-/// The list after a rate without the rows that the others give, in one of the ways, and how many rows were asked about; None where
-/// there is no such list.
+/// The list after a rate without the rows that follow from the others, in one of the ways, and the number of rows that were asked
+/// about; None where there is no such list.
 fn reduced_after(
     alloc: Global,
     list: &System,
@@ -226,7 +223,7 @@ fn reduced_after(
     Ok(Some((reduction(alloc, after, givens, way, asking)?, asked)))
 }
 
-/// The rows of a question, and what they are under.
+/// The rows of a question, and the givens that they are under.
 fn rows_and_givens(alloc: Global, question: &Question) -> Result<(System, Problem), AllocError>
     requires { IsQuestion (question_body question.now) }
 {
@@ -234,7 +231,7 @@ fn rows_and_givens(alloc: Global, question: &Question) -> Result<(System, Proble
     Ok((rows, problem(alloc, question)?))
 }
 
-/// How many rows each rate leaves, up to a rate that has no list, and how often the solver was called.
+/// The numbers of rows that each rate leaves, up to a rate that has no list, and the number of calls of the solver.
 pub fn elimination(
     alloc: Global,
     question: &Question,
@@ -269,7 +266,7 @@ fn write_counts(out: &mut Output, counts: &[usize], calls: usize) {
     out.put('\n');
 }
 
-/// Eliminates the rates so many times, and writes the rows after each and the calls.
+/// Eliminates the rates `task.turns` times, and writes the rows after each and the calls.
 fn eliminate(
     alloc: Global,
     out: &mut Output,

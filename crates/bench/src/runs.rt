@@ -73,7 +73,7 @@ fn end(alloc: Global, system: &System, task: &Task<'_>) -> Result<Solved, AllocE
     )
 }
 
-/// Makes the run so many times, and tells how it ends.
+/// Makes the run `task.turns` times, and says how it ends.
 fn run(alloc: Global, system: &System, task: &Task<'_>) -> Result<&'static str, AllocError> {
     for _ in 1..task.turns {
         end(alloc, system, task)?;

@@ -22,7 +22,7 @@ const DEFINED: Effort = Effort {
     pivots: None,
 };
 
-/// How often the solver was called, and with which rows.
+/// The number of calls of the solver, and the rows that they were about.
 #[derive(Drop)]
 struct Calls {
     count: u32,
@@ -40,7 +40,7 @@ fn is_containment(verb: &Verb) -> bool
     }
 }
 
-/// One more call, about a row.
+/// Counts a call about a row.
 fn note(alloc: Global, calls: &mut Calls, row: &Row) -> Result<(), AllocError> {
     calls.count = calls.count.wrapping_add(1);
     let terms = Vec::from_slice(alloc, row.terms())?;
@@ -72,7 +72,7 @@ fn is_proved(
     Ok(true)
 }
 
-/// How many candidates of a box are tried until one is proved, and whether one is.
+/// The number of candidates of a box that are tried until one is proved, and whether one is.
 fn search_box(
     alloc: Global,
     pair: &Pair,
@@ -98,7 +98,7 @@ fn search_box(
     Ok((tries, false))
 }
 
-/// The search that keeps no outcome of an obligation: how many candidates are tried until one is proved, and whether one is.
+/// The search that keeps no outcome of an obligation: the number of candidates that are tried until one is proved, and whether one is.
 fn search_plainly(
     alloc: Global,
     pair: &Pair,
@@ -145,7 +145,7 @@ fn search_kept(
     Ok(())
 }
 
-/// Writes how a search ends, and what it called.
+/// Writes how a search ends, and its calls.
 fn write_calls(out: &mut Output, is_found: bool, tried: u32, calls: &Calls) {
     out.put(if is_found { "found " } else { "open " });
     out.put(tried);
@@ -156,7 +156,7 @@ fn write_calls(out: &mut Output, is_found: bool, tried: u32, calls: &Calls) {
     out.put('\n');
 }
 
-/// Makes one search that keeps none, and writes how it ends and what it called.
+/// Makes one search that keeps no outcomes, and writes how it ends and its calls.
 fn search_anew(
     alloc: Global,
     out: &mut Output,

@@ -14,7 +14,7 @@ use it_space::Row;
 use std::alloc::{AllocError, Global};
 use std::str::SplitWhitespace;
 
-/// Whether the target is a sum of the columns, with a budget of steps, if there is one.
+/// The question whether the target is a sum of the columns, with a budget of steps, if there is one.
 #[derive(Drop)]
 pub struct System {
     pub steps: Option<u32>,
@@ -23,7 +23,7 @@ pub struct System {
     pub columns: Vec<Row>,
 }
 
-/// Whether a row may have this coefficient.
+/// Whether `number` may be a coefficient of a row.
 fn is_coefficient(number: i128) -> bool
     ensures some { OnTrue result (number ≢ pos 0) }
     ensures within { OnTrue result (IsWithin number) }
@@ -50,7 +50,7 @@ fn term_of(text: &str, least: u32) -> Option<(u32, i128)>
     Some((coordinate, coefficient))
 }
 
-/// One term more.
+/// Appends a term.
 fn append(terms: &mut Vec<(u32, i128)>, term: (u32, i128)) -> Result<(), AllocError>
     ensures { OnOk result (terms.new.items ≡ terms.old.items ++ term ∷ []) }
 {
@@ -58,7 +58,7 @@ fn append(terms: &mut Vec<(u32, i128)>, term: (u32, i128)) -> Result<(), AllocEr
     Ok(())
 }
 
-/// The row of a text, None where it is none.
+/// The row that a text says; None where it says none.
 fn row_of(alloc: Global, text: &str) -> Result<Option<Row>, AllocError> {
     let mut terms = Vec::new(alloc);
     let mut least: u32 = 1;
@@ -78,7 +78,7 @@ fn row_of(alloc: Global, text: &str) -> Result<Option<Row>, AllocError> {
     Ok(Some(Row::new(terms)))
 }
 
-/// The most steps of a text: a number, or none.
+/// The most steps that a text says: a number, or none.
 fn steps_of(text: &str) -> Option<Option<u32>> {
     if text == "none" {
         Some(None)
@@ -87,7 +87,7 @@ fn steps_of(text: &str) -> Option<Option<u32>> {
     }
 }
 
-/// The rows of words, None where one is none.
+/// The rows that words say; None where one of them says none.
 fn rows_of(alloc: Global, words: SplitWhitespace<'_>) -> Result<Option<Vec<Row>>, AllocError> {
     let mut rows = Vec::new(alloc);
     for word in words {
@@ -99,7 +99,7 @@ fn rows_of(alloc: Global, words: SplitWhitespace<'_>) -> Result<Option<Vec<Row>>
     Ok(Some(rows))
 }
 
-/// The system of a line, None where it is none.
+/// The system that a line says; None where it says none.
 fn system_of(alloc: Global, line: &str) -> Result<Option<System>, AllocError> {
     let mut words = line.split_whitespace();
     let (Some(steps), Some(count)) = (words.next(), words.next()) else {
@@ -159,7 +159,7 @@ fn engine_of(alloc: Global, system: &System) -> Result<Engine, AllocError> {
     Ok(Engine::Exact)
 }
 
-/// The word for an engine.
+/// The name of an engine.
 fn word(engine: Engine) -> &'static str {
     match engine {
         Engine::Narrow => "narrow",

@@ -3,7 +3,6 @@
 ghost use Rattle.std.specs.Prelude.{◌≡◌};
 ghost use Rattle.it_question.specs.Limits.{IsQuestion};
 ghost use Rattle.it_question.specs.Questions.{Prove, question_body};
-ghost use Rattle.it_space.specs.Problems.{IsProblem, problem_view};
 ghost use Rattle.it_space.specs.Rows.{IsOver};
 ghost use Rattle.it_space.specs.Spaces.{size_of};
 ghost use Rattle.it_syntax.specs.Meaning.{relation_view};
@@ -25,7 +24,7 @@ const DEFINED: Effort = Effort {
     pivots: None,
 };
 
-/// The run that is asked, about how many targets it was, and how many of them it settled.
+/// The run that is asked, the number of targets that it was asked about, and the number of them that it settled.
 #[derive(Drop)]
 pub struct Asking {
     quick: bool,
@@ -59,14 +58,13 @@ impl Asking {
         }
     }
 
-    /// What the run answers about a target.
+    /// The answer of the run about a target.
     fn answer(
         &mut self,
         alloc: Global,
         problem: &Problem,
         target: &Row,
     ) -> Result<Option<Proof>, AllocError>
-        requires problem { IsProblem (problem_view problem.now) }
         requires target { IsOver (size_of problem.now.space) target.now }
     {
         if !self.quick {
@@ -88,7 +86,6 @@ impl Asking {
         problem: &Problem,
         target: &Row,
     ) -> Result<bool, AllocError>
-        requires problem { IsProblem (problem_view problem.now) }
         requires target { IsOver (size_of problem.now.space) target.now }
     {
         self.asked = self.asked.wrapping_add(1);
@@ -113,7 +110,7 @@ fn proves_relation(
     requires proves { (question_body question.now).verb ≡ Prove (relation_view relation.now) }
 {
     let problem = problem(alloc, question)?;
-    for target in target_rows(alloc, relation, problem.space)?.as_slice() {
+    for target in target_rows(alloc, relation, problem.space())?.as_slice() {
         if !asking.proves(alloc, &problem, target)? {
             return Ok(false);
         }
@@ -121,7 +118,7 @@ fn proves_relation(
     Ok(true)
 }
 
-/// Writes what the run answers about a question.
+/// Writes the answer of the run about a question.
 fn answer(
     alloc: Global,
     out: &mut Output,
@@ -145,8 +142,8 @@ fn answer(
     Ok(())
 }
 
-/// Writes what the run answers about a question, about how many targets it was asked, and how many of them it settled; the last of so
-/// many times.
+/// Writes the answer of the run about a question, the number of targets that it was asked about, and the number of those that it
+/// settled.
 pub fn write(
     alloc: Global,
     out: &mut Output,

@@ -3,7 +3,7 @@ use Rattle.std.proofs.Common.{◌≡◌, ℕ, ◌<◌, ◌^◌, ℤ, pos, ◌≤
 use Rattle.std.proofs.lemmas.List.Elements.{All-nil, All-cons}
 use Rattle.it_space.specs.declared.spaces.Space.{Space}
 use Rattle.it_space.specs.Answers.{AnswerView, CertificateView}
-use Rattle.it_space.specs.Problems.{ProblemView, AreMet, problem_view}
+use Rattle.it_space.specs.Problems.{ProblemView, AreMet}
 use Rattle.it_space.specs.Rows.{Terms, value}
 use Rattle.it_space.specs.Spaces.{size_of}
 use Rattle.it_polymatroid.specs.Certificates.{Form}
@@ -54,8 +54,8 @@ module _ (q : BodyView) (a b : RegionView) (tries : List (List ℕ)) (p : Pair) 
   n_is : p.first.space.variables ≡ length a.names.variables
   n_is = ap (λ (s : Space). s.variables) o.first_space
 
-  problem_is : problem_view p.first ≡ problem_of q
-  problem_is = one_problem q (problem_view p.first) (record { space = first_is; limits = l.problem; constraints = o.first })
+  problem_is : p.first ≡ problem_of q
+  problem_is = one_problem q p.first (record { space = first_is; limits = l.problem; constraints = o.first })
 
   -- ---- what proves a candidate, by the pair and by the text
 
@@ -72,44 +72,44 @@ module _ (q : BodyView) (a b : RegionView) (tries : List (List ℕ)) (p : Pair) 
   by_text effort c ws g = record {
     fits = fits_text c g.fits;
     proofs = subst (λ (x : ProblemView). AreProofsOf x effort (map (terms_in q) (obligations q a b (candidate_parts c))) ws) problem_is
-        (subst (λ (ts : List Terms). AreProofsOf (problem_view p.first) effort ts ws) (terms_are c) g.proofs);
+        (subst (λ (ts : List Terms). AreProofsOf p.first effort ts ws) (terms_are c) g.proofs);
   }
 
   unproved_text : (effort : Effort) (c : Candidate) → IsUnproved (pair_goal p effort) c → IsUnproved (containment_goal q a b effort) c
   unproved_text effort c n f = subst (λ (x : ProblemView). LeavesSome (λ t o. EndsWith x t effort o) (map (terms_in q) (obligations q a b (candidate_parts c)))) problem_is
-      (subst (λ (ts : List Terms). LeavesSome (λ t o. EndsWith (problem_view p.first) t effort o) ts) (terms_are c) (n (fits_pair c f)))
+      (subst (λ (ts : List Terms). LeavesSome (λ t o. EndsWith p.first t effort o) ts) (terms_are c) (n (fits_pair c f)))
 
   shape_is : shape_of p ≡ record { variables = length a.names.variables; parts = b.auxiliaries }
   shape_is = ap₂ (λ n m. let s : Shape = record { variables = n; parts = m } in s) n_is o.parts
 
   -- ---- certificates by forms
 
-  all_certified : (effort : Effort) (fs : List Form) (ts : List Terms) (ws : List CertificateView) → ArePulledRows p.first.space fs ts → AreProofsOf (problem_view p.first) effort ts ws → CertifyAll q fs ws
+  all_certified : (effort : Effort) (fs : List Form) (ts : List Terms) (ws : List CertificateView) → ArePulledRows p.first.space fs ts → AreProofsOf p.first effort ts ws → CertifyAll q fs ws
   all_certified effort [] [] [] r c = tt
   all_certified effort [] [] (w ∷ ws) r c = absurd c
   all_certified effort [] (t ∷ ts) ws r c = absurd r
   all_certified effort (f ∷ fs) [] ws r c = absurd r
   all_certified effort (f ∷ fs) (t ∷ ts) [] r c = absurd c
   all_certified effort (f ∷ fs) (t ∷ ts) (w ∷ ws) r c = (
-    show_certificate q (problem_view p.first) first_is o.first l.problem f t w r.0.coordinates r.0.same (ends_are_right (problem_view p.first) t effort (Yes w) l.problem r.0.coordinates c.0).0,
+    show_certificate q p.first first_is o.first l.problem f t w r.0.coordinates r.0.same (ends_are_right p.first t effort (Yes w) l.problem r.0.coordinates c.0).0,
     all_certified effort fs ts ws r.1 c.1,
   )
 
   -- ---- and so the obligations hold
 
   module _ (h : ℕ → ℤ) (inside : IsIn q.lines a h) where
-    constraints_met : AreMet h p.first.constraints.items
+    constraints_met : AreMet h p.first.constraints
     constraints_met =
         let lines : AreTrueAt (length a.names.variables) h (problem_lines q) = subst (λ (own : OwnLinesView). AreTrueAt (length a.names.variables) h own) (sym (ap (lines_under q.lines) is)) inside.lines_hold in
-        (question_met q p.first.space p.first.constraints.items first_is o.first h inside.polymatroid.empty).1 (subst (λ (n : ℕ). AreTrueAt n h (problem_lines q)) (sym n_is) lines)
+        (question_met q p.first.space p.first.constraints first_is o.first h inside.polymatroid.empty).1 (subst (λ (n : ℕ). AreTrueAt n h (problem_lines q)) (sym n_is) lines)
 
-    rows_hold : (effort : Effort) (fs : List Form) (ts : List Terms) (ws : List CertificateView) → ArePulledRows p.first.space fs ts → AreProofsOf (problem_view p.first) effort ts ws → AreAtLeastZero h ts
+    rows_hold : (effort : Effort) (fs : List Form) (ts : List Terms) (ws : List CertificateView) → ArePulledRows p.first.space fs ts → AreProofsOf p.first effort ts ws → AreAtLeastZero h ts
     rows_hold effort [] [] ws r c = All-nil (λ (row : Terms). pos 0 ≤ℤ value row h)
     rows_hold effort [] (t ∷ ts) ws r c = absurd r
     rows_hold effort (f ∷ fs) [] ws r c = absurd r
     rows_hold effort (f ∷ fs) (t ∷ ts) [] r c = absurd c
     rows_hold effort (f ∷ fs) (t ∷ ts) (w ∷ ws) r c = All-cons (λ (row : Terms). pos 0 ≤ℤ value row h) t ts
-        (yes_is_true (problem_view p.first) t w l.problem r.0.coordinates (ends_are_right (problem_view p.first) t effort (Yes w) l.problem r.0.coordinates c.0).0 h (subst (λ (n : ℕ). IsPolymatroid n h) (sym n_is) inside.polymatroid) constraints_met) (rows_hold effort fs ts ws r.1 c.1)
+        (yes_is_true p.first t w l.problem r.0.coordinates (ends_are_right p.first t effort (Yes w) l.problem r.0.coordinates c.0).0 h (subst (λ (n : ℕ). IsPolymatroid n h) (sym n_is) inside.polymatroid) constraints_met) (rows_hold effort fs ts ws r.1 c.1)
 
   proofs_show_containment : (effort : Effort) (c : Candidate) (ws : List CertificateView) → IsProofOf (pair_goal p effort) c ws → ShowsContained q a b (candidate_parts c) ws
   proofs_show_containment effort c ws g =

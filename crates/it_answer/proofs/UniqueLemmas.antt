@@ -29,7 +29,7 @@ use Rattle.it_answer.specs.DueContainments.{IsFound, IsDueBySearch, containment_
 use Rattle.it_answer.specs.DueRelations.{PointIsDue, CauseIsDue, IsDueByRuns, IsDueRelation}
 use Rattle.it_answer.specs.RightAnswers.{IsDueBy, OneRightAnswer, ProofsAscend, AYesAscends}
 
--- ---- the answer that is due
+-- ---- the answer that the runs, the elimination or the search end with
 
 proven_is : (w v : CertificateView) → Yes w ≡ Yes v → w ≡ v
 proven_is w v e = cc

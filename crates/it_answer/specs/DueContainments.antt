@@ -1,4 +1,4 @@
--- Which answer to `contain` is due, by the search over the boxes' plans.
+-- The answer to `contain` that the search over the boxes' plans ends with.
 use Rattle.std.specs.Prelude.{◌≡◌, ℕ, ◌<◌, ◌^◌, List, [], ◌∷◌, length, map, take, All}
 use Rattle.it_space.specs.Answers.{CertificateView, AnswerView}
 use Rattle.it_space.specs.Answers.AnswerView.{Contained, Open}
@@ -39,13 +39,13 @@ pub record IsFound (goal : Goal) (tries : ℕ) (plan found : List Candidate) (pa
   pub parts_are : parts ≡ take candidate.count candidate.parts
   pub proofs : IsProofOf goal candidate ws
 
--- the answer that is due, with what was found, by the search over the plan
+-- the answer that the search over the plan ends with, with the candidate that it found, if any
 abbrev pub IsDueBySearch : Goal → ℕ → List Candidate → List Candidate → AnswerView → Type 0
 IsDueBySearch goal tries plan found (Contained parts ws) = IsFound goal tries plan found parts ws
 IsDueBySearch goal tries plan found (Open tried) = IsOpen goal tries plan tried × (found ≡ [])
 IsDueBySearch goal tries plan found answer = ⊥
 
--- the same over the question's `try` lines and boxes with these plans
+-- the reply that the search ends with: over the candidates of the question's `try` lines, and then those of boxes with these plans
 abbrev pub IsDueContainment : Budgets → List Plan → BodyView → RegionView → RegionView → List (List ℕ) → Reply → Type 0
 IsDueContainment budgets plans q a b tries reply = IsDueBySearch (containment_goal q a b budgets.effort) budgets.tries
     (plan_of (tried_of b tries) plans (record { variables = length a.names.variables; parts = b.auxiliaries })) reply.found reply.answer

@@ -1,4 +1,4 @@
--- Which answer to `eliminate` is due, by reduced elimination of the rows of the text.
+-- The answer to `eliminate` that reduced elimination of the rows of the text ends with.
 use Rattle.std.specs.Prelude.{◌≡◌, ℕ, List, [], map}
 use Rattle.it_space.specs.declared.answers.Cause.TheVariants as causes
 use Rattle.it_space.specs.declared.answers.Mark.{Mark}
@@ -15,7 +15,7 @@ use Rattle.it_redundant.specs.ReducedElimination.{ProjectedView, ReducedEnds}
 use Rattle.it_redundant.specs.ReducedElimination as projections
 use Rattle.it_answer.specs.declared.types.Budgets.{Budgets}
 
--- why a row stays, as its mark
+-- the mark of a row with this need
 abbrev pub mark_of_need : NeedView → Mark
 mark_of_need (Needed values) = marks.Needed
 mark_of_need (Unsettled cause) = marks.Unsettled
@@ -30,8 +30,9 @@ answer_of_end (projections.Region kept dropped) = Region (marked_rows kept)
 answer_of_end (projections.Rows rate) = Undecided (causes.Rows rate)
 answer_of_end (projections.Wide rate) = Undecided (causes.WideRate rate)
 
--- What reduced elimination of the listed rates, in their order, from the terms of the `row` lines ends with: those of an equation and
--- those turned; each reduction under the constraints of the `given` lines, which are the question's problem.
+-- The answer is that of the end of reduced elimination: of the listed rates, in their order, from the terms of the `row` lines, where an
+-- equation has two rows, one the negation of the other; each reduction is under the constraints of the `given` lines, which are the
+-- question's problem.
 pub record IsDueElimination (budgets : Budgets) (q : BodyView) (rates : List ℕ) (answer : AnswerView) : Type 0 where
   pub end : ProjectedView
   pub ends : ReducedEnds (problem_of q) budgets.effort budgets.rows (map (terms_in q) (system_forms (variable_count q) q.lines.rows)) [] [] rates end

@@ -19,7 +19,7 @@ demand_of_elemental n e = record { kind = Inequality; form = λ p. elemental_val
 unfoldable pub all_demands : ℕ → List Demand → List Demand
 all_demands n ds = map (demand_of_elemental n) (elementals n) ++ ds
 
--- the demand of a number, counted from 0
+-- demand number i of `ds`, counted from 0
 abbrev pub demand_at : List Demand → ℕ → Demand
 demand_at ds i = slice_index_or ds i (record { kind = Inequality; form = λ p. pos 0 })
 

@@ -1,4 +1,4 @@
--- Right answers: they show what they say, and they are due; and what follows from it.
+-- Right answers: they show what they say, and they are due: runs, reduced elimination or the search end with them. And what follows.
 use Rattle.std.specs.Prelude.{◌≡◌, ℕ, List, [], map, All, false}
 use Rattle.it_space.specs.declared.answers.Cause.TheVariants.{Width}
 use Rattle.it_space.specs.declared.answers.Answer.{Answer}
@@ -17,7 +17,7 @@ use Rattle.it_answer.specs.DueRelations.{IsDueRelation}
 use Rattle.it_answer.specs.Replies.{Reply}
 use Rattle.it_answer.specs.Shows.{Shows}
 
--- the answer that is due to a question of this verb, with what was found: by runs, by reduced elimination, or by the search
+-- the reply is one that the runs, reduced elimination or the search end with, for a question of this verb
 abbrev pub IsDueBy : Budgets → List Plan → BodyView → VerbView → Reply → Type 0
 IsDueBy budgets plans q (Prove r) reply = IsDueRelation budgets.effort q r reply.answer × (reply.found ≡ [])
 IsDueBy budgets plans q (Eliminate rates) reply = IsDueElimination budgets q rates reply.answer × (reply.found ≡ [])
@@ -28,7 +28,7 @@ pub record IsRightAnswer (budgets : Budgets) (plans : List Plan) (q : BodyView) 
   pub shows : Shows q reply.answer
   pub due : IsDueBy budgets plans q q.verb reply
 
--- the answer is right, and the boxes know of what it found
+-- the answer is right, and the boxes have learned of the candidate that it found
 pub record IsAnswered (budgets : Budgets) (plans : List Plan) (question : Question) (answer : Answer) (plans_after : List Plan) : Type 0 where
   pub found : List Candidate
   pub right : IsRightAnswer budgets plans (question_body question) (record { answer = answer_view answer; found = found })
@@ -46,11 +46,11 @@ ProofsAscend (Yes ws) = All (λ w. IsCanonical w.weights) ws
 ProofsAscend (Contained parts ws) = All (λ w. IsCanonical w.weights) ws
 ProofsAscend answer = Unit {0}
 
--- those of a right answer do
+-- the certificates of a right answer list their generators in ascending order
 abbrev pub AYesAscends : Type 0
 AYesAscends = (budgets : Budgets) (plans : List Plan) (q : BodyView) (reply : Reply) → IsRightAnswer budgets plans q reply → ProofsAscend reply.answer
 
--- at a question of a file a step that is too wide counts from 1
+-- at a question of a file an overflow comes at step 1 or later
 abbrev pub NoStepIsZero : Type 0
 NoStepIsZero = (bytes : List ℕ) (qs : List QuestionView) → IsFile bytes qs
     → All (λ q. (budgets : Budgets) (plans : List Plan) (found : List Candidate)

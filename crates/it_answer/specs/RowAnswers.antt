@@ -40,26 +40,26 @@ ShowsRows p ts (Region rows) = ⊥
 ShowsRows p ts (Contained parts proofs) = ⊥
 ShowsRows p ts (Open tried) = ⊥
 
--- the answer shows what it says of the rows, and the run says that it is due
+-- the answer shows what it says of the rows `ts`, and is one that the runs about them end with
 pub record AnswersRows (p : ProblemView) (effort : Effort) (ts : List Terms) (answer : AnswerView) : Type 0 where
   pub shows : ShowsRows p ts answer
   pub due : IsDueByRuns p effort ts answer
 
--- the same for targets with these forms
+-- the answer shows what it says of rows of these forms, and is one that the runs about them end with
 pub record AnswersForms (p : ProblemView) (fs : List Form) (answer : AnswerView) (effort : Effort) : Type 0 where
   pub rows : List Terms
   pub are : AreRowsOf p.space fs rows
   pub answered : AnswersRows p effort rows answer
 
--- for the target of an inequality
+-- the answer about the target of an inequality
 abbrev pub AnswersInequality : ProblemView → RelationView → AnswerView → Effort → Type 0
 AnswersInequality p r answer effort = AnswersForms p (form_of p.space.variables r ∷ []) answer effort
 
--- for the two of an equality
+-- the answer about the two targets of an equation
 abbrev pub AnswersEquality : ProblemView → RelationView → AnswerView → Effort → Type 0
 AnswersEquality p r answer effort = AnswersForms p (form_of p.space.variables r ∷ negation (form_of p.space.variables r) ∷ []) answer effort
 
--- for those of a relation of any sign
+-- the answer about the targets of a relation of any sign
 abbrev pub AnswersRelation : ProblemView → RelationView → AnswerView → Effort → Type 0
 AnswersRelation p r answer effort = AnswersForms p (targets p.space.variables r) answer effort
 
@@ -79,6 +79,6 @@ answer_after_two w (proof_views.Undecided cause) = Undecided cause
 abbrev pub relation_rows : BodyView → RelationView → List Terms
 relation_rows q r = map (terms_in q) (targets (variable_count q) r)
 
--- and those of the obligations of parts
+-- the rows of the obligations of parts, in a question
 abbrev pub obligation_rows : BodyView → RegionView → RegionView → List ℕ → List Terms
 obligation_rows q a b parts = map (terms_in q) (obligations q a b parts)

@@ -7,12 +7,12 @@ use Rattle.it_contain.specs.declared.types.Contained.{Contained}
 use Rattle.it_contain.specs.declared.types.Contained.TheVariants.{Found, Open}
 use Rattle.it_contain.specs.Search.{proof_views}
 
--- the parts and the proofs of what was found, or how many were tried
+-- the answer about the end of a search: the parts and the certificates of what was found, or the number of candidates tried
 abbrev pub answer_of_search : Contained → AnswerView
 answer_of_search (Found c proofs) = answer_views.Contained (take c.count c.parts) (proof_views proofs)
 answer_of_search (Open tried) = answer_views.Open tried
 
--- what the boxes know of it
+-- the candidate that was found, if any
 abbrev pub found_of : Contained → List Candidate
 found_of (Found c proofs) = c ∷ []
 found_of (Open tried) = []

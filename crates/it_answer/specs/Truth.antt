@@ -22,7 +22,7 @@ use Rattle.it_region.specs.Regions.{LiesIn}
 abbrev pub region_rows : List (Mark × Terms) → List Terms
 region_rows rows = map (λ row. row.1) rows
 
--- some whole multiple of the point, with other values of the eliminated rates, is one at which the `row` lines hold; n variables
+-- some positive whole multiple of p, with any values of the eliminated rates, meets the `row` lines; n is the number of variables
 pub record LinesExtend (n : ℕ) (rates : List ℕ) (lines : List RelationView) (p : ℕ → ℤ) : Type 0 where
   pub factor : ℕ
   pub some : 1 ≤ factor
@@ -30,7 +30,7 @@ pub record LinesExtend (n : ℕ) (rates : List ℕ) (lines : List RelationView) 
   pub kept : (c : ℕ) → ¬ (Contains (map (λ r. 2 ^ n + r) rates) c) → point c ≡ pos factor *ℤ p c
   pub meets : All (Holds n point) lines
 
--- a polymatroid and rates that make the givens true, at which the other rows hold and this one is -1 or less
+-- the row doesn't follow: at a polymatroid and rates that make the givens true the other rows hold, and this one is -1 or less
 pub record DoesNotFollow (q : BodyView) (others : List Terms) (row : Terms) : Type 0 where
   pub point : ℕ → ℤ
   pub polymatroid : IsPolymatroid (length q.names.variables) point
@@ -38,7 +38,7 @@ pub record DoesNotFollow (q : BodyView) (others : List Terms) (row : Terms) : Ty
   pub others_hold : IsPointOf others point
   pub violated : value row point ≤ℤ neg_ℤ (pos 1)
 
--- each row that is marked as needed is one that the others don't give
+-- no row that is marked as needed follows from the others
 abbrev pub MarkedRowsAreNeeded : BodyView → List (Mark × Terms) → Type 0
 MarkedRowsAreNeeded q rows = (before after : List (Mark × Terms)) (row : Terms) → rows ≡ before ++ (marks.Needed, row) ∷ after
     → DoesNotFollow q (region_rows before ++ region_rows after) row
@@ -56,7 +56,8 @@ pub record IsExactRegion (q : BodyView) (rates : List ℕ) (rows : List (Mark ×
 
 -- Asked about a relation, a yes is true where the relation holds at every polymatroid and rates that make the question's lines true, a
 -- no where its values are such a polymatroid and rates and the relation fails there. Asked to eliminate rates, rows are true where
--- they are the projection; asked about two regions, a containment is where the first lies in the second. An answer that says nothing is.
+-- they are the projection; asked about two regions, a containment is true where the first lies in the second. An undecided or open
+-- answer is always true.
 abbrev pub IsTrueBy : BodyView → VerbView → AnswerView → Type 0
 IsTrueBy q (Prove r) (Yes ws) = (p : ℕ → ℤ) → AreTrueTogether q p → Holds (variable_count q) p r
 IsTrueBy q (Prove r) (No is_back values) = AreTrueTogether q (point_of values) × ¬ (Holds (variable_count q) (point_of values) r)

@@ -1,7 +1,6 @@
 //! The answers to questions.
 ghost use Rattle.std.specs.Prelude.{◌≡◌, map, IfOk};
 ghost use Rattle.it_space.specs.Answers.{answer_view, certificate_view};
-ghost use Rattle.it_space.specs.Problems.{IsProblem, problem_view};
 ghost use Rattle.it_syntax.specs.Meaning.{relation_view};
 ghost use Rattle.it_syntax.specs.Givens.{IsRelationOf};
 ghost use Rattle.it_question.specs.Limits.{IsQuestion};
@@ -26,8 +25,8 @@ use it_space::{Answer, Certificate, Problem};
 use it_syntax::types::{Relation, Sign};
 use std::alloc::{AllocError, Global};
 
-/// A right answer to a question, within the budgets. The boxes propose what a containment tries after its `try` lines; what it
-/// finds they know at later questions.
+/// A right answer to a question, within the budgets. The boxes propose what a containment tries after its `try` lines, and learn of
+/// the candidate that it finds, for later questions.
 pub fn answer(
     alloc: Global,
     question: &Question,
@@ -36,7 +35,7 @@ pub fn answer(
 ) -> Result<AnsweredProblem, AllocError>
     requires limits { IsQuestion (question_body question.now) }
     ensures space { IfOk result (λ a. a.problem.space ≡ space_of (problem_names (question_body question.now))) }
-    ensures problem { IfOk result (λ a. AreStated a.problem.space (question_origins (question_body question.now)) (question_demands (question_body question.now)) a.problem.constraints.items) }
+    ensures problem { IfOk result (λ a. AreStated a.problem.space (question_origins (question_body question.now)) (question_demands (question_body question.now)) a.problem.constraints) }
     ensures answered { IfOk result (λ a. IsAnswered budgets (map plan boxes.old.items) question.now a.answer (map plan boxes.new.items)) }
 {
     let problem = problem(alloc, question)?;
@@ -53,7 +52,7 @@ fn answer_under(
     boxes: &mut Vec<Box<dyn Proposer>>,
 ) -> Result<Answer, AllocError>
     requires limits { IsQuestion (question_body question.now) }
-    requires problem { IsProblemOf (question_body question.now) (problem_view problem.now) }
+    requires problem { IsProblemOf (question_body question.now) problem.now }
     ensures { IfOk result (λ a. IsAnswered budgets (map plan boxes.old.items) question.now a (map plan boxes.new.items)) }
 {
     match &question.verb {
@@ -83,9 +82,8 @@ fn relation_answer(
     relation: &Relation,
     effort: Effort,
 ) -> Result<Answer, AllocError>
-    requires problem { IsProblem (problem_view problem.now) }
     requires relation { IsRelationOf problem.now.space.variables problem.now.space.rates (relation_view relation.now) }
-    ensures { IfOk result (λ a. AnswersRelation (problem_view problem.now) (relation_view relation.now) (answer_view a) effort) }
+    ensures { IfOk result (λ a. AnswersRelation problem.now (relation_view relation.now) (answer_view a) effort) }
 {
     match relation.sign {
         Sign::AtLeast => inequality(alloc, problem, relation, effort),
@@ -101,11 +99,10 @@ fn inequality(
     relation: &Relation,
     effort: Effort,
 ) -> Result<Answer, AllocError>
-    requires problem { IsProblem (problem_view problem.now) }
     requires relation { IsRelationOf problem.now.space.variables problem.now.space.rates (relation_view relation.now) }
-    ensures { IfOk result (λ a. AnswersInequality (problem_view problem.now) (relation_view relation.now) (answer_view a) effort) }
+    ensures { IfOk result (λ a. AnswersInequality problem.now (relation_view relation.now) (answer_view a) effort) }
 {
-    let row = canon(alloc, relation, problem.space)?;
+    let row = canon(alloc, relation, problem.space())?;
     let proof = prove(alloc, problem, &row, effort)?;
     after_one(alloc, proof)
 }
@@ -117,11 +114,10 @@ fn equation(
     relation: &Relation,
     effort: Effort,
 ) -> Result<Answer, AllocError>
-    requires problem { IsProblem (problem_view problem.now) }
     requires relation { IsRelationOf problem.now.space.variables problem.now.space.rates (relation_view relation.now) }
-    ensures { IfOk result (λ a. AnswersEquality (problem_view problem.now) (relation_view relation.now) (answer_view a) effort) }
+    ensures { IfOk result (λ a. AnswersEquality problem.now (relation_view relation.now) (answer_view a) effort) }
 {
-    let row = canon(alloc, relation, problem.space)?;
+    let row = canon(alloc, relation, problem.space())?;
     let mut closed = ClosedProblem::read(alloc, problem, effort)?;
     match closed.prove(alloc, problem, &row, effort)? {
         Proof::Yes(certificate) => {

@@ -33,7 +33,7 @@ fn tried_of(
     Ok(candidates)
 }
 
-/// The sets that the auxiliaries stand for.
+/// The sets of a candidate, one for each auxiliary.
 fn parts_of(alloc: Global, candidate: &Candidate) -> Result<Vec<VarSet>, AllocError>
     ensures { IfOk result (λ v. v.items ≡ take candidate.now.count candidate.now.parts) }
 {
@@ -41,7 +41,7 @@ fn parts_of(alloc: Global, candidate: &Candidate) -> Result<Vec<VarSet>, AllocEr
     candidate.parts.iter().take(count).copied().collect(alloc)
 }
 
-/// The answer that tells what a search ended with.
+/// The answer about the end of a search.
 fn answer_of_search(alloc: Global, end: Contained) -> Result<Answer, AllocError>
     ensures { IfOk result (λ a. answer_view a ≡ answer_of_search end) }
 {
@@ -55,7 +55,7 @@ fn answer_of_search(alloc: Global, end: Contained) -> Result<Answer, AllocError>
 }
 
 /// The answer whether the first region lies in the second: the first candidate that is proved, of the `try` lines in order and then
-/// of the boxes in theirs, or how many were tried in vain.
+/// of the boxes in theirs; or the number of candidates that were tried, if none is proved.
 pub fn containment(
     alloc: Global,
     question: &Question,

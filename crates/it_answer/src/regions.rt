@@ -1,7 +1,6 @@
 //! The answer to a question that eliminates rates.
 ghost use Rattle.std.specs.Prelude.{◌≡◌, List, map, IfOk};
 ghost use Rattle.it_space.specs.Answers.{answer_view};
-ghost use Rattle.it_space.specs.Problems.{problem_view};
 ghost use Rattle.it_question.specs.Limits.{IsQuestion};
 ghost use Rattle.it_question.specs.Questions.{Eliminate, question_body};
 ghost use Rattle.it_canon.specs.QuestionDemands.{IsProblemOf};
@@ -18,9 +17,9 @@ use it_redundant::{Need, Projected, project};
 use it_space::{Answer, Cause, Mark, Problem, Row};
 use std::alloc::{AllocError, Global};
 
-/// The region that is left of the question's `row` lines without the rates. These are eliminated in the order of their list, and
-/// after each the rows go that the givens and the other rows give. Or why there is none: a rate leaves more rows than the budget
-/// has, or a row of it passes the limit. It finds nothing that boxes learn of.
+/// The region that the question's `row` lines leave without the rates `rates`. These are eliminated in their order, and after each
+/// one the rows that follow from the givens and the other rows are dropped. Or why there is no region: a rate leaves more rows than
+/// the budget allows, or a number of a row passes the limit. Boxes learn nothing from it.
 pub fn region(
     alloc: Global,
     question: &Question,
@@ -30,7 +29,7 @@ pub fn region(
 ) -> Result<Answer, AllocError>
     requires question { IsQuestion (question_body question.now) }
     requires eliminates { (question_body question.now).verb ≡ Eliminate rates.now }
-    requires givens { IsProblemOf (question_body question.now) (problem_view givens.now) }
+    requires givens { IsProblemOf (question_body question.now) givens.now }
     ensures { IfOk result (λ a. (plans : List Plan) → IsAnswered budgets plans question.now a plans) }
 {
     let system = system(alloc, question)?;
@@ -41,7 +40,7 @@ pub fn region(
     Ok(answer)
 }
 
-/// The answer that tells what reduced elimination ended with.
+/// The answer about the end of reduced elimination.
 fn answer_of_end(alloc: Global, end: Projected) -> Result<Answer, AllocError>
     ensures { IfOk result (λ a. answer_view a ≡ answer_of_end (projected_view end)) }
 {
@@ -66,7 +65,7 @@ pub fn marked_rows(alloc: Global, kept: Vec<(Row, Need)>) -> Result<Vec<(Mark, R
     Ok(marked)
 }
 
-/// Why a row stays, as its mark.
+/// The mark of a row with the need `need`.
 fn mark_of_need(need: &Need) -> Mark
     ensures { result ≡ mark_of_need (need_view need.now) }
 {

@@ -1,4 +1,4 @@
-//! The rows of the forms that an answer speaks of.
+//! The rows of the forms that an answer is about.
 ghost use Rattle.std.specs.Prelude.{◌≡◌, map, IfOk};
 ghost use Rattle.it_space.specs.Answers.{answer_view};
 ghost use Rattle.it_syntax.specs.Meaning.{relation_view};
@@ -16,8 +16,8 @@ use it_space::{Answer, Row, VarSet};
 use it_syntax::types::Relation;
 use std::alloc::{AllocError, Global};
 
-/// The rows of what an answer speaks of, in order: about a relation those of its targets, of a containment those of the
-/// obligations of its sets. Another answer has none.
+/// The rows that an answer is about, in order: to `prove` those of the relation's targets, of a containment those of the
+/// obligations of its sets. Any other answer has none.
 pub fn target_rows(
     alloc: Global,
     question: &Question,

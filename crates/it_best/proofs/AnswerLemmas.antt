@@ -1,4 +1,4 @@
--- What the answers say is right.
+-- The answers are right.
 use Rattle.std.proofs.Common.{◌≡◌, ℕ, zero, suc, ◌<◌, ℤ, pos, neg_ℤ, ◌+ℤ◌, ◌*ℤ◌, ◌≤ℤ◌, List, [], ◌∷◌, length, map, refl, sym, ap, ap₂, subst, ◌∙◌, arith}
 use Rattle.std.specs.List.{AllByRecursion as Every}
 use Rattle.std.proofs.lemmas.Int.{ints}
@@ -95,7 +95,7 @@ module _ (q : ProblemView) (left right : Terms) (k : IsProblem q) (l : IsOver (s
   pub third_right : IsLeastFactor (ground_of q) (value left) (value right) x.num (pos x.den) (weights_certificate (pos x.den) (phases.xs q left right k l r ws)) (scaled_point hs)
   third_right = record { factor = phases.third_factor_right q left right k l r ws s; point = third_meets; some = left_some; equal = sides_equal }
 
--- ---- the point of the first phase, turned
+-- ---- the negated point of the first phase
 
 turned_map : (vs : List ℤ) (c : ℕ) → point_of (map neg_ℤ vs) c ≡ neg_ℤ (point_of vs c)
 turned_map vs zero = refl

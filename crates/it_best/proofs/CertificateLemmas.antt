@@ -32,7 +32,7 @@ use Rattle.it_best.specs.Phases.{counterweight}
 use Rattle.it_best.proofs.NumberLemmas.{number_sum, AreNumbers}
 use Rattle.it_best.proofs.FactorLemmas.{certificate_sum, factor_sum}
 
--- ---- weights that may stand
+-- ---- weights that are allowed
 
 scaled_least : (l : ℕ) (x : Rational) → is_at_least_zero x ≡ true → pos 0 ≤ℤ scaled_number l x
 unfolding scaled_number
@@ -122,7 +122,7 @@ factor_certified q left right x xs e a s = record {
     some : (d : ℕ) → 0 < d → pos 1 ≤ℤ pos d
     some d h = omega (arith, ints)
 
--- ---- what a certificate says
+-- ---- the meaning of a certificate
 
 at_least : (k : Kind) (x : ℤ) → Meets k x → pos 0 ≤ℤ x
 at_least Inequality x h = h

@@ -1,4 +1,4 @@
--- What the phases end with is right, is one, and without a budget is never for want of steps; and the third phase never ends by a point.
+-- The answer of the phases is right, and there is one; without a budget steps never run out; and the third phase never ends by a point.
 use Rattle.std.proofs.Common.{◌≡◌, ◌≢◌, inl, inr, ℕ, ◌+◌, ℤ, pos, neg_ℤ, ◌≤ℤ◌, List, [], ◌∷◌, length, Option, None, refl, sym, ap, subst, ◌∙◌, arith, slice_index_or, map}
 use Rattle.std.specs.List.{AllByRecursion as Every}
 use Rattle.std.proofs.lemmas.Int.{ints}

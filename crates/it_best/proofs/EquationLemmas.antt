@@ -1,4 +1,4 @@
--- The equations of the third phase, one after the other: what its numbers say of the factor, of the weights and of the point's values.
+-- The equations of the third phase, one after the other: conditions on the factor, on the weights and on the point's values.
 use Rattle.std.proofs.Common.{◌≡◌, ℕ, zero, suc, ◌+◌, ◌^◌, ◌<◌, ◌≤◌, ℤ, pos, neg_ℤ, ◌+ℤ◌, List, [], ◌∷◌, ◌++◌, length, map, get_or, take, drop, Bool, true, false, cond, nat_eq, nat_lt, eq-eqb, ne_eqb, refl, sym, ap, ap₂, subst, ◌∙◌, arith}
 use Rattle.std.specs.List.{AllByRecursion as Every}
 use Rattle.std.proofs.Math.IntN.{+ℤ_idl, +ℤ_idr}
@@ -173,7 +173,7 @@ module _ (size : ℕ) (gs : List Generator) (left right : Terms) (c : ℕ) where
       by_test true = refl
       by_test false = refl
 
--- of what inequalities have above 0
+-- of the slacks of inequalities
 pub slacks_apart : (e : ℕ) (gs : List Generator) (d : ℕ) → ((j : ℕ) → j < length gs → e + j ≡ d → ⊥) → Every (λ u. coefficient u.row d ≡ pos 0) (slacks e gs)
 unfolding slacks
 slacks_apart e [] d n = tt

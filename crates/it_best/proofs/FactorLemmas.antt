@@ -23,7 +23,7 @@ use Prim.Native.Nat.{◌∣◌}
 
 -- ---- sums of numbers
 
--- against the generators turned, the sum has its sign turned
+-- the sum with the negated generators is the negated sum
 pub turned_sum : (c : ℕ) (xs : List Rational) (gs : List Generator) → number_sum c xs (map counterweight gs) ≡ minus (number_sum c xs gs)
 turned_sum c [] gs = ring ring_ℚ [] nil (S.minus nil) refl
 turned_sum c (x ∷ xs) [] = ring ring_ℚ [] nil (S.minus nil) refl
@@ -72,8 +72,8 @@ times_den x = same_value (times (integer (pos x.den)) x) (integer x.num) (pos x.
     cross : (n : ℤ) (d : ℕ) → (pos d *ℤ n) *ℤ pos 1 ≡ n *ℤ pos (1 * d)
     cross n d = omega (arith, ints)
 
--- where a factor times the left side less weights times the generators is the right side, so many times the weights make the numerator
--- times the left side less the denominator times the right one
+-- if a factor times the left side less weights times the generators is the right side, the denominator times these weights gives the
+-- numerator times the left side less the denominator times the right one
 pub factor_sum : (c : ℕ) (x : Rational) (xs : List Rational) (gs : List Generator) (l r : ℤ) → plus (times x (integer l)) (number_sum c xs (map counterweight gs)) ≡ integer r
     → number_sum c (multiples (pos x.den) xs) gs ≡ integer (x.num *ℤ l -ℤ pos x.den *ℤ r)
 factor_sum c x xs gs l r e =
@@ -93,7 +93,7 @@ factor_sum c x xs gs l r e =
 
 -- ---- as a certificate
 
--- so many times numbers that sum up to whole numbers, made whole, sum up to these times the scale
+-- numbers that sum to whole numbers, made whole by their scale, sum to these times the scale
 pub certificate_sum : (c : ℕ) (gs : List Generator) (xs : List Rational) (t : ℤ) → length xs ≡ length gs → number_sum c xs gs ≡ integer t
     → pos (scale_of xs) *ℤ t ≡ value (terms_from 0 (scaled_point xs)) (column gs c)
 certificate_sum c gs xs t e s = whole_same (pos (scale_of xs) *ℤ t) (value (terms_from 0 (scaled_point xs)) (column gs c))

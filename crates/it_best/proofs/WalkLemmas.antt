@@ -11,7 +11,7 @@ use Rattle.it_space.proofs.ListLemmas.{drop_item}
 use Rattle.it_best.specs.Phases.{unknown_view, unknown_views, slacks, slack_by}
 use Rattle.it_best.specs.declared.unknowns.Unknown.{Unknown}
 
--- one piece more, where the rest begins with it
+-- a further piece, with which the rest begins
 pub piece_more : {Y : Type 0} (old new one rest whole : List Y) → new ≡ old ++ one → old ++ (one ++ rest) ≡ whole → new ++ rest ≡ whole
 piece_more old new one rest whole is inv = ap (λ ys. ys ++ rest) is ∙ append_assoc old one rest ∙ inv
 
@@ -25,7 +25,7 @@ map_more f xs i x old new whole h is e inv = piece_more old new (f x ∷ []) (ma
 pub map_end : {X Y : Type 0} (f : X → Y) (xs : List X) (i : ℕ) (old whole : List Y) → length xs ≤ i → old ++ map f (drop i xs) ≡ whole → old ≡ whole
 map_end f xs i old whole h inv = piece_end old (map f (drop i xs)) whole (ap (map f) (drop_all i xs h)) inv
 
--- by the numbers other than 0, each after its place
+-- by the nonzero numbers, each after its place
 pub terms_more : (xs : List ℤ) (i : ℕ) (old new whole : Terms) → i < length xs → new ≡ old ++ single_term i (get_or xs i (pos 0)) → old ++ terms_from i (drop i xs) ≡ whole → new ++ terms_from (i + 1) (drop (i + 1) xs) ≡ whole
 terms_more xs i old new whole h e inv = piece_more old new (single_term i (get_or xs i (pos 0))) (terms_from (i + 1) (drop (i + 1) xs)) whole e (ap (λ ys. old ++ terms_from i ys) (sym (drop_more xs i (pos 0) h)) ∙ inv)
 
@@ -75,7 +75,7 @@ columns_end us i old whole h inv = piece_end old (columns (unknown_views (drop i
 pub views_pushed : (old new : List Unknown) (u : Unknown) (g : Generator) → new ≡ old ++ u ∷ [] → unknown_view u ≡ g → unknown_views new ≡ unknown_views old ++ g ∷ []
 views_pushed old new u g e is = ap unknown_views e ∙ map-append unknown_view old (u ∷ []) ∙ ap (λ v. unknown_views old ++ v ∷ []) is
 
--- what inequalities have above 0
+-- the slacks of inequalities
 pub slacks_more : (first : ℕ) (gs : List Generator) (i : ℕ) (old new whole : List Generator) (kind : Kind) (equation : ℕ) → i < length gs → kind ≡ (generator_at gs i).kind → equation ≡ first + i → new ≡ old ++ slack_by equation kind
     → old ++ slacks (first + i) (drop i gs) ≡ whole → new ++ slacks (first + (i + 1)) (drop (i + 1) gs) ≡ whole
 unfolding slacks

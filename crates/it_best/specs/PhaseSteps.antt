@@ -1,4 +1,4 @@
--- No public clause cites this module: what the contracts between the phases speak of.
+-- No public clause cites this module: definitions for the contracts between the phases.
 use Rattle.std.specs.Prelude.{◌≡◌, ℕ, ◌+◌, ℤ, pos, neg_ℤ, List, length, map, Option}
 use Rattle.it_rational.specs.Rational.{Rational, plus, minus}
 use Rattle.it_space.specs.declared.problems.Kind.{Kind}
@@ -30,38 +30,38 @@ pub record AreSides (q : ProblemView) (l r : Terms) : Type 0 where
 
 -- ---- the phases
 
--- how a run ends: by weights of columns, by a point, or by neither
+-- the end of a run: weights of columns, a point, or neither
 abbrev pub End : Type 0
 End = RunEndView (List (ℕ × Rational)) (List Rational)
 
--- weights of a phase sum to its target
+-- the weights ws of a phase's columns sum to its target
 abbrev pub PhaseSums : ℕ → List Generator → Terms → List (ℕ × Rational) → Type 0
 PhaseSums m us target ws = SumsUp rationals (length (span 1 m)) (length (columns us)) (feasibility_problem (span 1 m) (columns us) target) ws
 
--- and a point of it separates its target from its columns
+-- the point qs of a phase separates its target from its columns
 abbrev pub PhaseSeparates : ℕ → List Generator → Terms → List Rational → Type 0
 PhaseSeparates m us target qs = Separates rationals (length (span 1 m)) (length (columns us)) (feasibility_problem (span 1 m) (columns us) target) qs
 
--- what the run of a phase ended with is right
+-- the answer of a phase's run is right
 abbrev pub PhaseIsRight : ℕ → List Generator → Terms → Solved → Type 0
 PhaseIsRight m us target solved = IsRightSolved (span 1 m) (columns us) target solved
 
--- ---- the third phase, about unknowns that are to make its target
+-- ---- the third phase, over given unknowns
 
--- its last equation
+-- the last equation of the third phase
 abbrev pub last_equation : ProblemView → ℕ
 last_equation q = right_equation (size_of q.space) (generators q)
 
--- its target
+-- the target of the third phase
 abbrev pub last_target : ProblemView → Terms → Terms
 last_target q right = third_target (size_of q.space) (generators q) right
 
 module _ (q : ProblemView) (right : Terms) (us : List Generator) where
-  -- its run ends so
+  -- the run of the third phase ends with e
   abbrev pub ThirdEnds : Option ℕ → End → Type 0
   ThirdEnds budget e = PhaseEnds (last_equation q) us (last_target q right) budget e
 
-  -- what it ended with is right
+  -- the answer of the third phase's run is right
   abbrev pub ThirdIsRight : Solved → Type 0
   ThirdIsRight solved = PhaseIsRight (last_equation q) us (last_target q right) solved
 
@@ -71,17 +71,17 @@ module _ (q : ProblemView) (right : Terms) (us : List Generator) where
 
 -- ---- the phases that end by weights: their unknowns, as the code has them, and weights of these that sum to their targets
 
--- those of the first phase
+-- the unknowns of the first phase, and weights that sum to its target
 pub record FirstSums (q : ProblemView) (left right : Terms) (us : List Generator) (ws : List (ℕ × Rational)) : Type 0 where
   pub unknowns : us ≡ first q left right
   pub sums : PhaseSums (size_of q.space) (first q left right) right ws
 
--- those of the second
+-- the unknowns of the second phase, and weights that sum to its target
 pub record SecondSums (q : ProblemView) (left : Terms) (us : List Generator) (ws : List (ℕ × Rational)) : Type 0 where
   pub unknowns : us ≡ generators q
   pub sums : PhaseSums (size_of q.space) (generators q) (negated_terms left) ws
 
--- those of the third
+-- the unknowns of the third phase, and weights that sum to its target
 pub record ThirdSums (q : ProblemView) (left right : Terms) (us : List Generator) (ws : List (ℕ × Rational)) : Type 0 where
   pub unknowns : us ≡ third q left right
   pub sums : PhaseSums (last_equation q) (third q left right) (last_target q right) ws
@@ -93,15 +93,15 @@ module _ (q : ProblemView) (left right : Terms) where
   abbrev pub FollowsPhases : Option ℕ → BestView → Type 0
   FollowsPhases budget o = (e : End) × PhaseEnds (size_of q.space) (first q left right) right budget e × FirstFollows q left right budget e o
 
-  -- by the third one
+  -- the answer by the third phase
   abbrev pub FollowsThird : Option ℕ → BestView → Type 0
   FollowsThird budget o = (e : End) × ThirdEnds q right (third q left right) budget e × ThirdFollows q left right e o
 
-  -- by a point of the first one
+  -- the answer by a point of the first phase
   abbrev pub FollowsPoint : List Rational → BestView → Type 0
   FollowsPoint qs o = OrScale q left right (NeverFits q left right qs) (Never (map neg_ℤ (scaled_point qs))) o
 
-  -- by weights of the first one and of the second
+  -- the answer by weights of the first phase and of the second
   abbrev pub FollowsWeights : List (ℕ × Rational) → List (ℕ × Rational) → BestView → Type 0
   FollowsWeights ws below o = OrScale q left right (UnboundedFits q left right ws below) (unbounded_view q left right ws below) o
 
@@ -115,11 +115,11 @@ number_of ws kind j = number_by (λ a b. plus a (minus b)) kind (column_weight w
 abbrev pub IsCoordinateKind : ℕ → ℕ → Kind → Type 0
 IsCoordinateKind n c kind = (m size : ℕ) (gs : List Generator) (left right : Terms) → m ≡ n → kind ≡ (coordinate_unknown m size gs left right c).kind
 
--- the values at all coordinates
+-- the unknowns for the values at all coordinates
 abbrev pub all_values : ProblemView → Terms → Terms → List Generator
 all_values q left right = map (coordinate_unknown q.space.variables (size_of q.space) (generators q) left right) (span 1 (size_of q.space))
 
--- what each inequality has above 0 at the point
+-- the unknowns for the slacks of all inequalities at the point
 abbrev pub all_slacks : ProblemView → List Generator
 all_slacks q = slacks (size_of q.space + 1) (generators q)
 
@@ -129,7 +129,7 @@ all_slacks q = slacks (size_of q.space + 1) (generators q)
 abbrev pub CertifyFactor : ProblemView → Terms → Terms → Rational → List Rational → Type 0
 CertifyFactor q left right x ws = IsFactor (ground_of q) (value left) (value right) x.num (pos x.den) (weights_certificate (pos x.den) ws)
 
--- they certify that the left side is at most 0
+-- weights of the generators certify that the left side is at most 0
 abbrev pub CertifyBelow : ProblemView → Terms → List Rational → Type 0
 CertifyBelow q left ws = IsCertificate (size_of q.space + 1) (generators_of q) (λ p. neg_ℤ (value left p)) (weights_certificate (pos 1) ws)
 

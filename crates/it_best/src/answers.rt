@@ -1,6 +1,5 @@
-//! The answers by the numbers of the phases, where these fit.
+//! The answers by the numbers of the phases; `Scale` if one of these passes the limit.
 ghost use Rattle.std.specs.Prelude.{◌≡◌, IfErr, IfOk, OnOk};
-ghost use Rattle.it_space.specs.Problems.{problem_view};
 ghost use Rattle.it_space.specs.Spaces.{size_of};
 ghost use Rattle.it_run.specs.Runs.RunEndView.{Weights};
 ghost use Rattle.it_ratio.specs.BestViews.{best_view};
@@ -25,9 +24,9 @@ pub fn never(
     right: &Row,
     values: &[Fraction],
 ) -> Result<Best, AllocError>
-    requires sides { AreSides (problem_view problem.now) left.now right.now }
-    requires separates { PhaseSeparates (size_of problem.now.space) (first (problem_view problem.now) left.now right.now) right.now values.now }
-    ensures { IfOk result (λ b. FollowsPoint (problem_view problem.now) left.now right.now values.now (best_view b)) }
+    requires sides { AreSides problem.now left.now right.now }
+    requires separates { PhaseSeparates (size_of problem.now.space) (first problem.now left.now right.now) right.now values.now }
+    ensures { IfOk result (λ b. FollowsPoint problem.now left.now right.now values.now (best_view b)) }
 {
     match never_point(alloc, problem, left, right, values) {
         Ok(point) => Ok(Best::Never(point)),
@@ -36,7 +35,7 @@ pub fn never(
     }
 }
 
-/// The answer by the weights of the third phase, where its numbers fit.
+/// The answer by the weights of the third phase; `Wide` if a number of it passes the limit.
 fn least_answer(
     alloc: Global,
     problem: &Problem,
@@ -45,11 +44,11 @@ fn least_answer(
     unknowns: &[Unknown],
     weights: &[(usize, Fraction)],
 ) -> Result<Best, RowFault>
-    requires sides { AreSides (problem_view problem.now) left.now right.now }
-    requires third { ThirdSums (problem_view problem.now) left.now right.now (unknown_views unknowns.now) weights.now }
-    ensures value { IfOk result (λ b. best_view b ≡ least_view (problem_view problem.now) left.now right.now weights.now) }
-    ensures fits { OnOk result (LeastFits (problem_view problem.now) left.now right.now weights.now) }
-    ensures wide { IfErr result (λ f. f ≡ RowFault.Wide → ¬ (LeastFits (problem_view problem.now) left.now right.now weights.now)) }
+    requires sides { AreSides problem.now left.now right.now }
+    requires third { ThirdSums problem.now left.now right.now (unknown_views unknowns.now) weights.now }
+    ensures value { IfOk result (λ b. best_view b ≡ least_view problem.now left.now right.now weights.now) }
+    ensures fits { OnOk result (LeastFits problem.now left.now right.now weights.now) }
+    ensures wide { IfErr result (λ f. f ≡ RowFault.Wide → ¬ (LeastFits problem.now left.now right.now weights.now)) }
 {
     let numbers = numbers(alloc, unknowns, weights)?;
     let factor = factor_of(numbers.as_slice());
@@ -68,7 +67,7 @@ fn least_answer(
         left,
         right,
         &factor,
-        values_of(numbers.as_slice(), count, problem.space.size() as usize),
+        values_of(numbers.as_slice(), count, problem.size() as usize),
     )?;
     Ok(Best::Least {
         num: factor.num(),
@@ -87,9 +86,9 @@ pub fn least(
     unknowns: &[Unknown],
     weights: &[(usize, Fraction)],
 ) -> Result<Best, AllocError>
-    requires sides { AreSides (problem_view problem.now) left.now right.now }
-    requires third { ThirdSums (problem_view problem.now) left.now right.now (unknown_views unknowns.now) weights.now }
-    ensures { IfOk result (λ b. ThirdFollows (problem_view problem.now) left.now right.now (Weights weights.now) (best_view b)) }
+    requires sides { AreSides problem.now left.now right.now }
+    requires third { ThirdSums problem.now left.now right.now (unknown_views unknowns.now) weights.now }
+    ensures { IfOk result (λ b. ThirdFollows problem.now left.now right.now (Weights weights.now) (best_view b)) }
 {
     match least_answer(alloc, problem, left, right, unknowns, weights) {
         Ok(best) => Ok(best),
@@ -98,7 +97,7 @@ pub fn least(
     }
 }
 
-/// The answer by the weights of the first phase and of the second, where their numbers fit.
+/// The answer by the weights of the first phase and of the second; `Wide` if a number of it passes the limit.
 fn unbounded_answer(
     alloc: Global,
     problem: &Problem,
@@ -109,12 +108,12 @@ fn unbounded_answer(
     others: &[Unknown],
     below: &[(usize, Fraction)],
 ) -> Result<Best, RowFault>
-    requires sides { AreSides (problem_view problem.now) left.now right.now }
-    requires first { FirstSums (problem_view problem.now) left.now right.now (unknown_views unknowns.now) weights.now }
-    requires second { SecondSums (problem_view problem.now) left.now (unknown_views others.now) below.now }
-    ensures value { IfOk result (λ b. best_view b ≡ unbounded_view (problem_view problem.now) left.now right.now weights.now below.now) }
-    ensures fits { OnOk result (UnboundedFits (problem_view problem.now) left.now right.now weights.now below.now) }
-    ensures wide { IfErr result (λ f. f ≡ RowFault.Wide → ¬ (UnboundedFits (problem_view problem.now) left.now right.now weights.now below.now)) }
+    requires sides { AreSides problem.now left.now right.now }
+    requires first { FirstSums problem.now left.now right.now (unknown_views unknowns.now) weights.now }
+    requires second { SecondSums problem.now left.now (unknown_views others.now) below.now }
+    ensures value { IfOk result (λ b. best_view b ≡ unbounded_view problem.now left.now right.now weights.now below.now) }
+    ensures fits { OnOk result (UnboundedFits problem.now left.now right.now weights.now below.now) }
+    ensures wide { IfErr result (λ f. f ≡ RowFault.Wide → ¬ (UnboundedFits problem.now left.now right.now weights.now below.now)) }
 {
     let first_numbers = numbers(alloc, unknowns, weights)?;
     let factor = factor_of(first_numbers.as_slice());
@@ -148,10 +147,10 @@ pub fn unbounded(
     others: &[Unknown],
     below: &[(usize, Fraction)],
 ) -> Result<Best, AllocError>
-    requires sides { AreSides (problem_view problem.now) left.now right.now }
-    requires first { FirstSums (problem_view problem.now) left.now right.now (unknown_views unknowns.now) weights.now }
-    requires second { SecondSums (problem_view problem.now) left.now (unknown_views others.now) below.now }
-    ensures { IfOk result (λ b. FollowsWeights (problem_view problem.now) left.now right.now weights.now below.now (best_view b)) }
+    requires sides { AreSides problem.now left.now right.now }
+    requires first { FirstSums problem.now left.now right.now (unknown_views unknowns.now) weights.now }
+    requires second { SecondSums problem.now left.now (unknown_views others.now) below.now }
+    ensures { IfOk result (λ b. FollowsWeights problem.now left.now right.now weights.now below.now (best_view b)) }
 {
     match unbounded_answer(
         alloc, problem, left, right, unknowns, weights, others, below,

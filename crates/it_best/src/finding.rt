@@ -1,6 +1,5 @@
 //! The best factor.
 ghost use Rattle.std.specs.Prelude.{◌≡◌, ◌<◌, ◌^◌, IfOk};
-ghost use Rattle.it_space.specs.Problems.{IsProblem, problem_view};
 ghost use Rattle.it_space.specs.Rows.{IsOver, negated_terms, value};
 ghost use Rattle.it_space.specs.Spaces.{size_of};
 ghost use Rattle.it_run.specs.Answers.{end_of_answer};
@@ -25,7 +24,7 @@ use it_simplex::{Budget, Solved, solve};
 use it_space::{Problem, Row};
 use std::alloc::{AllocError, Global};
 
-/// How the run of a phase ends.
+/// The end of the run of a phase with `count` equations.
 fn phase_end(
     alloc: Global,
     unknowns: &[Unknown],
@@ -48,7 +47,7 @@ fn phase_end(
     )
 }
 
-/// The answer by the end of the third phase, which is no point after weights of the first and a point of the second.
+/// The answer by the end of the third phase, which isn't a point after weights of the first phase and a point of the second.
 fn third_answer(
     alloc: Global,
     problem: &Problem,
@@ -57,11 +56,11 @@ fn third_answer(
     unknowns: &[Unknown],
     end: &Solved,
 ) -> Result<Best, AllocError>
-    requires sides { AreSides (problem_view problem.now) left.now right.now }
-    requires unknowns { unknown_views unknowns.now ≡ third (problem_view problem.now) left.now right.now }
-    requires end { ThirdIsRight (problem_view problem.now) right.now (third (problem_view problem.now) left.now right.now) end.now }
-    requires reached { HasNoThirdPoint (problem_view problem.now) right.now (third (problem_view problem.now) left.now right.now) }
-    ensures { IfOk result (λ b. ThirdFollows (problem_view problem.now) left.now right.now (end_of_answer end.now) (best_view b)) }
+    requires sides { AreSides problem.now left.now right.now }
+    requires unknowns { unknown_views unknowns.now ≡ third problem.now left.now right.now }
+    requires end { ThirdIsRight problem.now right.now (third problem.now left.now right.now) end.now }
+    requires reached { HasNoThirdPoint problem.now right.now (third problem.now left.now right.now) }
+    ensures { IfOk result (λ b. ThirdFollows problem.now left.now right.now (end_of_answer end.now) (best_view b)) }
 {
     match end {
         Solved::Weights(weights) => least(
@@ -84,7 +83,7 @@ fn third_answer(
     }
 }
 
-/// How the run of the third phase ends.
+/// The end of the run of the third phase.
 fn third_end(
     alloc: Global,
     problem: &Problem,
@@ -92,16 +91,15 @@ fn third_end(
     unknowns: &[Unknown],
     budget: Budget,
 ) -> Result<Solved, AllocError>
-    requires problem { IsProblem (problem_view problem.now) }
     requires right { IsOver (size_of problem.now.space) right.now }
-    ensures ends { IfOk result (λ a. ThirdEnds (problem_view problem.now) right.now (unknown_views unknowns.now) budget (end_of_answer a)) }
-    ensures right { IfOk result (λ a. ThirdIsRight (problem_view problem.now) right.now (unknown_views unknowns.now) a) }
+    ensures ends { IfOk result (λ a. ThirdEnds problem.now right.now (unknown_views unknowns.now) budget (end_of_answer a)) }
+    ensures right { IfOk result (λ a. ThirdIsRight problem.now right.now (unknown_views unknowns.now) a) }
 {
     let target = with_term(alloc, right, left_equation(problem), 1)?;
     phase_end(alloc, unknowns, right_equation(problem), &target, budget)
 }
 
-/// The answer by the third phase, where a point doesn't end it.
+/// The answer by the third phase, which doesn't end with a point.
 fn by_third_phase(
     alloc: Global,
     problem: &Problem,
@@ -109,9 +107,9 @@ fn by_third_phase(
     right: &Row,
     budget: Budget,
 ) -> Result<Best, AllocError>
-    requires sides { AreSides (problem_view problem.now) left.now right.now }
-    requires reached { HasNoThirdPoint (problem_view problem.now) right.now (third (problem_view problem.now) left.now right.now) }
-    ensures { IfOk result (λ b. FollowsThird (problem_view problem.now) left.now right.now budget (best_view b)) }
+    requires sides { AreSides problem.now left.now right.now }
+    requires reached { HasNoThirdPoint problem.now right.now (third problem.now left.now right.now) }
+    ensures { IfOk result (λ b. FollowsThird problem.now left.now right.now budget (best_view b)) }
 {
     let unknowns = third_phase(alloc, problem, left, right)?;
     let end = third_end(alloc, problem, right, unknowns.as_slice(), budget)?;
@@ -130,11 +128,11 @@ fn second_answer(
     end: &Solved,
     budget: Budget,
 ) -> Result<Best, AllocError>
-    requires sides { AreSides (problem_view problem.now) left.now right.now }
-    requires first { FirstSums (problem_view problem.now) left.now right.now (unknown_views unknowns.now) weights.now }
-    requires others { unknown_views others.now ≡ generators (problem_view problem.now) }
-    requires end { PhaseIsRight (size_of problem.now.space) (generators (problem_view problem.now)) (negated_terms left.now) end.now }
-    ensures { IfOk result (λ b. SecondFollows (problem_view problem.now) left.now right.now budget weights.now (end_of_answer end.now) (best_view b)) }
+    requires sides { AreSides problem.now left.now right.now }
+    requires first { FirstSums problem.now left.now right.now (unknown_views unknowns.now) weights.now }
+    requires others { unknown_views others.now ≡ generators problem.now }
+    requires end { PhaseIsRight (size_of problem.now.space) (generators problem.now) (negated_terms left.now) end.now }
+    ensures { IfOk result (λ b. SecondFollows problem.now left.now right.now budget weights.now (end_of_answer end.now) (best_view b)) }
 {
     match end {
         Solved::Weights(below) => unbounded(
@@ -159,7 +157,7 @@ fn second_answer(
     }
 }
 
-/// How the run of the second phase ends.
+/// The end of the run of the second phase.
 fn second_end(
     alloc: Global,
     problem: &Problem,
@@ -167,12 +165,12 @@ fn second_end(
     others: &[Unknown],
     budget: Budget,
 ) -> Result<Solved, AllocError>
-    requires problem { IsProblem (problem_view problem.now) }
     ensures ends { IfOk result (λ a. PhaseEnds (size_of problem.now.space) (unknown_views others.now) (negated_terms left.now) budget (end_of_answer a)) }
     ensures right { IfOk result (λ a. PhaseIsRight (size_of problem.now.space) (unknown_views others.now) (negated_terms left.now) a) }
 {
+    problem.facts();
     let target = opposite_row(alloc, left)?;
-    phase_end(alloc, others, problem.space.size(), &target, budget)
+    phase_end(alloc, others, problem.size(), &target, budget)
 }
 
 /// The answer by the second phase and the one after it, after weights of the first.
@@ -185,9 +183,9 @@ fn by_second_phase(
     weights: &[(usize, Fraction)],
     budget: Budget,
 ) -> Result<Best, AllocError>
-    requires sides { AreSides (problem_view problem.now) left.now right.now }
-    requires first { FirstSums (problem_view problem.now) left.now right.now (unknown_views unknowns.now) weights.now }
-    ensures { IfOk result (λ b. FirstFollows (problem_view problem.now) left.now right.now budget (Weights weights.now) (best_view b)) }
+    requires sides { AreSides problem.now left.now right.now }
+    requires first { FirstSums problem.now left.now right.now (unknown_views unknowns.now) weights.now }
+    ensures { IfOk result (λ b. FirstFollows problem.now left.now right.now budget (Weights weights.now) (best_view b)) }
 {
     let others = second_phase(alloc, problem)?;
     let end = second_end(alloc, problem, left, others.as_slice(), budget)?;
@@ -214,10 +212,10 @@ fn first_answer(
     end: &Solved,
     budget: Budget,
 ) -> Result<Best, AllocError>
-    requires sides { AreSides (problem_view problem.now) left.now right.now }
-    requires unknowns { unknown_views unknowns.now ≡ first (problem_view problem.now) left.now right.now }
-    requires end { PhaseIsRight (size_of problem.now.space) (first (problem_view problem.now) left.now right.now) right.now end.now }
-    ensures { IfOk result (λ b. FirstFollows (problem_view problem.now) left.now right.now budget (end_of_answer end.now) (best_view b)) }
+    requires sides { AreSides problem.now left.now right.now }
+    requires unknowns { unknown_views unknowns.now ≡ first problem.now left.now right.now }
+    requires end { PhaseIsRight (size_of problem.now.space) (first problem.now left.now right.now) right.now end.now }
+    ensures { IfOk result (λ b. FirstFollows problem.now left.now right.now budget (end_of_answer end.now) (best_view b)) }
 {
     match end {
         Solved::Weights(weights) => by_second_phase(
@@ -249,11 +247,11 @@ fn by_first_phase(
     right: &Row,
     budget: Budget,
 ) -> Result<Best, AllocError>
-    requires sides { AreSides (problem_view problem.now) left.now right.now }
-    ensures { IfOk result (λ b. FollowsPhases (problem_view problem.now) left.now right.now budget (best_view b)) }
+    requires sides { AreSides problem.now left.now right.now }
+    ensures { IfOk result (λ b. FollowsPhases problem.now left.now right.now budget (best_view b)) }
 {
     let unknowns = first_phase(alloc, problem, left)?;
-    let size = problem.space.size();
+    let size = problem.size();
     let end = phase_end(alloc, unknowns.as_slice(), size, right, budget)?;
     first_answer(
         alloc,
@@ -274,8 +272,8 @@ fn best_by_phases(
     right: &Row,
     budget: Budget,
 ) -> Result<Best, AllocError>
-    requires sides { AreSides (problem_view problem.now) left.now right.now }
-    ensures { IfOk result (λ b. EndsWith (problem_view problem.now) left.now right.now budget (best_view b)) }
+    requires sides { AreSides problem.now left.now right.now }
+    ensures { IfOk result (λ b. EndsWith problem.now left.now right.now budget (best_view b)) }
 {
     if is_large(problem) {
         return Ok(Best::Undecided(BestCause::Size));
@@ -283,11 +281,11 @@ fn best_by_phases(
     by_first_phase(alloc, problem, left, right, budget)
 }
 
-/// Which numbers c make c times the left side at least the right one wherever a polymatroid and rates meet the problem. The sides
-/// are rows over the coordinates of the problem's space. Three runs of at most the budget's steps each look for it, over all sets:
-/// by the first there is such a number or none (`Never`), by the second there is no least one (`Unbounded`) or there is, and the
-/// third finds it (`Least`). `Size` comes where the third run's table has more than 4,000,000 entries, and is judged first;
-/// `Pivots` and `Width` tell the first run that has no end, `Scale` that the answer has a number past the limit.
+/// The numbers c for which c times `left` is at least `right` wherever a polymatroid and rates meet `problem`. The sides are rows over
+/// the coordinates of the problem's space. Three runs of at most the budget's steps each search for them, over all sets: the first
+/// decides whether there is such a number (else `Never`), the second whether there is a least one (else `Unbounded`), and the third
+/// finds it (`Least`). `Size` means that the third run's table would have more than 4,000,000 entries, and is tested first; `Pivots` and
+/// `Width` name the first run that has no end, and `Scale` means that a number of the answer passes the limit.
 pub fn best(
     alloc: Global,
     problem: &Problem,
@@ -295,11 +293,11 @@ pub fn best(
     right: &Row,
     budget: Budget,
 ) -> Result<Best, AllocError>
-    requires problem { IsProblem (problem_view problem.now) }
     requires left { IsOver (size_of problem.now.space) left.now }
     requires right { IsOver (size_of problem.now.space) right.now }
-    ensures ends { IfOk result (λ b. EndsWith (problem_view problem.now) left.now right.now budget (best_view b)) }
-    ensures right { IfOk result (λ b. IsRightBest (ground_of (problem_view problem.now)) (value left.now) (value right.now) (best_view b)) }
+    ensures ends { IfOk result (λ b. EndsWith problem.now left.now right.now budget (best_view b)) }
+    ensures right { IfOk result (λ b. IsRightBest (ground_of problem.now) (value left.now) (value right.now) (best_view b)) }
 {
+    problem.facts();
     best_by_phases(alloc, problem, left, right, budget)
 }

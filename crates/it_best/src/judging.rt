@@ -1,8 +1,7 @@
-//! What is found, scaled and checked.
+//! Answers, scaled and checked.
 ghost use Rattle.std.specs.Prelude.{◌≡◌, ◌<◌, ◌^◌, ◌*ℤ◌, ◌≤ℤ◌, pos, neg_ℤ, map, length, IfErr, IfOk, OkIff, OnOk};
 ghost use Rattle.it_number.specs.Limit.{IsWithin};
 ghost use Rattle.it_space.specs.Answers.{certificate_view};
-ghost use Rattle.it_space.specs.Problems.{IsProblem, problem_view};
 ghost use Rattle.it_space.specs.Rows.{IsOver, ValueFits, point_of, negated_terms, value};
 ghost use Rattle.it_space.specs.Spaces.{size_of};
 ghost use Rattle.it_check.specs.Meaning.{CertificateFits, CertifiesRow, PointFits};
@@ -20,8 +19,7 @@ use it_ratio::{RowStop, side_row};
 use it_space::{Certificate, Point, Problem, Row, RowFault, value};
 use std::alloc::Global;
 
-/// The numerator of a factor times the left side less its denominator times the right one. `Wide` where a product or a difference
-/// passes the limit.
+/// The numerator of `factor` times `left` less its denominator times `right`. `Wide` if a product or a difference passes the limit.
 pub fn factor_row(
     alloc: Global,
     problem: &Problem,
@@ -29,14 +27,13 @@ pub fn factor_row(
     right: &Row,
     factor: &Fraction,
 ) -> Result<Row, RowFault>
-    requires { IsProblem (problem_view problem.now) }
     ensures value { IfOk result (λ r. r ≡ factor_row (size_of problem.now.space) left.now right.now factor.now) }
     ensures fits { OnOk result (RowFits (size_of problem.now.space) left.now right.now factor.now) }
     ensures wide { IfErr result (λ f. f ≡ RowFault.Wide → ¬ (RowFits (size_of problem.now.space) left.now right.now factor.now)) }
 {
     match side_row(
         alloc,
-        problem.space,
+        problem.space(),
         left,
         right,
         &factor.num(),
@@ -48,21 +45,20 @@ pub fn factor_row(
     }
 }
 
-/// The certificate where the check finds it valid; else a number of the check passes the limit.
+/// `proof`, a certificate of `target`, if the check finds it valid; else `Wide`, as then a number of the check passes the limit.
 fn if_valid(problem: &Problem, target: &Row, proof: Certificate) -> Result<Certificate, Wide>
-    requires problem { IsProblem (problem_view problem.now) }
     requires target { IsOver (size_of problem.now.space) target.now }
-    requires certifies { CertifiesRow (problem_view problem.now) target.now (certificate_view proof) }
-    ensures { OkIff result (CertificateFits (problem_view problem.now) target.now (certificate_view proof)) proof }
+    requires certifies { CertifiesRow problem.now target.now (certificate_view proof) }
+    ensures { OkIff result (CertificateFits problem.now target.now (certificate_view proof)) proof }
 {
+    problem.facts();
     match check_yes(problem, target, &proof) {
         Verdict::Valid => Ok(proof),
         _ => Err(Wide),
     }
 }
 
-/// The certificate of a factor, by the weights of the generators. `Wide` where a number of it, of the row or of the check passes the
-/// limit.
+/// The certificate of `factor`, by the weights of the generators. `Wide` if a number of it, of the row or of the check passes the limit.
 pub fn factor_proof(
     alloc: Global,
     problem: &Problem,
@@ -71,12 +67,11 @@ pub fn factor_proof(
     factor: &Fraction,
     weights: &[Fraction],
 ) -> Result<Certificate, RowFault>
-    requires problem { IsProblem (problem_view problem.now) }
     requires few { length weights.now < 2 ^ 32 }
-    requires factor { CertifyFactor (problem_view problem.now) left.now right.now factor.now weights.now }
+    requires factor { CertifyFactor problem.now left.now right.now factor.now weights.now }
     ensures value { IfOk result (λ c. certificate_view c ≡ weights_certificate (pos factor.now.den) weights.now) }
-    ensures fits { OnOk result (FactorFits (problem_view problem.now) left.now right.now factor.now weights.now) }
-    ensures wide { IfErr result (λ f. f ≡ RowFault.Wide → ¬ (FactorFits (problem_view problem.now) left.now right.now factor.now weights.now)) }
+    ensures fits { OnOk result (FactorFits problem.now left.now right.now factor.now weights.now) }
+    ensures wide { IfErr result (λ f. f ≡ RowFault.Wide → ¬ (FactorFits problem.now left.now right.now factor.now weights.now)) }
 {
     let proof = certificate(alloc, weights, factor.den())?;
     let row = factor_row(alloc, problem, left, right, factor)?;
@@ -84,21 +79,19 @@ pub fn factor_proof(
     Ok(valid)
 }
 
-/// The certificate that the left side is at most 0, by the weights of the generators. `Wide` where a number of it or of the check passes
-/// the limit.
+/// The certificate that `left` is at most 0, by the weights of the generators. `Wide` if a number of it or of the check passes the limit.
 pub fn below_proof(
     alloc: Global,
     problem: &Problem,
     left: &Row,
     weights: &[Fraction],
 ) -> Result<Certificate, RowFault>
-    requires problem { IsProblem (problem_view problem.now) }
     requires left { IsOver (size_of problem.now.space) left.now }
     requires few { length weights.now < 2 ^ 32 }
-    requires certified { CertifyBelow (problem_view problem.now) left.now weights.now }
+    requires certified { CertifyBelow problem.now left.now weights.now }
     ensures value { IfOk result (λ c. certificate_view c ≡ weights_certificate (pos 1) weights.now) }
-    ensures fits { OnOk result (ProofFits (problem_view problem.now) (negated_terms left.now) (pos 1) weights.now) }
-    ensures wide { IfErr result (λ f. f ≡ RowFault.Wide → ¬ (ProofFits (problem_view problem.now) (negated_terms left.now) (pos 1) weights.now)) }
+    ensures fits { OnOk result (ProofFits problem.now (negated_terms left.now) (pos 1) weights.now) }
+    ensures wide { IfErr result (λ f. f ≡ RowFault.Wide → ¬ (ProofFits problem.now (negated_terms left.now) (pos 1) weights.now)) }
 {
     let proof = certificate(alloc, weights, 1)?;
     let row = opposite_row(alloc, left)?;
@@ -106,16 +99,16 @@ pub fn below_proof(
     Ok(valid)
 }
 
-/// Has the check find the point, which meets the problem, valid for a row that is above 0 there. `Wide` where a number of the check passes
-/// the limit.
+/// Checks `point`, which meets `problem`, as a refutation of the negation of `row`, which is above 0 there. `Wide` if a number of the
+/// check passes the limit.
 fn check_point(alloc: Global, problem: &Problem, row: &Row, point: &Point) -> Result<(), RowFault>
-    requires problem { IsProblem (problem_view problem.now) }
     requires row { IsOver (size_of problem.now.space) row.now }
-    requires meets { IsPoint (ground_of (problem_view problem.now)) point.now }
+    requires meets { IsPoint (ground_of problem.now) point.now }
     requires above { pos 1 ≤ℤ value row.now (point_of point.now) }
-    ensures fits { OnOk result (PointFits (problem_view problem.now) row.now point.now) }
-    ensures wide { IfErr result (λ f. f ≡ RowFault.Wide → ¬ (PointFits (problem_view problem.now) row.now point.now)) }
+    ensures fits { OnOk result (PointFits problem.now row.now point.now) }
+    ensures wide { IfErr result (λ f. f ≡ RowFault.Wide → ¬ (PointFits problem.now row.now point.now)) }
 {
+    problem.facts();
     let target = opposite_row(alloc, row)?;
     match check_no(problem, &target, point) {
         Verdict::Valid => Ok(()),
@@ -123,7 +116,7 @@ fn check_point(alloc: Global, problem: &Problem, row: &Row, point: &Point) -> Re
     }
 }
 
-/// The values of both sides at a point.
+/// The values of `left` and `right` at `point`. `Wide` if a product or a partial sum passes the limit.
 fn side_values(left: &Row, right: &Row, point: &Point) -> Result<(i128, i128), Wide>
     requires left { IsOver (length point.now) left.now }
     requires right { IsOver (length point.now) right.now }
@@ -134,7 +127,7 @@ fn side_values(left: &Row, right: &Row, point: &Point) -> Result<(i128, i128), W
     Ok((left, right))
 }
 
-/// Tests the products of the sides' values with a factor's numerator and denominator.
+/// `Wide` if the product of `left` with the numerator of `factor`, or of `right` with its denominator, passes the limit.
 fn check_products(factor: &Fraction, left: i128, right: i128) -> Result<(), Wide>
     ensures { OkIff result (IsWithin (factor.now.num *ℤ left) × IsWithin (pos factor.now.den *ℤ right)) tt }
 {
@@ -143,8 +136,8 @@ fn check_products(factor: &Fraction, left: i128, right: i128) -> Result<(), Wide
     Ok(())
 }
 
-/// The point at which no factor holds, by the point of the first phase's run. `Wide` where a number of it or of the sides' values passes the
-/// limit.
+/// The point at which no factor holds, by the point of the first phase's run. `Wide` if a number of it or of the sides' values passes
+/// the limit.
 pub fn never_point(
     alloc: Global,
     problem: &Problem,
@@ -152,20 +145,20 @@ pub fn never_point(
     right: &Row,
     values: &[Fraction],
 ) -> Result<Point, RowFault>
-    requires sides { AreSides (problem_view problem.now) left.now right.now }
+    requires sides { AreSides problem.now left.now right.now }
     requires complete { length values.now ≡ size_of problem.now.space }
-    requires never { HasNoFactor (ground_of (problem_view problem.now)) (value left.now) (value right.now) (map neg_ℤ (scaled_point values.now)) }
+    requires never { HasNoFactor (ground_of problem.now) (value left.now) (value right.now) (map neg_ℤ (scaled_point values.now)) }
     ensures value { IfOk result (λ p. p ≡ map neg_ℤ (scaled_point values.now)) }
-    ensures fits { OnOk result (NeverFits (problem_view problem.now) left.now right.now values.now) }
-    ensures wide { IfErr result (λ f. f ≡ RowFault.Wide → ¬ (NeverFits (problem_view problem.now) left.now right.now values.now)) }
+    ensures fits { OnOk result (NeverFits problem.now left.now right.now values.now) }
+    ensures wide { IfErr result (λ f. f ≡ RowFault.Wide → ¬ (NeverFits problem.now left.now right.now values.now)) }
 {
-    let point = turned_point(alloc, problem.space, values)?;
+    let point = turned_point(alloc, problem.space(), values)?;
     check_point(alloc, problem, right, &point)?;
     side_values(left, right, &point)?;
     Ok(point)
 }
 
-/// The point at which a factor holds with equality, by its values. `Wide` where a number of it, of the sides' values or of the products
+/// The point at which `factor` holds with equality, by its values. `Wide` if a number of it, of the sides' values or of the products
 /// passes the limit.
 pub fn least_point(
     alloc: Global,
@@ -175,15 +168,15 @@ pub fn least_point(
     factor: &Fraction,
     values: &[Fraction],
 ) -> Result<Point, RowFault>
-    requires sides { AreSides (problem_view problem.now) left.now right.now }
+    requires sides { AreSides problem.now left.now right.now }
     requires complete { length values.now ≡ size_of problem.now.space }
-    requires meets { IsPoint (ground_of (problem_view problem.now)) (scaled_point values.now) }
+    requires meets { IsPoint (ground_of problem.now) (scaled_point values.now) }
     requires some { pos 1 ≤ℤ value left.now (point_of (scaled_point values.now)) }
     ensures value { IfOk result (λ p. p ≡ scaled_point values.now) }
-    ensures fits { OnOk result (LeastPointFits (problem_view problem.now) left.now right.now factor.now values.now) }
-    ensures wide { IfErr result (λ f. f ≡ RowFault.Wide → ¬ (LeastPointFits (problem_view problem.now) left.now right.now factor.now values.now)) }
+    ensures fits { OnOk result (LeastPointFits problem.now left.now right.now factor.now values.now) }
+    ensures wide { IfErr result (λ f. f ≡ RowFault.Wide → ¬ (LeastPointFits problem.now left.now right.now factor.now values.now)) }
 {
-    let point = whole_point(alloc, problem.space, values)?;
+    let point = whole_point(alloc, problem.space(), values)?;
     check_point(alloc, problem, left, &point)?;
     let (above, below) = side_values(left, right, &point)?;
     check_products(factor, above, below)?;

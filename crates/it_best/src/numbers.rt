@@ -1,4 +1,4 @@
-//! The numbers that weights of columns give to the unknowns, and these made whole.
+//! The numbers of unknowns by the weights of their columns, and these made whole.
 ghost use Rattle.std.specs.Prelude.{◌≡◌, ◌<◌, ◌^◌, ◌++◌, ◌+◌, ◌∷◌, [], map, neg_ℤ, length, All, IfErr, IfOk, OkIff, OnOk, take, drop, slice_index_or, pos};
 ghost use Rattle.std.specs.List.{AllByRecursion as Every};
 ghost use Rattle.it_number.specs.Limit.{IsWithin};
@@ -21,7 +21,7 @@ use it_fraction::{Fraction, Wide};
 use it_space::{Certificate, Kind, Point, RowFault, Space, push_some};
 use std::alloc::{AllocError, Global};
 
-/// The weight of a column, 0 where it has none.
+/// The weight of `column`, 0 if it has none.
 fn column_weight(weights: &[(usize, Fraction)], column: usize) -> Fraction
     requires { AreWeights rationals (2 ^ 63) 0 weights.now }
     ensures { result ≡ column_weight weights.now column }
@@ -34,7 +34,8 @@ fn column_weight(weights: &[(usize, Fraction)], column: usize) -> Fraction
     Fraction::whole(0)
 }
 
-/// The number of an unknown whose first column is given: the second column's weight counts against the first one's.
+/// The number of an unknown of this kind whose first column is `column`: that column's weight, less the second column's if there is one.
+/// `Wide` if a number of the difference passes the limit.
 fn number_of(weights: &[(usize, Fraction)], kind: Kind, column: usize) -> Result<Fraction, Wide>
     requires ordered { AreWeights rationals (2 ^ 63) 0 weights.now }
     requires few { column < 2 ^ 62 }
@@ -49,7 +50,7 @@ fn number_of(weights: &[(usize, Fraction)], kind: Kind, column: usize) -> Result
     }
 }
 
-/// Puts the number of an unknown after the others. `Wide` where a difference of two weights passes the limit.
+/// Appends the number of an unknown. `Wide` as for `number_of`.
 fn push_number(
     numbers: &mut Vec<Fraction>,
     weights: &[(usize, Fraction)],
@@ -67,7 +68,7 @@ fn push_number(
     Ok(())
 }
 
-/// The numbers of the unknowns by the weights of their columns. `Wide` where a difference of two passes the limit.
+/// The numbers of `unknowns` by the weights of their columns. `Wide` as for `number_of`.
 pub fn numbers(
     alloc: Global,
     unknowns: &[Unknown],
@@ -88,7 +89,7 @@ pub fn numbers(
     Ok(numbers)
 }
 
-/// Puts a number so many times after the others. `Wide` where it passes the limit in lowest terms.
+/// Appends `factor` times `number`. `Wide` if that passes the limit in lowest terms.
 fn push_multiple(
     multiples: &mut Vec<Fraction>,
     number: &Fraction,
@@ -104,7 +105,7 @@ fn push_multiple(
     Ok(())
 }
 
-/// Each number so many times. `Wide` where one of them passes the limit in lowest terms.
+/// `factor` times each of `numbers`. `Wide` if one of these passes the limit in lowest terms.
 fn multiples(alloc: Global, numbers: &[Fraction], factor: i128) -> Result<Vec<Fraction>, RowFault>
     requires { IsWithin factor }
     ensures value { IfOk result (λ v. v.items ≡ multiples factor numbers.now) }
@@ -118,7 +119,7 @@ fn multiples(alloc: Global, numbers: &[Fraction], factor: i128) -> Result<Vec<Fr
     Ok(multiples)
 }
 
-/// The values other than 0, each after its number.
+/// The nonzero values, each after its number.
 fn weight_terms(alloc: Global, values: &[i128]) -> Result<Vec<(u32, i128)>, AllocError>
     requires { length values.now < 2 ^ 32 }
     ensures { IfOk result (λ v. v.items ≡ terms_from 0 values.now) }
@@ -130,7 +131,7 @@ fn weight_terms(alloc: Global, values: &[i128]) -> Result<Vec<(u32, i128)>, Allo
     Ok(terms)
 }
 
-/// The certificate that has each weight so many times, over their least common denominator.
+/// The certificate with `factor` times each weight, over the least common denominator. `Wide` if a number of it passes the limit.
 pub fn certificate(
     alloc: Global,
     numbers: &[Fraction],
@@ -152,7 +153,7 @@ pub fn certificate(
     })
 }
 
-/// The values times their least common denominator.
+/// `numbers` times their least common denominator. `Wide` if one of the products, or that denominator, passes the limit.
 fn whole_values(alloc: Global, numbers: &[Fraction]) -> Result<Vec<i128>, RowFault>
     ensures value { IfOk result (λ v. v.items ≡ scaled_point numbers.now) }
     ensures within { OnOk result (All IsWithin (scaled_point numbers.now)) }
@@ -164,7 +165,7 @@ fn whole_values(alloc: Global, numbers: &[Fraction]) -> Result<Vec<i128>, RowFau
     Ok(values)
 }
 
-/// The point that has these values times their least common denominator.
+/// The point with the values `numbers` times their least common denominator. `Wide` as for `whole_values`.
 pub fn whole_point(alloc: Global, space: Space, numbers: &[Fraction]) -> Result<Point, RowFault>
     requires space { IsSpace space }
     requires complete { length numbers.now ≡ size_of space }
@@ -176,7 +177,7 @@ pub fn whole_point(alloc: Global, space: Space, numbers: &[Fraction]) -> Result<
     Ok(Point::new(space, values))
 }
 
-/// The values with their signs turned.
+/// The negated values.
 fn turned_values(alloc: Global, values: &[i128]) -> Result<Vec<i128>, AllocError>
     requires { All IsWithin values.now }
     ensures { IfOk result (λ v. v.items ≡ map neg_ℤ values.now) }
@@ -188,7 +189,7 @@ fn turned_values(alloc: Global, values: &[i128]) -> Result<Vec<i128>, AllocError
     Ok(turned)
 }
 
-/// The same point turned: each value with its sign turned.
+/// The point with the negated values of `whole_point`. `Wide` as for `whole_values`.
 pub fn turned_point(alloc: Global, space: Space, numbers: &[Fraction]) -> Result<Point, RowFault>
     requires space { IsSpace space }
     requires complete { length numbers.now ≡ size_of space }
@@ -209,7 +210,7 @@ pub fn factor_of(numbers: &[Fraction]) -> Fraction
     numbers[0]
 }
 
-/// The weights of so many generators: the numbers after the factor.
+/// The weights of `count` generators: the numbers after the factor.
 pub fn weights_of(numbers: &[Fraction], count: usize) -> &[Fraction]
     requires { count < length numbers.now }
     ensures { result.now ≡ take count (drop 1 numbers.now) }
@@ -218,7 +219,7 @@ pub fn weights_of(numbers: &[Fraction], count: usize) -> &[Fraction]
     &others[..count]
 }
 
-/// The values of a point at so many coordinates: the numbers after those.
+/// The values of a point at `size` coordinates: the numbers after the weights of `count` generators.
 pub fn values_of(numbers: &[Fraction], count: usize, size: usize) -> &[Fraction]
     requires { count + size < length numbers.now }
     ensures { result.now ≡ take size (drop count (drop 1 numbers.now)) }

@@ -1,7 +1,6 @@
 //! The unknowns of the three phases.
 ghost use Rattle.std.specs.Prelude.{◌≡◌, ◌≢◌, ◌<◌, ◌+◌, ◌^◌, ◌++◌, ◌∷◌, [], pos, List, length, map, All, IfOk, OnOk};
 ghost use Rattle.it_number.specs.Limit.{IsWithin};
-ghost use Rattle.it_space.specs.Problems.{IsProblem, problem_view};
 ghost use Rattle.it_space.specs.Rows.{IsOver, coefficient};
 ghost use Rattle.it_space.specs.Spaces.{size_of};
 ghost use Rattle.it_elemental.specs.Generators.{Generator, generators, generator_at};
@@ -15,11 +14,10 @@ use it_elemental::{generator_count, kind_at};
 use it_space::{Kind, Problem, Row, push_some};
 use std::alloc::{AllocError, Global};
 
-/// A generator as an unknown: its weight.
+/// The weight of generator `index` as an unknown.
 fn weight(alloc: Global, problem: &Problem, index: u32) -> Result<Unknown, AllocError>
-    requires problem { IsProblem (problem_view problem.now) }
-    requires listed { index < length (generators (problem_view problem.now)) }
-    ensures { IfOk result (λ u. unknown_view u ≡ generator_at (generators (problem_view problem.now)) index) }
+    requires listed { index < length (generators problem.now) }
+    ensures { IfOk result (λ u. unknown_view u ≡ generator_at (generators problem.now) index) }
 {
     let row = generator_row(alloc, problem, index)?;
     Ok(Unknown {
@@ -28,11 +26,10 @@ fn weight(alloc: Global, problem: &Problem, index: u32) -> Result<Unknown, Alloc
     })
 }
 
-/// The weight of a generator that counts against the factor: the generator turned.
+/// The weight of generator `index` as an unknown that counts against the factor: with the generator's negated row.
 fn counterweight(alloc: Global, problem: &Problem, index: u32) -> Result<Unknown, AllocError>
-    requires problem { IsProblem (problem_view problem.now) }
-    requires listed { index < length (generators (problem_view problem.now)) }
-    ensures { IfOk result (λ u. unknown_view u ≡ counterweight (generator_at (generators (problem_view problem.now)) index)) }
+    requires listed { index < length (generators problem.now) }
+    ensures { IfOk result (λ u. unknown_view u ≡ counterweight (generator_at (generators problem.now) index)) }
 {
     let generator = weight(alloc, problem, index)?;
     let row = opposite_row(alloc, &generator.row)?;
@@ -42,14 +39,13 @@ fn counterweight(alloc: Global, problem: &Problem, index: u32) -> Result<Unknown
     })
 }
 
-/// Puts the weights of all generators after the others, each turned.
+/// Appends the weights of all generators, with negated rows.
 fn push_counterweights(
     unknowns: &mut Vec<Unknown>,
     alloc: Global,
     problem: &Problem,
 ) -> Result<(), AllocError>
-    requires problem { IsProblem (problem_view problem.now) }
-    ensures { OnOk result (unknown_views unknowns.new.items ≡ unknown_views unknowns.old.items ++ map counterweight (generators (problem_view problem.now))) }
+    ensures { OnOk result (unknown_views unknowns.new.items ≡ unknown_views unknowns.old.items ++ map counterweight (generators problem.now)) }
 {
     for index in 0..generator_count(problem) {
         let unknown = counterweight(alloc, problem, index)?;
@@ -58,10 +54,9 @@ fn push_counterweights(
     Ok(())
 }
 
-/// The first phase: the factor, and the weights of the generators. They are to make the right side.
+/// The unknowns of the first phase: the factor, and the weights of the generators. They should sum to the right side.
 pub fn first_phase(alloc: Global, problem: &Problem, left: &Row) -> Result<Vec<Unknown>, AllocError>
-    requires problem { IsProblem (problem_view problem.now) }
-    ensures { IfOk result (λ v. unknown_views v.items ≡ first_phase (generators (problem_view problem.now)) left.now) }
+    ensures { IfOk result (λ v. unknown_views v.items ≡ first_phase (generators problem.now) left.now) }
 {
     let mut unknowns = Vec::new(alloc);
     let row = left.copy(alloc)?;
@@ -73,10 +68,9 @@ pub fn first_phase(alloc: Global, problem: &Problem, left: &Row) -> Result<Vec<U
     Ok(unknowns)
 }
 
-/// The second phase: the weights of the generators. They are to make the left side turned.
+/// The unknowns of the second phase: the weights of the generators. They should sum to the negated left side.
 pub fn second_phase(alloc: Global, problem: &Problem) -> Result<Vec<Unknown>, AllocError>
-    requires problem { IsProblem (problem_view problem.now) }
-    ensures { IfOk result (λ v. unknown_views v.items ≡ generators (problem_view problem.now)) }
+    ensures { IfOk result (λ v. unknown_views v.items ≡ generators problem.now) }
 {
     let mut unknowns = Vec::new(alloc);
     for index in 0..generator_count(problem) {
@@ -88,8 +82,7 @@ pub fn second_phase(alloc: Global, problem: &Problem) -> Result<Vec<Unknown>, Al
 
 /// The rows of the generators, in order.
 fn generator_rows(alloc: Global, problem: &Problem) -> Result<Vec<Row>, AllocError>
-    requires problem { IsProblem (problem_view problem.now) }
-    ensures { IfOk result (λ v. v.items ≡ map (λ g. g.row) (generators (problem_view problem.now))) }
+    ensures { IfOk result (λ v. v.items ≡ map (λ g. g.row) (generators problem.now)) }
 {
     let mut rows = Vec::new(alloc);
     for index in 0..generator_count(problem) {
@@ -99,25 +92,25 @@ fn generator_rows(alloc: Global, problem: &Problem) -> Result<Vec<Row>, AllocErr
     Ok(rows)
 }
 
-/// The equation of the left side's value at the point, which is 1.
+/// The number of the equation of the left side's value at the point, which is 1.
 pub fn left_equation(problem: &Problem) -> u32
-    requires problem { IsProblem (problem_view problem.now) }
-    ensures value { result ≡ left_equation (size_of problem.now.space) (generators (problem_view problem.now)) }
+    ensures value { result ≡ left_equation (size_of problem.now.space) (generators problem.now) }
     ensures few { result < 2 ^ 22 }
 {
-    problem.space.size() + generator_count(problem) + 1
+    problem.facts();
+    problem.size() + generator_count(problem) + 1
 }
 
-/// The equation of the right side's value at the point, which is the factor.
+/// The number of the equation of the right side's value at the point, which is the factor.
 pub fn right_equation(problem: &Problem) -> u32
-    requires problem { IsProblem (problem_view problem.now) }
-    ensures value { result ≡ right_equation (size_of problem.now.space) (generators (problem_view problem.now)) }
+    ensures value { result ≡ right_equation (size_of problem.now.space) (generators problem.now) }
     ensures few { result < 2 ^ 22 }
 {
-    problem.space.size() + generator_count(problem) + 2
+    problem.facts();
+    problem.size() + generator_count(problem) + 2
 }
 
-/// The row with one term more after its own.
+/// `row` with the term `coefficient` at `coordinate` after its own.
 pub fn with_term(
     alloc: Global,
     row: &Row,
@@ -134,7 +127,7 @@ pub fn with_term(
     Ok(Row::new(terms))
 }
 
-/// The coefficients of a coordinate in rows, the first of which has an equation.
+/// The coefficients of `rows` at `coordinate`, as terms at the rows' equations, the first of which is `first`.
 fn coordinate_terms(
     alloc: Global,
     rows: &[Row],
@@ -156,7 +149,7 @@ fn coordinate_terms(
     Ok(terms)
 }
 
-/// The coefficients of a coordinate in the generators and in the sides.
+/// The coefficients of the generators and of the sides at `coordinate`, as a row over the equations.
 fn coordinate_row(
     alloc: Global,
     problem: &Problem,
@@ -165,11 +158,11 @@ fn coordinate_row(
     right: &Row,
     coordinate: u32,
 ) -> Result<Row, AllocError>
-    requires problem { IsProblem (problem_view problem.now) }
-    requires rows { rows.now ≡ map (λ g. g.row) (generators (problem_view problem.now)) }
-    ensures { IfOk result (λ r. r ≡ coordinate_row (size_of problem.now.space) (generators (problem_view problem.now)) left.now right.now coordinate) }
+    requires rows { rows.now ≡ map (λ g. g.row) (generators problem.now) }
+    ensures { IfOk result (λ r. r ≡ coordinate_row (size_of problem.now.space) (generators problem.now) left.now right.now coordinate) }
 {
-    let mut terms = coordinate_terms(alloc, rows, problem.space.size() + 1, coordinate)?;
+    problem.facts();
+    let mut terms = coordinate_terms(alloc, rows, problem.size() + 1, coordinate)?;
     push_some(
         &mut terms,
         left_equation(problem),
@@ -183,19 +176,18 @@ fn coordinate_row(
     Ok(Row::new(terms))
 }
 
-/// Whether a coordinate's value is at least 0, as that of a set is, or any number, as a rate is.
+/// The kind of the value at `coordinate`: at least 0 for a set, any number for a rate.
 fn coordinate_kind(problem: &Problem, coordinate: u32) -> Kind
-    requires problem { IsProblem (problem_view problem.now) }
     ensures { IsCoordinateKind problem.now.space.variables coordinate result }
 {
-    if coordinate < 1 << problem.space.variables {
+    if coordinate < 1 << problem.space().variables {
         Kind::Inequality
     } else {
         Kind::Equation
     }
 }
 
-/// Puts the values of the point at all coordinates after the others.
+/// Appends the values of the point at all coordinates.
 fn push_values(
     unknowns: &mut Vec<Unknown>,
     alloc: Global,
@@ -204,11 +196,11 @@ fn push_values(
     left: &Row,
     right: &Row,
 ) -> Result<(), AllocError>
-    requires problem { IsProblem (problem_view problem.now) }
-    requires rows { rows.now ≡ map (λ g. g.row) (generators (problem_view problem.now)) }
-    ensures { OnOk result (unknown_views unknowns.new.items ≡ unknown_views unknowns.old.items ++ all_values (problem_view problem.now) left.now right.now) }
+    requires rows { rows.now ≡ map (λ g. g.row) (generators problem.now) }
+    ensures { OnOk result (unknown_views unknowns.new.items ≡ unknown_views unknowns.old.items ++ all_values problem.now left.now right.now) }
 {
-    for coordinate in 1..problem.space.size() + 1 {
+    problem.facts();
+    for coordinate in 1..problem.size() + 1 {
         let row = coordinate_row(alloc, problem, rows, left, right, coordinate)?;
         let kind = coordinate_kind(problem, coordinate);
         unknowns.push(Unknown { kind, row })?;
@@ -216,7 +208,7 @@ fn push_values(
     Ok(())
 }
 
-/// Puts what an inequality has above 0 after the others; of an equation that is nothing.
+/// Appends the slack of an inequality; an equation has none.
 fn push_slack(
     unknowns: &mut Vec<Unknown>,
     alloc: Global,
@@ -238,33 +230,32 @@ fn push_slack(
     }
 }
 
-/// Puts what each inequality has above 0 at the point after the others.
+/// Appends the slack of each inequality at the point.
 fn push_slacks(
     unknowns: &mut Vec<Unknown>,
     alloc: Global,
     problem: &Problem,
 ) -> Result<(), AllocError>
-    requires problem { IsProblem (problem_view problem.now) }
-    ensures { OnOk result (unknown_views unknowns.new.items ≡ unknown_views unknowns.old.items ++ all_slacks (problem_view problem.now)) }
+    ensures { OnOk result (unknown_views unknowns.new.items ≡ unknown_views unknowns.old.items ++ all_slacks problem.now) }
 {
-    let first = problem.space.size() + 1;
+    problem.facts();
+    let first = problem.size() + 1;
     for index in 0..generator_count(problem) {
         push_slack(unknowns, alloc, kind_at(problem, index), first + index)?;
     }
     Ok(())
 }
 
-/// The third phase: the factor, the weights of the generators, the values of a point, and what each inequality has above 0 there.
-/// They are to make the right side, and 1 at the equation of the left side's value.
+/// The unknowns of the third phase: the factor, the weights of the generators, the values of a point, and the slack of each inequality
+/// there. They should sum to the right side, with 1 at the equation of the left side's value.
 pub fn third_phase(
     alloc: Global,
     problem: &Problem,
     left: &Row,
     right: &Row,
 ) -> Result<Vec<Unknown>, AllocError>
-    requires problem { IsProblem (problem_view problem.now) }
     requires left { IsOver (size_of problem.now.space) left.now }
-    ensures { IfOk result (λ v. unknown_views v.items ≡ third (problem_view problem.now) left.now right.now) }
+    ensures { IfOk result (λ v. unknown_views v.items ≡ third problem.now left.now right.now) }
 {
     let rows = generator_rows(alloc, problem)?;
     let mut unknowns = Vec::new(alloc);

@@ -8,8 +8,8 @@ use it_columns::push_row;
 use it_space::{Kind, Row};
 use std::alloc::{AllocError, Global};
 
-/// An unknown number: its coefficient in each equation, by the number of the equation, and whether it is at least 0 or, as a
-/// multiple of an equation may be, any number.
+/// An unknown number: its coefficient in each equation, by the number of the equation, and its kind: at least 0 (`Inequality`), or any
+/// number, like the weight of an equation (`Equation`).
 pub struct Unknown {
     pub kind: Kind,
     pub row: Row,
@@ -21,7 +21,7 @@ impl Drop for Unknown {
     }
 }
 
-/// The columns of all, in order: one of an unknown that is at least 0, and of any other its row and the row turned.
+/// The columns of `unknowns`, in order: the row of an unknown that is at least 0, and of any other its row and the negated row.
 pub fn columns(alloc: Global, unknowns: &[Unknown]) -> Result<Vec<Row>, AllocError>
     ensures { IfOk result (λ v. v.items ≡ columns (unknown_views unknowns.now)) }
 {
@@ -33,7 +33,7 @@ pub fn columns(alloc: Global, unknowns: &[Unknown]) -> Result<Vec<Row>, AllocErr
     Ok(columns)
 }
 
-/// The numbers of so many equations, from 1 on.
+/// The numbers of `count` equations, from 1 on.
 pub fn equations(alloc: Global, count: u32) -> Result<Vec<u32>, AllocError>
     requires { count < 2 ^ 31 }
     ensures { IfOk result (λ v. v.items ≡ span 1 count) }

@@ -105,7 +105,7 @@ cause_of_run q row effort cause (inl e) = by_end e.end e.follows
     by_end (runs.Width k) f = by_cause (WideStep k) tt f
 cause_of_run q row effort cause (inr (quick, settled)) = absurd settled
 
--- without a budget no row is left for want of steps
+-- without a budget no row is left for lack of steps
 pub search_never_out_of_steps : (s : Search) (row : Terms) (k : ℕ) → s.limits.effort.pivots ≡ None → SearchEnds s (Undecided (Run row (Pivots k))) → ⊥
 search_never_out_of_steps s row k none e =
     let h = of_search s (λ rows. Unit {0}) tt (λ rows next ray p n. tt) (Undecided (Run row (Pivots k))) e in

@@ -60,7 +60,7 @@ row_goes : (stayed : ℕ) (row : Terms) (rows : List Terms) (d : Terms × Certif
 row_goes stayed row rows d dropped e =
     ap (λ b. if b then record { row = stayed; proof = certificate_view d.1 } ∷ numbered_drops stayed rows (certified dropped) else numbered_drops (stayed + 1) rows (certified (d ∷ dropped))) e
 
--- where a row is the first that goes, there is one
+-- where a row is the first of the dropped ones, there is one
 first_is_there : (row : Terms) (n : ℕ) (dropped : List (Terms × Certificate)) → goes_first row (drop n dropped) ≡ true → n < length dropped
 first_is_there row n dropped e = by_order (cases_lt n (length dropped))
   where
@@ -68,7 +68,7 @@ first_is_there row n dropped e = by_order (cases_lt n (length dropped))
     by_order (inl l) = l
     by_order (inr l) = absurd (false≢true (subst (λ (ds : List (Terms × Certificate)). goes_first row ds ≡ true) (drop_all n dropped l) e))
 
--- so many rows were looked at, and these drops found
+-- the first i rows were looked at, and these drops found
 pub record AreNumbered (rows : List Terms) (dropped : List (Terms × Certificate)) (i : ℕ) (drops : List RowDrop) : Type 0 where
   pub rest : map drop_view drops ++ numbered_drops (i - length drops) (drop i rows) (certified (drop (length drops) dropped)) ≡ numbered_drops 0 rows (certified dropped)
   pub few : length drops ≤ i
@@ -198,7 +198,7 @@ none_by_width f effort rows ray e rate is ends = (Wide rate, subst (λ (x : Elim
 
 -- ---- the loop over rays
 
--- so many rays are put in by these steps, which leave these rows
+-- the first i rays are put in by these steps, which leave these rows
 pub record IsMaking (f : Frame) (effort : Effort) (first : List Terms) (rays : List (List ℤ)) (i : ℕ) (rows : List Terms) (steps : List StepView) : Type 0 where
   pub leads : (rest : Option (List StepView)) → AreMade f effort rows (drop i rays) rest → AreMade f effort first rays (option_map (λ more. steps ++ more) rest)
   pub hull : AreHullRows f rows

@@ -1,4 +1,4 @@
--- The steps by which the hull of rays is made again: one more ray, and then the rows go that a reduction drops where all variables are
+-- The steps by which the hull of rays is made again: one more ray, and then the rows that a reduction drops where all variables are
 -- constant.
 use Rattle.std.specs.Prelude.{◌≡◌, ℕ, ◌+◌, ◌^◌, ℤ, List, [], ◌∷◌, Option, Some, None, option_map, if◌then◌else◌}
 use Rattle.it_space.specs.declared.spaces.Space.{Space}
@@ -14,14 +14,14 @@ use Rattle.it_spans.specs.declared.types.Frame.{Frame}
 use Rattle.it_spans.specs.Drops.{DropView}
 use Rattle.it_spans.specs.Spans.{StepView}
 
--- the rows that go, by their numbers in the list as it stands: after so many rows that stay
+-- the dropped rows, each by its number in the list as it stands then; `stayed` is the number of the rows before these that stay
 abbrev pub numbered_drops : ℕ → List Terms → List (Terms × CertificateView) → List DropView
 numbered_drops stayed rows [] = []
 numbered_drops stayed [] (d ∷ dropped) = []
 numbered_drops stayed (row ∷ rows) (d ∷ dropped) =
     if is_same row d.0 then record { row = stayed; proof = d.1 } ∷ numbered_drops stayed rows dropped else numbered_drops (stayed + 1) rows (d ∷ dropped)
 
--- a ray with the rows that go after it, and the rows that stay
+-- a ray with the rows that are dropped after it, and the rows that stay
 pub record MadeStep : Type 0 where
   pub step : StepView
   pub rows : List Terms

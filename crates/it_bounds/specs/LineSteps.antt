@@ -16,7 +16,7 @@ abbrev pub IsThere : ℕ → ℕ → Certificate → Type 0
 IsThere n m c = All (λ w. w.0 < length (elementals n) + m) c.weights.items
 
 module _ (q : BodyView) (constraints : List Constraint) where
-  -- a certificate
+  -- the text of a certificate
   abbrev pub proof_text : Certificate → List ℕ
   proof_text proof = certificate_text (problem_names q).variables (origins_of constraints) (certificate_view proof)
 
@@ -24,10 +24,10 @@ module _ (q : BodyView) (constraints : List Constraint) where
   abbrev pub row_line : ℕ → Mark × Terms → Certificate → List ℕ
   row_line k row proof = proven_row_line k (problem_names q) (origins_of constraints) (row, certificate_view proof)
 
-  -- and of rows
+  -- the lines of rows with their certificates, for question k
   abbrev pub row_lines : ℕ → List (Mark × Terms) → List Certificate → List ℕ
   row_lines k rows proofs = flat_map (proven_row_line k (problem_names q) (origins_of constraints)) (zip rows (map certificate_view proofs))
 
--- the line of how many rows and rays there are, for question k
+-- the line with the numbers of rows and of rays, for question k
 abbrev pub count_line : ℕ → ℕ → ℕ → List ℕ
 count_line k rows rays = decimal k ++ codes " outer " ++ decimal rows ++ codes " " ++ decimal rays ++ codes "\n"

@@ -52,14 +52,14 @@ rates_text v kept values = joined_texts (codes " ") false (map (rate_text v) (lo
 unfoldable pub ray_line : ℕ → NamesView → List ℕ → List ℤ → List ℕ
 ray_line k v kept values = decimal k ++ codes " ray " ++ rates_text v kept values ++ codes " at " ++ values_text v values ++ codes "\n"
 
--- how many rows and rays there are, and their lines
+-- the line with the numbers of rows and of rays, and then their lines
 unfoldable pub bounds_lines : ℕ → NamesView → List ℕ → List Origin → List (Mark × Terms) → List CertificateView → List (List ℤ) → List ℕ
 bounds_lines k v kept origins rows proofs rays = decimal k ++ codes " outer " ++ decimal (length rows) ++ codes " " ++ decimal (length rays) ++ codes "\n"
     ++ flat_map (proven_row_line k v origins) (zip rows proofs) ++ flat_map (ray_line k v kept) rays
 
 -- ---- replies
 
--- why the bound stays undecided: the cause of a run, and its row; or what the search ran out of, the rays with the most that it may find
+-- the cause why the bound is undecided: that of a run, and its row; or what the search ran out of, the rays with the most that it may find
 unfoldable pub bounds_cause_text : NamesView → Limits → CauseView → List ℕ
 bounds_cause_text v limits (Run row cause) = cause_text v cause ++ codes " in " ++ row_text v Inequality row
 bounds_cause_text v limits Rows = codes "rows"
@@ -83,7 +83,7 @@ IsOfRun Scale = Unit {0}
 IsOfRun (RowsOfRate rate) = ⊥
 IsOfRun (WideRate rate) = ⊥
 
--- the row of a cause is of the names
+-- the row of a cause is of the names, and the cause is a run's
 abbrev pub IsCausePrintable : NamesView → OuterCause → Type 0
 IsCausePrintable v (causes.Run row cause) = IsRowOver v row × IsOfRun cause
 IsCausePrintable v causes.Rows = Unit {0}
@@ -94,8 +94,8 @@ IsCausePrintable v causes.Rays = Unit {0}
 abbrev pub AreOfNames : NamesView → List (List ℤ) → Type 0
 AreOfNames v rays = All (λ values. length values ≡ size_of (space_of v)) rays
 
--- with m constraints: there are as many certificates as rows, the rows are of the question's names, the generators of each certificate
--- are there, and the rays are of the names' space
+-- The reply can be printed with m constraints: there are as many certificates as rows, the rows are of the question's names, the
+-- generators of each certificate are there, and the rays are of the names' space.
 abbrev pub IsPrintable : BodyView → ℕ → Reply → Type 0
 IsPrintable q m (replies.Bounded rows proofs rays) = (length rows.items ≡ length proofs.items) × All (λ row. IsRowOver (problem_names q) row.1) rows.items
     × AreListed (length (problem_names q).variables) m proofs.items × AreOfNames (problem_names q) rays.items

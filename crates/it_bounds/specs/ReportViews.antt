@@ -9,12 +9,12 @@ use Rattle.it_bounds.specs.declared.types.Reply.TheVariants as replies
 use Rattle.it_bounds.specs.Lines.{IsCausePrintable}
 use Rattle.it_bounds.specs.Replies.{ReplyView, Bounded}
 
--- the names have those of a cause
+-- the cause of a reply, if it has one, can be printed with the names
 abbrev pub IsToldCause : NamesView → Reply → Type 0
 IsToldCause v (replies.Undecided cause) = IsCausePrintable v cause
 IsToldCause v reply = Unit {0}
 
--- it has bounds
+-- the reply has bounds
 abbrev pub IsBounded : Reply → Type 0
 IsBounded (replies.Bounded rows proofs rays) = Unit {0}
 IsBounded reply = ⊥

@@ -37,7 +37,7 @@ pub record IsRightTold (report : Bool) (limits : Limits) (q : BodyView) (told : 
 
 -- ---- as the line of a report
 
--- why there are no bounds to report: as in the lines of the mode; or their steps aren't made
+-- the words that say why there are no bounds to report: those of the mode's line, or that their steps aren't made
 abbrev pub unreported : Limits → NamesView → ReplyView → List ℕ
 unreported limits v (Bounded rows proofs rays) = codes "undecided drops"
 unreported limits v (Undecided cause) = codes "undecided " ++ bounds_cause_text v limits cause
@@ -70,6 +70,6 @@ IsToldReply q replies.Other = Unit {0}
 
 -- ---- what follows
 
--- where no quick run comes first one thing is told
+-- where no quick run comes first, one reply with steps is right
 abbrev pub OneRightTold : Type 0
 OneRightTold = (report : Bool) (limits : Limits) (q : BodyView) (a b : ToldReply) → limits.effort.quick ≡ false → IsRightTold report limits q a → IsRightTold report limits q b → a ≡ b

@@ -1,5 +1,5 @@
--- Right replies to questions in mode `outer`: they show what they say, by the meaning of the question's text alone, and they are due; and
--- what follows from it.
+-- Right replies to questions in mode `outer`: they show what they say, by the meaning of the question's text alone, and they are due: the
+-- search, and a reduction for the marks, end with them. And what follows.
 use Rattle.std.specs.Prelude.{◌≡◌, ℕ, ℤ, List, [], ◌∷◌, map, All, Option, Some, None, false}
 use Rattle.it_space.specs.declared.answers.Cause.TheVariants.{Pivots}
 use Rattle.it_space.specs.declared.answers.Mark.{Mark}
@@ -47,7 +47,7 @@ ShowsReply q Other = eliminated_by q.verb ≡ None
 
 -- ---- by the runs
 
--- the marks of rows after a reduction that drops these: why each row stays; where one is dropped after all, all are unsettled
+-- the marks of rows after a reduction: by the needs of the rows that it keeps; where it drops one after all, all are unsettled
 abbrev pub MarkedAfter : List (Mark × Terms) → List (Terms × NeedView) → List (Terms × CertificateView) → Type 0
 MarkedAfter rows kept [] = rows ≡ marked_rows kept
 MarkedAfter rows kept (d ∷ dropped) = All (λ row. row.0 ≡ marks.Unsettled) rows
@@ -57,12 +57,12 @@ abbrev pub MarksEnd : Space → Effort → List (Mark × Terms) → Type 0
 MarksEnd s effort rows = (kept : List (Terms × NeedView)) × (dropped : List (Terms × CertificateView))
     × Reduces (constants s) effort [] (region_rows rows) kept dropped × MarkedAfter rows kept dropped
 
--- the search for the bounds of the problem that all lines pose ends so
+-- the search for the bounds of the problem that all lines pose ends with `end`
 abbrev pub Ends : Limits → BodyView → List ℕ → OuterView → Type 0
 Ends limits q gone end = SearchEnds (search_without (problem_of (under_all_lines q)) gone limits) end
 
--- Where a question asks to eliminate rates the reply is that the table of the problem that all lines pose is too large, exactly where it
--- is; else what the search ends with. To each other question it is that it is another one.
+-- Where a question asks to eliminate rates, the reply is that the table of the problem that all lines pose is too large, exactly where it
+-- is; else it is what the search ends with. To any other question it is `Other`.
 abbrev pub IsDue : Limits → BodyView → Option (List ℕ) → ReplyView → Type 0
 IsDue limits q (Some gone) (Bounded rows proofs rays) = HasSmallTable (under_all_lines q) × Ends limits q gone (outers.Bounds (region_rows rows) proofs rays)
     × MarksEnd (space_of q.names) limits.effort rows
@@ -84,7 +84,7 @@ pub record IsRightReply (limits : Limits) (q : BodyView) (reply : ReplyView) : T
 abbrev pub OneRightReply : Type 0
 OneRightReply = (limits : Limits) (q : BodyView) (a b : ReplyView) → limits.effort.quick ≡ false → IsRightReply limits q a → IsRightReply limits q b → a ≡ b
 
--- without a budget no reply is undecided for want of steps
+-- without a budget no reply is undecided for lack of steps
 abbrev pub NeverOutOfSteps : Type 0
 NeverOutOfSteps = (limits : Limits) (q : BodyView) (row : Terms) (k : ℕ) → limits.effort.pivots ≡ None → IsRightReply limits q (Undecided (Run row (Pivots k))) → ⊥
 

@@ -20,7 +20,7 @@ use Rattle.it_bounds.specs.Replies.{ReplyView, Bounded, Undecided, Size, Other}
 use Rattle.it_bounds.specs.RightReplies.{MarksEnd}
 use Rattle.it_bounds.specs.Truth.{MarkedRowsAreNeeded}
 
--- the rows, each with its mark
+-- the rows, each with its mark, which is that of a reduction, and no row that is marked as needed follows from the others
 pub record AreMarked (s : Space) (effort : Effort) (rows : List Terms) (marked : List (Mark × Terms)) : Type 0 where
   pub same : region_rows marked ≡ rows
   pub ends : MarksEnd s effort marked

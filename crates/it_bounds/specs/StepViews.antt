@@ -13,7 +13,7 @@ use Rattle.it_spans.specs.Spans.{step_view}
 use Rattle.it_bounds.specs.declared.steps.Made.{Made}
 use Rattle.it_bounds.specs.HullSteps.{IsMade, MadeStep, numbered_drops}
 
--- whether a row is the first of those that go
+-- whether the row is the first of the dropped ones
 abbrev pub goes_first : Terms → List (Terms × Certificate) → Bool
 goes_first row [] = false
 goes_first row (d ∷ dropped) = is_same row d.0
@@ -22,11 +22,11 @@ goes_first row (d ∷ dropped) = is_same row d.0
 abbrev pub made_view : Made → MadeStep
 made_view m = record { step = step_view m.step; rows = m.rows.items }
 
--- it is what a reduction makes of the rows that a ray leaves
+-- the step is what a reduction makes of the rows that a ray leaves
 abbrev pub IsReducedStep : ProblemView → Effort → List Terms → List ℤ → Made → Type 0
 IsReducedStep q effort left ray made = (kept : List (Terms × NeedView)) × (dropped : List (Terms × CertificateView)) × Reduces q effort [] left kept dropped
     × (made_view made ≡ record { step = record { ray = ray; drops = numbered_drops 0 left dropped }; rows = kept_rows kept })
 
--- it is what is made of the rows of a hull with one more ray
+-- the step is what is made of the rows of a hull with one more ray
 abbrev pub IsMadeStep : Frame → Effort → List Terms → List ℤ → Option Made → Type 0
 IsMadeStep f effort rows ray made = (left : EliminatedView) × RayEnds (2 ^ f.space.variables) f.rows ray f.spare rows left × IsMade f.space effort ray left (option_map made_view made)

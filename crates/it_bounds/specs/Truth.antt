@@ -13,7 +13,7 @@ use Rattle.it_bounds.specs.Replies.{ReplyView, Bounded, Undecided, Size, Other}
 
 -- ---- bounds
 
--- a row that others don't give: at some values of the rates these hold, and it is -1 or less
+-- the row doesn't follow from the others: at some values of the rates these hold, and it is -1 or less
 pub record IsNeededBeside (others : List Terms) (row : Terms) : Type 0 where
   pub rates : ℕ → ℤ
   pub others_hold : IsPointOf others rates
@@ -26,8 +26,8 @@ MarkedRowsAreNeeded rows = (before after : List (Mark × Terms)) (row : Terms) �
 
 -- ---- of a question
 
--- the reply to the question is true: bounds where they are exact and each row that is marked as needed is; that it asks for none; and what is undecided or too large says
--- nothing
+-- the reply to the question is true: bounds where they are exact and each row that is marked as needed is; `Other` where the question
+-- asks to eliminate no rates; and an undecided one or one about the size always
 abbrev pub IsTrueReply : BodyView → ReplyView → Type 0
 IsTrueReply q (Bounded rows proofs rays) = (gone : List ℕ) × (eliminated_by q.verb ≡ Some gone) × AreExactBounds q gone (region_rows rows) rays × MarkedRowsAreNeeded rows
 IsTrueReply q (Undecided cause) = Unit {0}

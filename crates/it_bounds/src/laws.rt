@@ -2,15 +2,15 @@
 ghost use Rattle.it_bounds.specs.RightReplies.{NeverOutOfSteps, OneRightReply, WhatIsShownIsTrue};
 ghost use Rattle.it_bounds.specs.Reports.{OneRightTold};
 
-/// What a reply to a question of a file shows is true, whatever reply is due: the rows hold exactly where some whole multiple of the
-/// rates is that of a polymatroid with rates at which all lines are true, the rays span what they allow, and no row that is marked as
-/// needed follows from the others.
+/// What a reply to a question of a file shows is true: the rows hold exactly where some whole multiple of the rates is that of a
+/// polymatroid with rates at which all lines are true, the rays span what they allow, and no row that is marked as needed follows
+/// from the others.
 pub fn shown_bounds_are_true()
     ensures { WhatIsShownIsTrue }
 {}
 
-/// Where no quick run comes first a question has one right reply, and its report one list of steps. With any effort it isn't undecided for want of steps where there is no
-/// budget of them.
+/// Where no quick run comes first, a question has one right reply, and its report one list of steps. With any effort, no reply is
+/// undecided for lack of steps where there is no budget of them.
 pub fn replies_are_determined()
     ensures one { OneRightReply }
     ensures steps { NeverOutOfSteps }

@@ -57,7 +57,7 @@ pub fn reply_lines(
     }
 }
 
-/// The line of a reply that is the same words for each question.
+/// The line of a reply that has the same words for each question.
 fn word_line(alloc: Global, k: usize, words: &[u8]) -> Result<Vec<u8>, AllocError>
     ensures { IfOk result (λ t. t.items ≡ decimal k ++ words.now) }
 {
@@ -92,7 +92,7 @@ fn bounds_lines(
     Ok(out)
 }
 
-/// The line that says how many rows and rays there are.
+/// Appends the line with the numbers of rows and of rays.
 fn write_count(out: &mut Vec<u8>, k: usize, rows: usize, rays: usize) -> Result<(), AllocError>
     ensures { OnOk result (out.new.items ≡ out.old.items ++ count_line k rows rays) }
 {
@@ -104,7 +104,7 @@ fn write_count(out: &mut Vec<u8>, k: usize, rows: usize, rays: usize) -> Result<
     out.extend_from_slice(b"\n")
 }
 
-/// The lines of rows with their certificates.
+/// Appends the lines of rows with their certificates.
 fn write_rows(
     alloc: Global,
     out: &mut Vec<u8>,
@@ -126,7 +126,7 @@ fn write_rows(
     Ok(())
 }
 
-/// The line of a row with its certificate.
+/// Appends the line of a row with its certificate.
 #[tactic(auto, unfolding(crate::specs::Lines::proven_row_line))]
 fn write_row(
     alloc: Global,
@@ -153,7 +153,7 @@ fn write_row(
     out.extend_from_slice(b"\n")
 }
 
-/// A certificate: its scale and its sum.
+/// Appends a certificate: its scale and its sum.
 #[tactic(auto, unfolding(it_print::specs::Lines::certificate_text))]
 fn write_proof(
     alloc: Global,
@@ -172,7 +172,7 @@ fn write_proof(
     out.extend_from_slice(sum.as_slice())
 }
 
-/// The lines of rays.
+/// Appends the lines of rays.
 fn write_rays(
     alloc: Global,
     out: &mut Vec<u8>,
@@ -192,7 +192,7 @@ fn write_rays(
     Ok(())
 }
 
-/// The line of a ray.
+/// Appends the line of a ray.
 #[tactic(auto, unfolding(crate::specs::Lines::ray_line))]
 fn write_ray(
     alloc: Global,
@@ -217,7 +217,7 @@ fn write_ray(
     out.extend_from_slice(b"\n")
 }
 
-/// The line of a bound that stays undecided.
+/// The line of a question whose bound is undecided.
 fn undecided_line(
     alloc: Global,
     limits: Limits,
@@ -236,7 +236,7 @@ fn undecided_line(
     Ok(out)
 }
 
-/// Writes why a bound stays undecided, after what stands.
+/// Appends the cause why a bound is undecided.
 #[tactic(auto, unfolding(crate::specs::Lines::bounds_cause_text))]
 pub fn write_cause(
     alloc: Global,
@@ -264,7 +264,7 @@ pub fn write_cause(
     }
 }
 
-/// Why a run has no end within its bounds.
+/// Appends the cause why a run has no end within its bounds.
 #[tactic(auto, unfolding(it_print::specs::Lines::cause_text))]
 fn write_run(out: &mut Vec<u8>, cause: Cause) -> Result<(), AllocError>
     requires { IsOfRun cause }
@@ -280,7 +280,7 @@ fn write_run(out: &mut Vec<u8>, cause: Cause) -> Result<(), AllocError>
             write_number(out, step as usize)
         }
         Cause::Scale => out.extend_from_slice(b"scale"),
-        // no run ends so
+        // no run ends by these
         Cause::Rows(_) => unreachable!(),
         Cause::WideRate(_) => unreachable!(),
     }

@@ -1,4 +1,4 @@
-//! The marks of rows: whether the others don't give them.
+//! The marks of rows: whether a row follows from the others.
 ghost use Rattle.std.specs.Prelude.{◌≡◌, ◌≤◌, All, IfOk, length, map};
 ghost use Rattle.it_space.specs.declared.answers.Mark.TheVariants.{Unsettled};
 ghost use Rattle.it_space.specs.Rows.{IsOver};
@@ -12,8 +12,8 @@ use it_redundant::reduce;
 use it_space::{Mark, Row, Space, System};
 use std::alloc::{AllocError, Global};
 
-/// The rows in order, each with its mark before it, by a reduction where all variables are constant, so that rates alone count. Where
-/// that drops one after all, each is unsettled.
+/// The rows in order, each with its mark before it, by a reduction where all variables are constant, so that rates alone count. If the
+/// reduction drops a row after all, each row is unsettled.
 pub fn with_marks(
     alloc: Global,
     space: Space,
@@ -38,7 +38,7 @@ pub fn with_marks(
     }
 }
 
-/// The same rows once more.
+/// Copies of `rows`, in order.
 fn copied(alloc: Global, rows: &[Row]) -> Result<Vec<Row>, AllocError>
     ensures { IfOk result (λ v. v.items ≡ rows.now) }
 {

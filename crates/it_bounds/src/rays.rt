@@ -15,7 +15,7 @@ use it_space::Point;
 use it_syntax::Names;
 use std::alloc::{AllocError, Global};
 
-/// The greatest common divisor of a number found so far and the value at a coordinate.
+/// The greatest common divisor of `common` and the value of `point` at the coordinate `at`.
 fn with_value(common: u128, point: &Point, at: u32) -> u128
     requires common { common < 2 ^ 127 }
     requires some { 1 ≤ at }
@@ -26,7 +26,7 @@ fn with_value(common: u128, point: &Point, at: u32) -> u128
     gcd(common as i128, point.at(at)).unsigned_abs()
 }
 
-/// The greatest common divisor of the values at coordinates, 0 where all are 0.
+/// The greatest common divisor of the values of `point` at the coordinates `kept`; 0 if all are 0.
 fn common_divisor(kept: &[u32], point: &Point) -> u128
     requires { ArePlaces (length point.now) kept.now }
     ensures value { result ≡ content 0 (values_at kept.now point.now) }
@@ -39,7 +39,7 @@ fn common_divisor(kept: &[u32], point: &Point) -> u128
     common
 }
 
-/// The value at a coordinate, divided by a number; 0 where that is 0.
+/// The value of `point` at the coordinate `at`, divided by `by`; 0 if `by` is 0.
 fn divided_at(point: &Point, at: u32, by: u128) -> i128
     requires some { 1 ≤ at }
     requires few { at ≤ length point.now }
@@ -52,7 +52,7 @@ fn divided_at(point: &Point, at: u32, by: u128) -> i128
     point.at(at) / by as i128
 }
 
-/// A blank, where something stands before.
+/// Appends a blank, if `some`: a text stands before.
 fn write_between(out: &mut Vec<u8>, some: bool) -> Result<(), AllocError>
     ensures { OnOk result (out.new.items ≡ out.old.items ++ (if some then codes " " else [])) }
 {
@@ -62,7 +62,7 @@ fn write_between(out: &mut Vec<u8>, some: bool) -> Result<(), AllocError>
     Ok(())
 }
 
-/// A rate with its value.
+/// Appends a rate with its value.
 fn write_rate(out: &mut Vec<u8>, names: &Names, at: u32, number: i128) -> Result<(), AllocError>
     requires { at < 2 ^ length names.now.variables + length names.now.rates }
     ensures { OnOk result (out.new.items ≡ out.old.items ++ rate_text names.now (at, number)) }
@@ -72,7 +72,7 @@ fn write_rate(out: &mut Vec<u8>, names: &Names, at: u32, number: i128) -> Result
     write_signed(out, number)
 }
 
-/// The rates that stay in lowest terms, with a blank between them, after what stands.
+/// Appends the rates that stay in lowest terms, with a blank between them.
 pub fn write_rates(
     out: &mut Vec<u8>,
     names: &Names,

@@ -1,6 +1,5 @@
 //! The replies to questions.
 ghost use Rattle.std.specs.Prelude.{◌≡◌, ◌<◌, ◌≤◌, All, IfOk, length};
-ghost use Rattle.it_space.specs.Problems.{IsProblem, problem_view};
 ghost use Rattle.it_space.specs.Rows.{IsOver};
 ghost use Rattle.it_space.specs.Spaces.{IsSpace, size_of};
 ghost use Rattle.it_question.specs.Limits.{IsQuestion};
@@ -27,8 +26,8 @@ use it_space::{Problem, Space};
 use std::alloc::{AllocError, Global};
 
 /// The right reply to a question, and the problem that all its lines pose, `row` lines too: to one that asks to eliminate rates its outer
-/// bound, and `Other` to each other verb. The listed rates go, and all entropies with them; the other rates stay. The limits are those of
-/// the search: the most rows after one more ray, at most 65,535; the most rays; and the effort for each run.
+/// bound, and `Other` to each other verb. The listed rates are eliminated, and all entropies with them; the other rates stay. The limits
+/// are those of the search: the most rows after one more ray, at most 65,535; the most rays; and the effort for each run.
 pub fn reply(
     alloc: Global,
     question: &Question,
@@ -37,9 +36,9 @@ pub fn reply(
     requires question { IsQuestion (question_body question.now) }
     requires few_rows { limits.rows ≤ 65535 }
     ensures space { IfOk result (λ a. a.problem.space ≡ space_of (question_body question.now).names) }
-    ensures problem { IfOk result (λ a. AreStated a.problem.space (question_origins (under_all_lines (question_body question.now))) (question_demands (under_all_lines (question_body question.now))) a.problem.constraints.items) }
+    ensures problem { IfOk result (λ a. AreStated a.problem.space (question_origins (under_all_lines (question_body question.now))) (question_demands (under_all_lines (question_body question.now))) a.problem.constraints) }
     ensures right { IfOk result (λ a. IsRightReply limits (question_body question.now) (reply_view a.reply)) }
-    ensures printable { IfOk result (λ a. IsPrintable (question_body question.now) (length a.problem.constraints.items) a.reply) }
+    ensures printable { IfOk result (λ a. IsPrintable (question_body question.now) (length a.problem.constraints) a.reply) }
     ensures told { IfOk result (λ a. IsToldReply (question_body question.now) a.reply) }
 {
     let problem = problem_of_lines(alloc, question)?;
@@ -55,10 +54,10 @@ fn reply_under(
     limits: Limits,
 ) -> Result<Reply, AllocError>
     requires question { IsQuestion (question_body question.now) }
-    requires problem { IsProblemOf (under_all_lines (question_body question.now)) (problem_view problem.now) }
+    requires problem { IsProblemOf (under_all_lines (question_body question.now)) problem.now }
     requires few_rows { limits.rows ≤ 65535 }
     ensures right { IfOk result (λ r. IsRightReply limits (question_body question.now) (reply_view r)) }
-    ensures printable { IfOk result (IsPrintable (question_body question.now) (length problem.now.constraints.items)) }
+    ensures printable { IfOk result (IsPrintable (question_body question.now) (length problem.now.constraints)) }
     ensures told { IfOk result (IsToldReply (question_body question.now)) }
 {
     match &question.verb {
@@ -71,26 +70,26 @@ fn reply_under(
     }
 }
 
-/// The outer bound of a problem without some rates.
+/// The outer bound of `problem` without the rates `gone`.
 fn bound(alloc: Global, problem: &Problem, gone: &[u8], limits: Limits) -> Result<Reply, AllocError>
-    requires problem { IsProblem (problem_view problem.now) }
     requires gone { All (λ r. r < problem.now.space.rates) gone.now }
     requires some { 1 ≤ length gone.now }
     requires few_rows { limits.rows ≤ 65535 }
-    ensures { IfOk result (λ r. IsReplyByRows limits (problem_view problem.now) gone.now (reply_view r)) }
+    ensures { IfOk result (λ r. IsReplyByRows limits problem.now gone.now (reply_view r)) }
 {
+    problem.facts();
     let size = size(alloc, problem)?;
     if MOST_ENTRIES < size {
         return Ok(Reply::Size);
     }
     let end = outer(alloc, problem, gone, limits)?;
     match end {
-        Outer::Bounds(bounds) => marked(alloc, problem.space, bounds, limits.effort),
+        Outer::Bounds(bounds) => marked(alloc, problem.space(), bounds, limits.effort),
         Outer::Undecided(cause) => Ok(Reply::Undecided(cause)),
     }
 }
 
-/// Bounds with marks.
+/// The reply with these bounds, each row with its mark.
 fn marked(alloc: Global, space: Space, bounds: Bounds, effort: Effort) -> Result<Reply, AllocError>
     requires space { IsSpace space }
     requires rows { All (IsOver (size_of space)) bounds.hull.rows.items }

@@ -29,9 +29,9 @@ use it_spans::{Frame, Step};
 use it_syntax::Names;
 use std::alloc::{AllocError, Global};
 
-/// The line of a report of a reply that was made within these limits: its bounds with the steps that make the hull of their rays, and without
-/// marks; where it has none, or the steps aren't made, a misfit with the words of the mode's line. The hull is made by one more ray and
-/// one reduction after the other; the rows that go have certificates, so that whoever judges needs no search.
+/// The line of a report of a reply that was made within these limits: its bounds with the steps that make the hull of their rays, and
+/// without marks; where it has none, or the steps aren't made, a misfit with the words of the mode's line. The hull is made by one more
+/// ray and one reduction after the other; the rows that are dropped have certificates, so that whoever judges needs no search.
 pub fn reply_report(
     alloc: Global,
     limits: Limits,
@@ -146,7 +146,7 @@ fn bounded_json(
     Ok(line)
 }
 
-/// The same certificates once more.
+/// Copies of `proofs`, in order.
 fn copied(alloc: Global, proofs: &[Certificate]) -> Result<Vec<Certificate>, AllocError>
     ensures { IfOk result (λ v. map certificate_view v.items ≡ map certificate_view proofs.now) }
 {
@@ -158,7 +158,7 @@ fn copied(alloc: Global, proofs: &[Certificate]) -> Result<Vec<Certificate>, All
     Ok(own)
 }
 
-/// Why there are no bounds to report.
+/// The words that say why there are no bounds to report.
 fn unreported(
     alloc: Global,
     limits: Limits,

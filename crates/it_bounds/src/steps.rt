@@ -1,7 +1,6 @@
 //! The steps by which the hull of rays is made again, for whoever judges it.
 ghost use Rattle.std.specs.Prelude.{◌≡◌, ◌≤◌, All, IfOk, drop, length, map, option_map};
 ghost use Rattle.it_space.specs.Answers.{certificate_view};
-ghost use Rattle.it_space.specs.Problems.{problem_view};
 ghost use Rattle.it_space.specs.Spaces.{IsSpace, size_of};
 ghost use Rattle.it_redundant.specs.Reduction.{IsSystemUnder};
 ghost use Rattle.it_hull.specs.Constants.{constants};
@@ -27,14 +26,14 @@ struct Made {
     rows: Vec<Row>,
 }
 
-/// Whether a row is the next one that goes.
+/// Whether `row` is number `next` of the rows that are dropped, counted from 0.
 fn goes_next(row: &Row, dropped: &[(Row, Certificate)], next: usize) -> bool
     ensures { result ≡ goes_first row.now (drop next dropped.now) }
 {
     next < dropped.len() && row.terms() == dropped[next].0.terms()
 }
 
-/// The rows that go, by their numbers in the list as it stands: those before a row, without those that went.
+/// The dropped rows, each by its number in the list as it stands then: the number of the rows before it that weren't dropped.
 fn numbered_drops(
     alloc: Global,
     rows: &[Row],
@@ -56,7 +55,7 @@ fn numbered_drops(
     Ok(drops)
 }
 
-/// The same point once more.
+/// A copy of `ray`.
 fn copied_ray(alloc: Global, space: Space, ray: &Point) -> Result<Point, AllocError>
     requires space { IsSpace space }
     requires ray { length ray.now ≡ size_of space }
@@ -66,7 +65,7 @@ fn copied_ray(alloc: Global, space: Space, ray: &Point) -> Result<Point, AllocEr
     Ok(Point::new(space, values))
 }
 
-/// A ray with the rows that go after it, of those that it leaves, and the rows that stay.
+/// The step of `ray`: it and the rows of `left` that a reduction drops; with the rows that stay.
 fn reduced_step(
     alloc: Global,
     left: &System,
@@ -74,10 +73,10 @@ fn reduced_step(
     effort: Effort,
     ray: &Point,
 ) -> Result<Made, AllocError>
-    requires left { IsSystemUnder (problem_view givens.now) left.now }
+    requires left { IsSystemUnder givens.now left.now }
     requires few_rows { length left.now.rows.items ≤ 65535 }
     requires ray { length ray.now ≡ size_of left.now.space }
-    ensures { IfOk result (IsReducedStep (problem_view givens.now) effort left.now.rows.items ray.now) }
+    ensures { IfOk result (IsReducedStep givens.now effort left.now.rows.items ray.now) }
 {
     let reduced = reduce(alloc, left, givens, effort)?;
     let drops = numbered_drops(alloc, left.rows.as_slice(), reduced.dropped.as_slice())?;
@@ -90,7 +89,7 @@ fn reduced_step(
     })
 }
 
-/// A ray with the rows that go after it, if it leaves few enough, and those that stay.
+/// The step of `ray` after the rows `rows`, with the rows that stay; None where it leaves too many rows, or a number passes the limit.
 fn made_step(
     alloc: Global,
     frame: Frame,
@@ -100,7 +99,7 @@ fn made_step(
     ray: &Point,
 ) -> Result<Option<Made>, AllocError>
     requires frame { IsFrame frame }
-    requires givens { problem_view givens.now ≡ constants frame.space }
+    requires givens { givens.now ≡ constants frame.space }
     requires rows { AreHullRows frame rows.items }
     requires ray { length ray.now ≡ size_of frame.space }
     ensures { IfOk result (IsMadeStep frame effort rows.items ray.now) }

@@ -2,7 +2,7 @@
 use it_outer::OuterCause;
 use it_space::{Certificate, Mark, Point, Problem, Row};
 
-/// What is replied to a question in mode `outer`.
+/// A reply to a question in mode `outer`.
 #[derive(Drop)]
 pub enum Reply {
     /// The outer bound: rows at the rates that stay, each with its mark; a certificate of each, in order; and rays, points at which all

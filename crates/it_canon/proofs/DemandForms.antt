@@ -34,7 +34,7 @@ module _ (n m : ℕ) where
   set_within : (s : ℕ) → s < 2 ^ n → s ≤ last_coordinate
   set_within s h = omega (arith, h)
 
-  -- so many times its value
+  -- x times the value of an atom
   atom_up_to : (x : ℤ) (a : Atom) → IsAtomOf n m a → IsFormUpTo last_coordinate (4 * unsigned_abs x) (λ p. x *ℤ atom_at n p a)
   atom_up_to x Nothing h = record { terms = []; same = λ p. times_zero x; coordinates = tt; small = omega arith }
     where
@@ -80,7 +80,7 @@ module _ (n m : ℕ) where
       rate_times : (x y : ℤ) → x *ℤ y +ℤ pos 0 ≡ x *ℤ y
       rate_times x y = omega (arith, zring)
 
-  -- once
+  -- the value of an atom
   once_up_to : (a : Atom) → IsAtomOf n m a → IsFormUpTo last_coordinate 4 (λ p. atom_at n p a)
   once_up_to a h = form_same last_coordinate (4 * unsigned_abs (pos 1)) 4 (λ p. pos 1 *ℤ atom_at n p a) (λ p. atom_at n p a) (omega (arith, ints)) (λ p. times_one (atom_at n p a)) (atom_up_to (pos 1) a h)
     where

@@ -97,7 +97,7 @@ module _ (q : BodyView) (k : IsQuestion q) (small : QuestionHasSmallNumbers q) w
       let is : IsProblemOf q p = record { space = refl; limits = question_problem q p k refl cs.1; constraints = cs.1 } in
       subst (IsProblemOf q) (one_problem q p is) is
 
-  -- and the rows of its relation's targets
+  -- the rows of its relation's targets
   pub relation_rows : (r : RelationView) → q.verb ≡ Prove r → AreRowsOf own_space (targets (variable_count q) r) (map (terms_in q) (targets (variable_count q) r))
   relation_rows r about =
       let own : IsRelationOf (length q.names.variables) (length q.names.rates) r = subst (IsVerbOver q.names) about k.verb in
@@ -105,7 +105,7 @@ module _ (q : BodyView) (k : IsQuestion q) (small : QuestionHasSmallNumbers q) w
       let rows = rows_there own_space (space_is q k) (targets (variable_count q) r) (targets_up_to own_space.variables own_space.rates r over (subst VerbHasSmallNumbers about small.1)) in
       subst (AreRowsOf own_space (targets (variable_count q) r)) (rows_are_terms_of_forms own_space (targets (variable_count q) r) rows.0 rows.1) rows.1
 
-  -- and those of its sides
+  -- the rows of its relation's sides
   pub side_rows : (r : RelationView) → q.verb ≡ Prove r
       → IsRowOf own_space (left_form (variable_count q) r) (terms_in q (left_form (variable_count q) r)) × IsRowOf own_space (right_form (variable_count q) r) (terms_in q (right_form (variable_count q) r))
   side_rows r about =
@@ -117,7 +117,7 @@ module _ (q : BodyView) (k : IsQuestion q) (small : QuestionHasSmallNumbers q) w
       row_of_form : (f : Form) → IsFormUpTo (size_of own_space) (2 ^ 106) f → IsRowOf own_space f (terms_in q f)
       row_of_form f up = let row = row_there own_space (space_is q k) f up in subst (IsRowOf own_space f) (row_is_terms_of_form own_space f row.0 row.1) row.1
 
-  -- and those of its `row` lines
+  -- the rows of its `row` lines
   system_up_to : (rs : List RelationView) → Every (IsRelationOf own_space.variables own_space.rates) rs → Every HasSmallNumbers rs → Every (IsFormUpTo (size_of own_space) (2 ^ 106)) (system_forms own_space.variables rs)
   system_up_to [] h e = tt
   system_up_to (r ∷ rs) h e = every-append (IsFormUpTo (size_of own_space) (2 ^ 106)) (targets own_space.variables r) (system_forms own_space.variables rs)

@@ -62,7 +62,7 @@ form-negation size a f x = record {
   small = omega (arith, mass-negated x.terms, x.small);
 }
 
--- the same form by another name, and a greater bound
+-- a form with the same values, and a greater bound
 pub form_same : (size a b : ℕ) (f g : Form) → a ≤ b → ((p : ℕ → ℤ) → f p ≡ g p) → IsFormUpTo size a f → IsFormUpTo size b g
 form_same size a b f g l e x = record { terms = x.terms; same = λ p. x.same p ∙ e p; coordinates = x.coordinates; small = omega (arith, l, x.small) }
 

@@ -1,4 +1,4 @@
--- What the lines of a question demand in generator order, the problem that it poses, and the terms of forms over its coordinates.
+-- The demands of a question in generator order, the problem that it poses, and the terms of forms over its coordinates.
 use Rattle.std.specs.Prelude.{◌≡◌, List}
 use Rattle.it_space.specs.Problems.{ProblemView, IsProblem}
 use Rattle.it_space.specs.Rows.{Terms}
@@ -28,7 +28,7 @@ problem_of q = problem_of_lines (problem_names q) (problem_lines q)
 abbrev pub terms_in : BodyView → Form → Terms
 terms_in q form = terms_of_form (size_of (space_of (problem_names q))) form
 
--- the origins of a question's demands, in the same order
+-- the origins of a question's demands, in generator order
 abbrev pub question_origins : BodyView → List Origin
 question_origins q = line_origins (variable_count q) (problem_lines q)
 

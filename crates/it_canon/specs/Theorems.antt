@@ -17,7 +17,7 @@ use Rattle.it_canon.specs.QuestionDemands.{problem_of, terms_in, IsProblemOf}
 abbrev pub QuestionHasProblem : Type 0
 QuestionHasProblem = (bytes : List ℕ) (qs : List QuestionView) → IsFile bytes qs → All (λ q. IsProblemOf q.body (problem_of q.body)) qs
 
--- where it is about a relation, the terms of the relation's targets are their rows
+-- where a question of a file is about a relation, the terms of the relation's targets are their rows
 abbrev pub RelationHasRows : Type 0
 RelationHasRows = (bytes : List ℕ) (qs : List QuestionView) → IsFile bytes qs
     → All (λ q. (r : RelationView) → q.body.verb ≡ Prove r

@@ -6,11 +6,11 @@ use Rattle.it_syntax.specs.Givens.{IsTrueAt}
 use Rattle.it_question.specs.Questions.{OwnLinesView, BodyView}
 use Rattle.it_question.specs.ProblemLines.{problem_names, problem_lines}
 
--- how many variables the problem has
+-- the number of variables of the problem
 abbrev pub variable_count : BodyView → ℕ
 variable_count q = length (problem_names q).variables
 
--- each given is true of the map, and each row holds at it
+-- each given is true at p, and each row holds at p
 pub record AreTrueAt (n : ℕ) (p : ℕ → ℤ) (own : OwnLinesView) : Type 0 where
   pub givens : All (IsTrueAt n p) own.givens
   pub rows : All (Holds n p) own.rows

@@ -1,4 +1,4 @@
--- One item more of an array that is read, and one that has no reading.
+-- One more item of an array that is read, and one that has no reading.
 use Rattle.std.proofs.Common.{◌≡◌, ℕ, ◌+◌, ◌<◌, List, [], ◌∷◌, ◌++◌, length, map, drop, get_or, refl, ap, sym, ◌∙◌, Option, Some, None, option_and_then, option_map}
 use mathlib.Core.List.{append_assoc}
 use Rattle.std.proofs.lemmas.List.{map-append}
@@ -28,7 +28,7 @@ module _ {A : Type 0} (f : Data → Option A) (vs : List Value) (i : ℕ) (v : V
       → prepend xs (all_of f (items_view (drop i vs))) ≡ whole → prepend (xs ++ a ∷ []) (all_of f (items_view (drop (i + 1) vs))) ≡ whole
   item_more xs a whole is before = prepend_one xs a (all_of f (items_view (drop (i + 1) vs))) ∙ sym (from_item xs (Some a) is) ∙ before
 
-  -- the same where the items are seen through g
+  -- like `item_more`, where the items are seen through `g`
   pub item_seen : {B : Type 0} (g : B → A) (bs : List B) (b : B) (whole : Option (List A)) → Some (g b) ≡ f (view v)
       → prepend (map g bs) (all_of f (items_view (drop i vs))) ≡ whole → prepend (map g (bs ++ b ∷ [])) (all_of f (items_view (drop (i + 1) vs))) ≡ whole
   item_seen g bs b whole is before =

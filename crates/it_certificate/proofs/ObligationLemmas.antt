@@ -82,7 +82,7 @@ region_forms r =
 pub count_is : (r : RegionView) (a b : ℕ) → a ≡ sum_by given_form_count r.lines.givens → b ≡ sum_by relation_form_count r.lines.rows → a + b ≡ obligation_count r
 count_is r a b p q = ap (λ x. x + b) p ∙ ap (λ y. sum_by given_form_count r.lines.givens + y) q ∙ region_forms r
 
--- a given more
+-- one more given
 pub given_more : (gs : List Given) (i a k whole : ℕ) (g : Given) → i < length gs → g ≡ get_or gs i g → k ≡ given_form_count (given_view g)
     → fold (λ s x. s + given_form_count x) a (map given_view (drop i gs)) ≡ whole → fold (λ s x. s + given_form_count x) (a + k) (map given_view (drop (i + 1) gs)) ≡ whole
 given_more gs i a k whole g lt at forms rest =

@@ -17,7 +17,7 @@ use Rattle.it_certificate.specs.Reports.{verb_answer}
 use Rattle.it_certificate.proofs.FitLemmas.{answer_fits, key_ok, origins_fit}
 use Rattle.it_certificate.proofs.WithinLemmas.{map_some}
 
--- the answer is a region
+-- an answer of the kind `region` is a region
 answers_region : (v : NamesView) (verb : VerbView) (d : Data) (a : AnswerView) → verb_answer v verb kinds.Region d ≡ Ok a → IsRegion a
 answers_region v (Prove r) d a is = absurd (cc)
 answers_region v (Eliminate rates) d a is =
@@ -26,7 +26,7 @@ answers_region v (Eliminate rates) d a is =
     subst IsRegion h.1.1 tt
 answers_region v (Contain first second tries) d a is = absurd (cc)
 
--- and each of its rows has a certificate
+-- each row of the answer has a certificate
 each_has_one : (a : AnswerView) (d : Data) (ws : List CertificateView) → answer_origins a d ≡ Ok ws → (length ws ≡ length (rows_of a)) × All IsNumbered ws
 unfolding answer_origins
 each_has_one a d ws is = origins_fit (length (rows_of a)) d ws (key_ok keys.Origins (origins_at (length (rows_of a)) d) ws is)

@@ -34,7 +34,7 @@ use Rattle.it_certificate.specs.Steps.{GivesKeyed, fault_by}
 use Rattle.it_certificate.specs.AnswerReading.{and_then}
 use Rattle.it_certificate.proofs.SourceLemmas.{source_there}
 
--- of a line that isn't a misfit, by whether it tells bounds
+-- the reading of a line that isn't a misfit, by whether it tells bounds
 abbrev reading_of : Option Source → Data → Bool → Result Reading Key
 reading_of own d outer = cond outer (bounded_of own d) (reading_by own (factor_kind_at d) d)
 
@@ -202,7 +202,7 @@ module _ (d : Data) (told : false ≡ tells_misfit d) (outer : false ≡ tells_o
       region_err faults.Memory by = tt
 
       module _ (a : Answer) (answered : verb_answer (question_view q).body.names (question_view q).body.verb kinds.Region d ≡ Ok (answer_view a)) where
-        -- with what is read of the origins
+        -- the reading with what is read of the origins
         origins_as : (s : Result (List CertificateView) Key) → answer_origins (answer_view a) d ≡ s → ReadsAs d (and_then s (λ ws. Ok (Derived gives.0 (answer_view a) ws)))
         origins_as s by = subst (λ z. ReadsAs d (and_then z (λ ws. Ok (Derived gives.0 (answer_view a) ws)))) by
             (region_as gives.0 (Ok (answer_view a)) gives.1 (region_as_asked gives.0 (question_view q) (Ok (answer_view a)) gives.2 answered))

@@ -280,7 +280,7 @@ no_misfit text v (Region rows) = refl
 no_misfit text v (Contained parts proofs) = refl
 no_misfit text v (Open tried) = refl
 
--- the word is none about factors, and an answer doesn't write a phase
+-- the word of an answer is none about factors, and its value has no phase
 no_factor : (text : List ℕ) (v : NamesView) (a : AnswerView) → factor_kind_at (answer_value text v a) ≡ None
 unfolding factor_kind_at answer_value answer_members
 no_factor text v (Yes proofs) = refl
@@ -299,7 +299,7 @@ no_bounds text v (Region rows) = refl
 no_bounds text v (Contained parts proofs) = refl
 no_bounds text v (Open tried) = refl
 
--- and no code
+-- an answer's value has no code
 no_code : (text : List ℕ) (v : NamesView) (a : AnswerView) → tells_code (answer_value text v a) ≡ false
 unfolding tells_code answer_value answer_members
 no_code text v (Yes proofs) = refl
@@ -309,7 +309,7 @@ no_code text v (Region rows) = refl
 no_code text v (Contained parts proofs) = refl
 no_code text v (Open tried) = refl
 
--- and no origins
+-- an answer's value has no origins
 no_origins : (text : List ℕ) (v : NamesView) (a : AnswerView) → tells_origins (answer_value text v a) ≡ false
 unfolding tells_origins answer_value answer_members
 no_origins text v (Yes proofs) = refl

@@ -13,7 +13,7 @@ nonzero_passes (pos zero) other = absurd (other refl)
 nonzero_passes (pos (suc n)) other = search (rules)
 nonzero_passes (negsuc n) other = search (rules)
 
--- and only such a number does
+-- a number that passes the test isn't 0
 not_zero : (z : ℤ) → not (unsigned_abs z == 0) ≡ true → z ≢ pos 0
 not_zero z is e = let f : not (unsigned_abs z == 0) ≡ false = ap (λ x. not (unsigned_abs x == 0)) e in cc
 

@@ -62,7 +62,7 @@ nothing_is d t c s (Text q) h = t q h
 nothing_is d t c s (Copies q copies) h = c q copies h
 nothing_is d t c s (Sharing x) h = s x h
 
--- where there is a sharing file
+-- an object with a sharing file
 module _ (d : Data) (there : is_some (get (codes "sharing") d) ≡ true) where
   unless_shared : ((x : SharingView) → IsSharingText d x → ⊥) → IsSourceAt d None
   unless_shared s = nothing_is d (λ q h. there_or_not (get (codes "sharing") d) there (none_there (get (codes "sharing") d) h.no_sharing))
@@ -89,7 +89,7 @@ module _ (d : Data) (there : is_some (get (codes "sharing") d) ≡ true) where
     pub sharing_given : (bytes : List ℕ) (r : Result Question Refusal) → bytes ≡ text → GivesMade bytes r → GivesSource d r
     sharing_given bytes r e gives = by_made r (subst (λ (b : List ℕ). GivesMade b r) e gives)
 
--- where there is none, and there is a head
+-- an object without a sharing file and with a head
 module _ (d : Data) (no_sharing : is_some (get (codes "sharing") d) ≡ false) (there : is_some (get (codes "copies") d) ≡ true) where
   unless_copied : ((q : QuestionView) (copies : List CopyView) → IsTextWithCopies d q copies → ⊥) → IsSourceAt d None
   unless_copied c = nothing_is d (λ q h. there_or_not (get (codes "copies") d) there (none_there (get (codes "copies") d) h.no_copies)) c
@@ -127,7 +127,7 @@ module _ (d : Data) (no_sharing : is_some (get (codes "sharing") d) ≡ false) (
         by_result (Err refusals.Shape) gives = none_asked gives
         by_result (Err refusals.Memory) gives = tt
 
--- where there is neither
+-- an object with neither
 module _ (d : Data) (no_sharing : is_some (get (codes "sharing") d) ≡ false) (no_copies : is_some (get (codes "copies") d) ≡ false) where
   unless_text : ((q : QuestionView) → IsQuestionText d q → ⊥) → IsSourceAt d None
   unless_text t = nothing_is d t (λ q copies h. there_or_not (get (codes "copies") d) (some_text (get (codes "copies") d) h.head h.head_there) no_copies)
@@ -186,7 +186,7 @@ extension_or_not q copies = by_verb q.verb refl
     by_verb (Eliminate rates) about = inr (λ x. subst IsProof about x.made.proof)
     by_verb (Contain first second tries) about = inr (λ x. subst IsProof about x.made.proof)
 
--- bytes make a question or they don't
+-- bytes are a sharing file that makes a question, or they aren't
 by_sharing : (bytes : List ℕ) → length bytes ≤ 1048576 → ((x : SharingView) × IsSharingFile bytes x) ⊎ ((line : ℕ) × (column : ℕ) × (c : Code) × SharingFaultAt bytes line column c)
     → ((x : SharingView) × IsMakeable bytes x) ⊎ ((x : SharingView) → IsMakeable bytes x → ⊥)
 by_sharing bytes short (inl h) = by_count (cases_lt most_lines (minimal_count h.0 + maximal_count h.0))
@@ -198,7 +198,7 @@ by_sharing bytes short (inl h) = by_count (cases_lt most_lines (minimal_count h.
     by_count (inr few) = inl (h.0, record { short = short; reads = h.1; few = few })
 by_sharing bytes short (inr h) = inr (λ x m. sharing_or_fault bytes x h.0 h.1 h.2 m.reads h.3)
 
--- or ask for copies
+-- bytes ask for copies in one question, or they don't
 by_copies : (bytes : List ℕ) → length bytes ≤ 1048577 → ((copies : List CopyView) × (qs : List QuestionView) × IsCopyFile bytes copies qs) ⊎ ((line : ℕ) × (column : ℕ) × (c : Code) × CopyFileFaultAt bytes line column c)
     → ((q : QuestionView) × (copies : List CopyView) × AsksOnly bytes q copies) ⊎ ((q : QuestionView) (copies : List CopyView) → AsksOnly bytes q copies → ⊥)
 by_copies bytes short (inl h) = by_questions h.1 refl
@@ -220,7 +220,7 @@ by_copies bytes short (inl h) = by_questions h.1 refl
     by_questions (q ∷ r ∷ qs) e = inr (λ p copies a. let same : p ∷ [] ≡ q ∷ r ∷ qs = (other p copies a).1 ∙ e in cc)
 by_copies bytes short (inr h) = inr (λ q copies a. copy_file_or_fault bytes copies (q ∷ []) h.0 h.1 h.2 a.reads h.3)
 
--- or read as one question
+-- a text reads as one question, or it doesn't
 by_file : (text : List ℕ) → length text ≤ 1048577 → ((qs : List QuestionView) × IsFile text qs) ⊎ ((line : ℕ) × (column : ℕ) × (c : Code) × FileFaultAt text line column c)
     → ((q : QuestionView) × IsFile text (q ∷ [])) ⊎ ((q : QuestionView) → length text ≤ 1048577 → IsFile text (q ∷ []) → ⊥)
 by_file text short (inl h) = by_questions h.0 h.1

@@ -99,12 +99,12 @@ aim_small v = (
   λ l e u. always_weaker (to_end (bound (scope_of v true))) (λ p r. AreSmall p → HasSmallNumbers r) (λ p r. AreSmall ((l ∷ []) ++ (p ++ [])) → HasSmallNumbers r) (λ p r h small. h (front_small p [] (rest_small (l ∷ []) (p ++ []) small))) (bound_line_small v),
 )
 
--- of a form after another one, whatever that read
+-- a fact of a form after another one, whatever that one read
 then_any : {A B : Type 0} (f : Form A) (g : A → Form B) (P : Fact B) → ((p : List Letter) (a : A) → Always (g a) (λ q y. P (p ++ q) y)) → Always (Then f g) P
 unfolding Always
 then_any f g P each = always_any f (λ p a. Always (g a) (λ q y. P (p ++ q) y)) each
 
--- or where that always has a fact
+-- a fact of a form after another one that always has a fact
 then_by : {A B : Type 0} (f : Form A) (g : A → Form B) (F : Fact A) (P : Fact B) → Always f F → ((p : List Letter) (a : A) → F p a → Always (g a) (λ q y. P (p ++ q) y)) → Always (Then f g) P
 unfolding Always
 then_by f g F P h each = always_weaker f F (λ p a. Always (g a) (λ q y. P (p ++ q) y)) each h

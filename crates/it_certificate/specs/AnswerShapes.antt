@@ -26,7 +26,7 @@ pub record IsNumbered (c : CertificateView) : Type 0 where
   pub scale : IsWithin c.scale
   pub weights : All IsNumberedAmount c.weights
 
--- a row of a space with so many coordinates
+-- a row over `size` coordinates
 pub record IsRowIn (size : ℕ) (r : Mark × Terms) : Type 0 where
   pub terms : All IsNumberedAmount r.1
   pub canonical : IsCanonical r.1
@@ -51,8 +51,8 @@ pub record HasContainmentShape (first second : RegionView) (parts : List ℕ) (p
   pub obligations : length proofs ≡ obligation_count second
   pub numbers : All IsNumbered proofs
 
--- The shape of the answers that a question of this verb wants: a certificate a target; a value a coordinate, and the second target
--- where there are two; rows; sets and certificates; a cause; how many candidates were tried.
+-- The shape of the answers that a question of this verb wants: a certificate for each target; a value for each coordinate, and
+-- the second target only where there are two; rows; sets and certificates; a cause; the number of candidates tried.
 abbrev pub HasVerbShape : NamesView → VerbView → AnswerView → Type 0
 HasVerbShape v (Prove r) (Yes proofs) = (length proofs ≡ length (targets (length v.variables) r)) × All IsNumbered proofs
 HasVerbShape v (Prove r) (No back values) = (length values ≡ size_of (space_of v)) × All IsWithin values × (back ≡ true → is_equation (kind_of r.sign) ≡ true)

@@ -1,4 +1,5 @@
--- An outer bound in a report: rows, a certificate of each, and rays, each with the rows that go after it when their hull is made.
+-- An outer bound in a report: rows, a certificate of each, and rays, each with the rows that are dropped after it when their
+-- hull is made.
 use Rattle.std.specs.Prelude.{◌≡◌, ℕ, List, length, map, All, codes, Option, Some, option_map, option_and_then, Result, Ok, Err, ok_or}
 use Rattle.std.specs.Option.{option_zip}
 use Rattle.serde_json.specs.Data.{Data}
@@ -34,11 +35,11 @@ bounds_view b = record { rows = b.rows.items; proofs = map certificate_view b.pr
 unfoldable pub unmarked_rows_at : ℕ → Data → Option (List Terms)
 unmarked_rows_at size d = list_at (unmarked_row_at size) (get (codes "rows") d)
 
--- a row that goes: its number in the list as it stands, and a certificate that it follows from the others
+-- a row that is dropped: its number in the list as it stands, and a certificate that it follows from the others
 unfoldable pub drop_at : Data → Option DropView
 drop_at d = option_map (λ p. record { row = p.0; proof = p.1 }) (option_zip (option_and_then count_at (get (codes "row") d)) (certificate_at d))
 
--- a ray of so many values, and the rows that go after it
+-- a ray of `size` values, and the rows that are dropped after it
 unfoldable pub step_at : ℕ → Data → Option StepView
 step_at size d = option_map (λ p. record { ray = p.0; drops = p.1 }) (option_zip (point_at size d) (list_at drop_at (get (codes "drops") d)))
 
@@ -46,7 +47,7 @@ step_at size d = option_map (λ p. record { ray = p.0; drops = p.1 }) (option_zi
 unfoldable pub steps_at : ℕ → Data → Option (List StepView)
 steps_at size d = list_at (step_at size) (get (codes "rays") d)
 
--- bounds over a space with so many coordinates: rows, a certificate of each, and rays
+-- bounds over a space with `size` coordinates: rows, a certificate of each, and rays
 unfoldable pub bounds_at : ℕ → Data → Result BoundsView Key
 bounds_at size d =
     and_then (ok_or (unmarked_rows_at size d) keys.Rows) (λ rows.

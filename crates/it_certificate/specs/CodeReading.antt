@@ -1,4 +1,5 @@
--- The linear code that a report line says a point to be of: its keys, each as far as its shape goes, and the shape of what is read.
+-- The linear code that a report line claims for a point: its keys, each as far as its shape goes, and the shape of what is
+-- read.
 use Rattle.std.specs.Prelude.{◌≡◌, ℕ, ◌+◌, ◌^◌, ◌≤◌, ◌==◌, List, length, Bool, false, ◌&&◌, if◌then◌else◌, codes, Option, Some, None, option_map, option_and_then, is_some, nat_le, Result, ok_or}
 use Rattle.std.specs.Option.{option_map_or}
 use Rattle.std.specs.Str.{bytes_eq}
@@ -23,7 +24,7 @@ pub record ReportedCodeView : Type 0 where
   pub code : CodeView
   pub times : ℕ
 
--- that as contracts see it
+-- a reported code as contracts see it
 abbrev pub reported_code_view : ReportedCode → ReportedCodeView
 reported_code_view c = record { code = code_view c.code; times = c.times }
 
@@ -33,7 +34,7 @@ reported_code_view c = record { code = code_view c.code; times = c.times }
 unfoldable pub tells_code : Data → Bool
 tells_code d = option_map_or (λ text. bytes_eq text (codes "no") && is_some (get (codes "code") d)) (text_of (get (codes "answer") d)) false
 
--- the field of so many elements
+-- the field of `n` elements
 abbrev pub field_of : ℕ → Option Field
 field_of n = if n == 2 then Some Two else if n == 3 then Some Three else None
 
@@ -50,11 +51,11 @@ some_of n = if nat_le 1 n then Some n else None
 abbrev pub field_at : Data → Option Field
 field_at d = option_and_then field_of (option_and_then count_at (get (codes "field") d))
 
--- how many symbols a message has
+-- the number of symbols of a message
 abbrev pub symbols_at : Field → Data → Option ℕ
 symbols_at field d = option_and_then (below (most_symbols field + 1)) (option_and_then count_at (get (codes "symbols") d))
 
--- what a symbol counts
+-- what one symbol counts in the values of a point
 abbrev pub times_at : Data → Option ℕ
 times_at d = option_and_then some_of (option_and_then count_at (get (codes "times") d))
 
@@ -70,11 +71,11 @@ function_at q k d = option_and_then (of_length k) (list_at (coefficient_at q) (S
 unfoldable pub variable_at : ℕ → ℕ → Data → Option (List (List ℕ))
 variable_at q k d = list_at (function_at q k) (Some d)
 
--- so many variables
+-- `n` variables
 unfoldable pub variables_at : ℕ → ℕ → ℕ → Data → Option (List (List (List ℕ)))
 variables_at q k n d = option_and_then (of_length n) (list_at (variable_at q k) (get (codes "functions") d))
 
--- a code of so many variables
+-- a code of `n` variables
 unfoldable pub code_in : ℕ → Data → Option ReportedCodeView
 code_in n d =
     option_and_then (λ field.
@@ -89,7 +90,7 @@ names_code v d = ok_or (option_and_then (code_in (length v.variables)) (get (cod
 
 -- ---- what is read
 
--- the shape of a code of so many variables, right or not
+-- the shape of a code of `n` variables, right or not
 pub record HasCodeShape (n : ℕ) (c : ReportedCodeView) : Type 0 where
   pub variables : variables_of c.code ≡ n
   pub messages : size c.code.field ^ c.code.symbols ≤ most_messages

@@ -1,4 +1,5 @@
--- What a report line says of factors: the words of its kinds, its keys, each as far as its shape goes, and the first of them at fault.
+-- What a report line says of factors: the words of its kinds, its keys, each as far as its shape goes, and the first key at
+-- fault.
 use Rattle.std.specs.Prelude.{ℕ, ◌^◌, ℤ, List, [], ◌∷◌, Bool, if◌then◌else◌, codes, Option, Some, None, option_and_then, is_some, Result, Ok, Err, ok_or, bytes_eq}
 use Rattle.std.specs.Map.{lookup}
 use Rattle.std.specs.Option.{option_zip}
@@ -25,7 +26,7 @@ use Rattle.it_certificate.specs.Parts.{certificate_at, count_at, integer_at, lis
 
 -- ---- words
 
--- the kind of a word; `undecided` is about factors where a phase is told
+-- the kind of a word; `undecided` is about factors where a phase is given
 abbrev pub factor_kind_of : Bool → List ℕ → Option FactorKind
 factor_kind_of phased text =
     if bytes_eq text (codes "best") then Some kinds.Least else
@@ -33,7 +34,7 @@ factor_kind_of phased text =
     if bytes_eq text (codes "unbounded") then Some kinds.Unbounded else
     if bytes_eq text (codes "undecided") then (if phased then Some kinds.Undecided else None) else None
 
--- the kind of what is said of factors; none where the line is about something else
+-- the kind of what a line says of factors, None where it is about something else
 unfoldable pub factor_kind_at : Data → Option FactorKind
 factor_kind_at d = option_and_then (factor_kind_of (is_some (get (codes "phase") d))) (text_of (get (codes "answer") d))
 
@@ -52,12 +53,12 @@ ratio_at d = option_and_then (λ p. option_zip (integer_at p.0) (integer_at p.1)
 abbrev pub factor_at : Data → Option (ℤ × ℤ)
 factor_at d = option_and_then ratio_at (get (codes "factor") d)
 
--- one certificate
+-- the certificate of a list of one
 abbrev pub one_of : List CertificateView → Option CertificateView
 one_of (proof ∷ []) = Some proof
 one_of proofs = None
 
--- two
+-- the certificates of a list of two
 abbrev pub both_of : List CertificateView → Option (CertificateView × CertificateView)
 both_of (proof ∷ below ∷ []) = Some (proof, below)
 both_of proofs = None
@@ -83,14 +84,14 @@ cause_with words.Size steps phase = causes.Size
 
 -- ---- what is found
 
--- the least factor: the factor, one certificate and a value for each of so many coordinates
+-- the least factor: the factor, one certificate and a value for each of `size` coordinates
 unfoldable pub least_at : ℕ → Data → Result BestView Key
 least_at size d =
     and_then (ok_or (factor_at d) keys.Factor) (λ factor.
     and_then (ok_or (option_and_then one_of (certificates_at d)) keys.Proofs) (λ proof.
     and_then (ok_or (point_at size d) keys.Point) (λ values. Ok (Least factor.0 factor.1 proof values))))
 
--- no factor: the values
+-- no factor: a value for each of `size` coordinates
 unfoldable pub never_at : ℕ → Data → Result BestView Key
 never_at size d = and_then (ok_or (point_at size d) keys.Point) (λ values. Ok (Never values))
 
@@ -107,13 +108,13 @@ undecided_factor_at d =
     and_then (ok_or (steps_at d) keys.At) (λ steps.
     and_then (ok_or (phase_at d) keys.Phase) (λ phase. Ok (Undecided (cause_with cause steps phase)))))
 
--- by the kind
+-- what is found of this kind
 abbrev pub best_at : ℕ → FactorKind → Data → Result BestView Key
 best_at size kinds.Least d = least_at size d
 best_at size kinds.Never d = never_at size d
 best_at size kinds.Unbounded d = unbounded_at d
 best_at size kinds.Undecided d = undecided_factor_at d
 
--- of a question with these names and this verb, which has to ask about a relation with `>=`
+-- what is found of this kind for a question with these names and this verb, which has to ask about a relation with `>=`
 abbrev pub verb_best : NamesView → VerbView → FactorKind → Data → Result BestView Key
 verb_best v verb kind d = if is_some (asked_by verb) then best_at (size_of (space_of v)) kind d else Err keys.Answer

@@ -10,7 +10,7 @@ use Rattle.it_ratio.specs.BestViews.{BestView, Least, Never, Unbounded, Undecide
 use Rattle.it_ratio.specs.Truth.{asked_by}
 use Rattle.it_certificate.specs.AnswerShapes.{IsNumbered}
 
--- a value within the limit for each of so many coordinates
+-- a value within the limit for each of `size` coordinates
 pub record AreValues (size : ℕ) (values : List ℤ) : Type 0 where
   pub each : length values ≡ size
   pub within : All IsWithin values
@@ -27,7 +27,7 @@ IsSmallCause (Width step phase) = (step < 2 ^ 32) × (phase < 2 ^ 8)
 IsSmallCause Scale = Unit {0}
 IsSmallCause Size = Unit {0}
 
--- the shape over so many coordinates
+-- the shape over `size` coordinates
 abbrev pub HasBestShape : ℕ → BestView → Type 0
 HasBestShape size (Least num den proof values) = IsRatio num den × IsNumbered proof × AreValues size values
 HasBestShape size (Never values) = AreValues size values

@@ -24,14 +24,14 @@ steps_of (Width step phase) = step
 steps_of Scale = 0
 steps_of Size = 0
 
--- its phase, 0 where it has none
+-- the phase of a cause, 0 where it has none
 abbrev pub phase_of : BestCause → ℕ
 phase_of (Pivots steps phase) = phase
 phase_of (Width step phase) = phase
 phase_of Scale = 0
 phase_of Size = 0
 
--- the members of what is found but for what it is about; the keys in alphabetical order
+-- the members of what is found, without what it is about; the keys in alphabetical order
 unfoldable pub best_members : BestView → Members
 best_members (Least num den proof values) =
     member (codes "answer") (string (codes "best"))

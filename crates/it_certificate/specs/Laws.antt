@@ -31,7 +31,8 @@ abbrev pub ReadsBack : Type 0
 ReadsBack = (q : QuestionView) (answer : AnswerView) → length q.text ≤ 1048577 → IsFile q.text (q ∷ []) → HasQuestionShape q.body answer
     → ReadsAs (answer_value q.text q.body.names answer) (Ok (Answered (Text q) (written_answer answer)))
 
--- The value of a region with a certificate for each of its rows, which fit its question, reads as that question with that region and these.
+-- The value of a region with a certificate for each of its rows, which fit the question, reads as that question with that
+-- region and these certificates.
 abbrev pub OriginsReadBack : Type 0
 OriginsReadBack = (q : QuestionView) (rows : List (Mark × Terms)) (origins : List CertificateView) → length q.text ≤ 1048577 → IsFile q.text (q ∷ []) → HasDerivedShape q.body (Region rows) origins
     → ReadsAs (derived_value q.text q.body.names rows origins) (Ok (Derived (Text q) (Region rows) (map without_zeros origins)))

@@ -2,15 +2,15 @@
 use Rattle.std.specs.Prelude.{ℕ, ◌^◌, ◌==◌, ◌&&◌, ℤ, pos, negsuc, neg_ℤ, List, [], ◌∷◌, length, if◌then◌else◌, Option, Some, None, option_map, option_and_then, nat_le, nat_lt}
 use Rattle.it_number.specs.Decimals.{value_from}
 
--- a number below a bound
+-- `n` if it is below `bound`
 abbrev pub below : ℕ → ℕ → Option ℕ
 below bound n = if nat_lt n bound then Some n else None
 
--- 1 to 39 digits with a value up to the limit
+-- the value of 1 to 39 digits, if it is within the limit
 unfoldable pub magnitude_of : List ℕ → Option ℕ
 magnitude_of ds = if nat_le 1 (length ds) && nat_le (length ds) 39 then option_and_then (below (2 ^ 127)) (value_from 0 ds) else None
 
--- such digits, or `-` and such digits after it: the value of a decimal text
+-- the value of a decimal text: of such digits, or of `-` and such digits after it
 unfoldable pub integer_of : List ℕ → Option ℤ
 integer_of [] = None
 integer_of (c ∷ cs) = if c == 45 then option_map (λ n. neg_ℤ (pos n)) (magnitude_of cs) else option_map pos (magnitude_of (c ∷ cs))

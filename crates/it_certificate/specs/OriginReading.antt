@@ -1,5 +1,5 @@
--- The certificates of a region's rows in a report, by which they follow from the question's lines: its key, as far as its shape goes, and the
--- shape of what is read.
+-- The certificates of a region's rows in a report, by which they follow from the question's lines: their key, as far as its
+-- shape goes, and the shape of what is read.
 use Rattle.std.specs.Prelude.{◌≡◌, List, [], length, map, Bool, false, ◌&&◌, All, codes, is_some, Result, ok_or}
 use Rattle.std.specs.Option.{option_map_or}
 use Rattle.std.specs.Str.{bytes_eq}

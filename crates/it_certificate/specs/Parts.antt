@@ -36,12 +36,12 @@ two_of ds = None
 unfoldable pub pair_at : Data → Option (ℕ × ℤ)
 pair_at d = option_and_then (λ p. option_zip (count_at p.0) (integer_at p.1)) (option_and_then two_of (as_array d))
 
--- each item by f, where each has one
+-- `f` of each item, where each has one
 abbrev pub all_of : {A : Type 0} → (Data → Option A) → Items → Option (List A)
 all_of f no_items = Some []
 all_of f (item d ds) = option_and_then (λ a. option_map (λ rest. a ∷ rest) (all_of f ds)) (f d)
 
--- a member that is an array, each item by f
+-- `f` of each item of a member that is an array
 abbrev pub list_at : {A : Type 0} → (Data → Option A) → Option Data → Option (List A)
 list_at f d = option_and_then (all_of f) (option_and_then as_array d)
 
@@ -58,19 +58,19 @@ certificate_at d = option_map (λ p. record { scale = p.0; weights = p.1 })
 unfoldable pub answer_kind_at : Data → Option AnswerKind
 answer_kind_at d = option_and_then answer_kind_of (text_of (get (codes "answer") d))
 
--- so many certificates of a member
+-- the certificates of a member, `n` of them
 abbrev pub certificates_of : ℕ → Option Data → Option (List CertificateView)
 certificates_of n d = option_and_then (of_length n) (list_at certificate_at d)
 
--- so many that prove an answer
+-- the certificates that prove an answer, `n` of them
 unfoldable pub proofs_at : ℕ → Data → Option (List CertificateView)
 proofs_at n d = certificates_of n (get (codes "proofs") d)
 
--- so many from which rows come
+-- the certificates that say from which lines rows come, `n` of them
 unfoldable pub origins_at : ℕ → Data → Option (List CertificateView)
 origins_at n d = certificates_of n (get (codes "origins") d)
 
--- so many values
+-- the values of a point, `n` of them
 unfoldable pub point_at : ℕ → Data → Option (List ℤ)
 point_at n d = option_and_then (of_length n) (list_at integer_at (get (codes "point") d))
 
@@ -82,7 +82,8 @@ back_at equality d = option_and_then (back_of equality) (text_of (get (codes "si
 unfoldable pub cause_kind_at : Data → Option CauseKind
 cause_kind_at d = option_and_then cause_kind_of (text_of (get (codes "cause") d))
 
--- a cause of this kind with its budget, its step or its rate, one of these names; a number too wide came at a step or else at a rate
+-- a cause of this kind at `place`: a budget, a step, or a rate, which is one of these names; what is too wide is so at a step
+-- or else at a rate
 abbrev pub cause_of : List (List ℕ) → CauseKind → List ℕ → Option Cause
 cause_of rates causes.Pivots place = option_map Pivots (step_of place)
 cause_of rates causes.Width place = option_or (option_map Width (step_of place)) (option_map WideRate (index_of rates place))
@@ -93,12 +94,12 @@ cause_of rates causes.Rows place = option_map Rows (index_of rates place)
 unfoldable pub cause_at : List (List ℕ) → CauseKind → Data → Option Cause
 cause_at rates kind d = option_and_then (cause_of rates kind) (text_of (get (codes "at") d))
 
--- coordinates that ascend from one number up to another, and no coefficient is 0
+-- whether the coordinates ascend from at least `from` to at most `size`, and no coefficient is 0
 abbrev pub is_row_between : ℕ → ℕ → Terms → Bool
 is_row_between from size [] = true
 is_row_between from size (t ∷ ts) = (nat_le from t.0 && (nat_le t.0 size && not (unsigned_abs t.1 == 0))) && is_row_between (t.0 + 1) size ts
 
--- a row of a space with so many coordinates
+-- the terms, if they are those of a row over `size` coordinates
 abbrev pub row_of : ℕ → Terms → Option Terms
 row_of size ts = if is_row_between 1 size ts then Some ts else None
 
@@ -118,6 +119,6 @@ rows_at size d = list_at (marked_row_at size) (get (codes "rows") d)
 unfoldable pub set_at : ℕ → Data → Option ℕ
 set_at n d = option_and_then (below (2 ^ n)) (count_at d)
 
--- so many sets of n variables
+-- `count` sets of `n` variables
 unfoldable pub parts_at : ℕ → ℕ → Data → Option (List ℕ)
 parts_at count n d = option_and_then (of_length count) (list_at (set_at n) (get (codes "parts") d))

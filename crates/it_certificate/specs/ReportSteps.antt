@@ -24,23 +24,23 @@ use Rattle.it_certificate.specs.declared.types.Reported.{Reported}
 use Rattle.it_certificate.specs.Reports.{IsReported, ReadsAs, Reading}
 use Rattle.it_certificate.specs.Sources.{AsksOnly, IsMakeable, IsSourceOf, Source, Copies, asked, source_key}
 
--- how many forms a demand of this kind says to be at least 0
+-- the number of forms that a demand of this kind says to be at least 0
 abbrev pub form_count : Kind → ℕ
 form_count Inequality = 1
 form_count Equation = 2
 
--- how many targets a relation of this sign has
+-- the number of targets of a relation of this sign
 abbrev pub target_count : Sign → ℕ
 target_count sign = form_count (kind_of sign)
 
--- how many forms a given says to be at least 0: two an equation
+-- the number of forms that a given says to be at least 0: two for an equation
 abbrev pub given_form_count : GivenView → ℕ
 given_form_count (Relation r) = target_count r.sign
 given_form_count (Markov sets) = 2 * (length sets - 2)
 given_form_count (Independent members given) = 2
 given_form_count (Function value argument) = 2
 
--- how many a relation does
+-- the number of forms that a relation says to be at least 0
 abbrev pub relation_form_count : RelationView → ℕ
 relation_form_count r = target_count r.sign
 
@@ -55,7 +55,7 @@ GivesOnly text (Ok q) = (length text ≤ 1048577) × IsFile text (question_view 
 GivesOnly text (Err Shape) = (q : QuestionView) → length text ≤ 1048577 → IsFile text (q ∷ []) → ⊥
 GivesOnly text (Err Memory) = Unit {0}
 
--- what the reader of bytes as a file with a head gave: its only question with the copies
+-- what the reader of bytes as a file with a head gave: the file's only question with the copies
 abbrev pub GivesCopied : List ℕ → Result Question Refusal → Type 0
 GivesCopied bytes (Ok e) = (q : QuestionView) × (copies : List CopyView) × AsksOnly bytes q copies × (asked (Copies q copies) ≡ question_view e)
 GivesCopied bytes (Err Shape) = (q : QuestionView) (copies : List CopyView) → AsksOnly bytes q copies → ⊥
@@ -67,7 +67,7 @@ GivesExtended copies qs (Ok e) = (q : QuestionView) × (qs ≡ q ∷ []) × IsEx
 GivesExtended copies qs (Err Shape) = (q : QuestionView) → qs ≡ q ∷ [] → IsExtension q.body copies (extended q.body copies) → ⊥
 GivesExtended copies qs (Err Memory) = Unit {0}
 
--- why the only question isn't extended, by what is against its copies
+-- why the only question isn't extended, by the fault of its copies
 abbrev pub refusal_by : CopyFault → Refusal
 refusal_by copy_faults.Memory = Memory
 refusal_by fault = Shape

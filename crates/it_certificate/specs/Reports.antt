@@ -50,8 +50,13 @@ verb_answer v verb kind d = Err keys.Answer
 
 -- ---- the report
 
--- what a line says: an answer to what it is about; a no with a code that its point is said to be of; a region with a certificate for each of its rows; what is found of the factors of its relation; an outer bound; or that a question can't
--- have what is asked for, which claims nothing
+-- what a line says
+-- `Answered`: an answer to what the line is about
+-- `Coded`: a no, with the code claimed for its point
+-- `Derived`: a region, with a certificate for each of its rows
+-- `Factored`: what is found of the factors of the relation
+-- `Bounded`: an outer bound
+-- `Misfit`: that a question can't have what is asked for, which claims nothing
 pub data Reading : Type 0 where
   Answered : (source : Source) (answer : AnswerView) → Reading
   Coded : (source : Source) (answer : AnswerView) (code : ReportedCodeView) → Reading
@@ -64,7 +69,7 @@ pub data Reading : Type 0 where
 unfoldable pub tells_misfit : Data → Bool
 tells_misfit d = option_map_or (λ text. bytes_eq text (codes "misfit")) (text_of (get (codes "answer") d)) false
 
--- whether it is `outer`
+-- whether the word of the answer is `outer`
 unfoldable pub tells_outer : Data → Bool
 tells_outer d = option_map_or (λ text. bytes_eq text (codes "outer")) (text_of (get (codes "answer") d)) false
 
@@ -76,54 +81,54 @@ answer_to source kind d = verb_answer (asked source).body.names (asked source).b
 abbrev pub best_to : Source → FactorKind → Data → Result BestView Key
 best_to source kind d = verb_best (asked source).body.names (asked source).body.verb kind d
 
--- the code of that question's variables
+-- the code of the variables of the question that is asked
 abbrev pub code_to : Source → Data → Result ReportedCodeView Key
 code_to source d = names_code (asked source).body.names d
 
--- the bounds of that question
+-- the bounds of the question that is asked
 abbrev pub bounds_to : Source → Data → Result BoundsView Key
 bounds_to source d = verb_bounds (asked source).body.names (asked source).body.verb d
 
--- of a line that tells neither, with what it is about, if that is so: `answer`, what it is about, `answer` again by the verb, and what the
--- answer needs
+-- The reading of a line without code, origins, factors or bounds. `own` is what it is about, if anything. The keys are judged
+-- in this order: `answer`, that of what the line is about, `answer` again by the verb, and those that the answer needs.
 abbrev pub answer_of : Option Source → Data → Result Reading Key
 answer_of own d =
     and_then (ok_or (answer_kind_at d) keys.Answer) (λ kind.
     and_then (ok_or own (source_key d)) (λ source.
     and_then (answer_to source kind d) (λ answer. Ok (Answered source answer))))
 
--- of a no with a code, in the same order, and then its code
+-- the reading of a no with a code: in the same order, and then its code
 abbrev pub coded_of : Option Source → Data → Result Reading Key
 coded_of own d =
     and_then (ok_or own (source_key d)) (λ source.
     and_then (answer_to source No d) (λ answer.
     and_then (code_to source d) (λ code. Ok (Coded source answer code))))
 
--- of a region with origins, in the same order, and then its origins
+-- the reading of a region with origins: in the same order, and then its origins
 abbrev pub derived_of : Option Source → Data → Result Reading Key
 derived_of own d =
     and_then (ok_or own (source_key d)) (λ source.
     and_then (answer_to source Region d) (λ answer.
     and_then (answer_origins answer d) (λ origins. Ok (Derived source answer origins))))
 
--- of a line of this kind about factors, in the same order
+-- the reading of a line about factors of this kind: in the same order
 abbrev pub best_of : Option Source → FactorKind → Data → Result Reading Key
 best_of own kind d =
     and_then (ok_or own (source_key d)) (λ source.
     and_then (best_to source kind d) (λ best. Ok (Factored source best)))
 
--- of an outer bound in the same order
+-- the reading of an outer bound: in the same order
 abbrev pub bounded_of : Option Source → Data → Result Reading Key
 bounded_of own d =
     and_then (ok_or own (source_key d)) (λ source.
     and_then (bounds_to source d) (λ bounds. Ok (Bounded source bounds)))
 
--- by the kind, if the line is about factors; else by whether there is a code, or origins
+-- the reading by the kind, if the line is about factors; else by whether there is a code, or origins
 abbrev pub reading_by : Option Source → Option FactorKind → Data → Result Reading Key
 reading_by own (Some kind) d = best_of own kind d
 reading_by own None d = if tells_code d then coded_of own d else if tells_origins d then derived_of own d else answer_of own d
 
--- by the word of the answer; of a misfit nothing else is read
+-- the reading by the word of the answer; of a misfit nothing else is read
 unfoldable pub report_of : Option Source → Data → Result Reading Key
 report_of own d = if tells_misfit d then Ok Misfit else if tells_outer d then bounded_of own d else reading_by own (factor_kind_at d) d
 
@@ -150,14 +155,16 @@ IsReported (Bounded source b) (reported.Bounded question bounds) = (asked source
 IsReported Misfit reported.Misfit = Unit {0}
 IsReported reading r = ⊥
 
--- what is answered of a line: what it says, its first key at fault, that it has no JSON reading, or want of memory
+-- what the reader of a line gives: what the line says, its first key at fault, that it has no JSON reading, or that allocation
+-- failed
 abbrev pub Reports : List ℕ → Result Reported ReportFault → Type 0
 Reports line (Ok r) = (reading : Reading) × IsReported reading r × ReadsReport line (Ok reading)
 Reports line (Err (faults.Shape key)) = ReadsReport line (Err key)
 Reports line (Err faults.NotJson) = IsUtf8 line → read line ≡ None
 Reports line (Err faults.Memory) = Unit {0}
 
--- the question that was read is within the limits, and its answer, that with its code or its origins, what is found of its factors, or its bounds fit it
+-- the question that was read is within the limits, and what was read with it fits it: an answer, one with its code or its
+-- origins, what is found of its factors, or bounds
 abbrev pub KeepsLimits : Reported → Type 0
 KeepsLimits (reported.Answered q a) = IsQuestion (question_body q) × HasQuestionShape (question_body q) (answer_view a)
 KeepsLimits (reported.Coded q a c) = IsQuestion (question_body q) × HasCodedShape (question_body q) (answer_view a) (reported_code_view c)

@@ -198,7 +198,7 @@ pub record RegionsReadAsSaid : Type 0 where
   pub outside : is_fault elimination keys.Rows (codes "{\"answer\":\"region\",\"rows\":[{\"mark\":\"plain\",\"row\":[[5,\"1\"]]}]}")
   pub zero : is_fault elimination keys.Rows (codes "{\"answer\":\"region\",\"rows\":[{\"mark\":\"plain\",\"row\":[[1,\"-0\"]]}]}")
 
--- its proofs are three, and `parts` is judged before them
+-- the parts and the three proofs of a containment, of which `parts` is judged first, and the count of an open search
 pub record ContainmentsReadAsSaid : Type 0 where
   pub nothing : is_fault containment keys.Parts (codes "{\"answer\":\"contained\"}")
   pub no_part : is_fault containment keys.Parts (codes "{\"answer\":\"contained\",\"parts\":[],\"proofs\":[]}")

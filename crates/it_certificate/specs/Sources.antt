@@ -62,18 +62,19 @@ pub record IsSharingText (d : Data) (x : SharingView) : Type 0 where
   pub there : text_of (get (codes "sharing") d) ≡ Some text
   pub makes : IsMakeable text x
 
--- the object is about this
+-- the object is about this source
 abbrev pub IsSourceOf : Data → Source → Type 0
 IsSourceOf d (Text q) = IsQuestionText d q
 IsSourceOf d (Copies q copies) = IsTextWithCopies d q copies
 IsSourceOf d (Sharing x) = IsSharingText d x
 
--- what it is about, or that it is about nothing
+-- the object is about this source, or about nothing
 abbrev pub IsSourceAt : Data → Option Source → Type 0
 IsSourceAt d (Some source) = IsSourceOf d source
 IsSourceAt d None = (source : Source) → IsSourceOf d source → ⊥
 
--- the key that tells what it is about: `sharing` where the object has it, else `copies` where it has that, else `question`
+-- the key that tells what the object is about: `sharing` where the object has it, else `copies` where it has that, else
+-- `question`
 unfoldable pub source_key : Data → Key
 source_key d =
     if is_some (get (codes "sharing") d) then keys.Sharing else

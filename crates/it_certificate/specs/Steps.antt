@@ -19,7 +19,7 @@ GivesKeyed view (Err (faults.Shape key)) r = r ≡ Err key
 GivesKeyed view (Err faults.NotJson) r = ⊥
 GivesKeyed view (Err faults.Memory) r = Unit {0}
 
--- why a line isn't read, whose part at this key isn't
+-- the fault of a line whose part at `key` isn't read
 abbrev pub fault_by : Refusal → Key → ReportFault
 fault_by Memory key = faults.Memory
 fault_by Shape key = faults.Shape key

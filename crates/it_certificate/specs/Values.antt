@@ -53,7 +53,7 @@ cause_word Scale = codes "scale"
 cause_word (Rows r) = codes "rows"
 cause_word (WideRate r) = codes "width"
 
--- at which step, budget or rate a cause came
+-- the step, budget or rate of a cause, as text
 abbrev pub step_or_rate_word : NamesView → Cause → List ℕ
 step_or_rate_word v (Pivots steps) = decimal steps
 step_or_rate_word v (Width step) = decimal step
@@ -61,8 +61,8 @@ step_or_rate_word v Scale = codes "0"
 step_or_rate_word v (Rows r) = slice_index_or v.rates r []
 step_or_rate_word v (WideRate r) = slice_index_or v.rates r []
 
--- the members of an answer but for what it is about, with the names of the question that is asked; the keys in alphabetical order. The
--- side is `back` where it is the second target that is violated.
+-- the members of an answer, without what it is about; `v` has the names of the question that is asked, by which causes name
+-- rates. The keys are in alphabetical order. The side is `back` where it is the second target that is violated.
 unfoldable pub answer_members : NamesView → AnswerView → Members
 answer_members v (Yes proofs) =
     member (codes "answer") (string (codes "yes"))
@@ -98,11 +98,11 @@ answer_text text v answer = compact_text (answer_value text v answer)
 abbrev pub derived_members : NamesView → List (Mark × Terms) → List CertificateView → Members
 derived_members v rows origins = put (codes "origins") (list_value proof_value origins) (answer_members v (Region rows))
 
--- that region as the answer to the question of a text
+-- a region with a certificate for each of its rows as the answer to the question of a text
 unfoldable pub derived_value : List ℕ → NamesView → List (Mark × Terms) → List CertificateView → Data
 derived_value text v rows origins = object (put (codes "question") (string text) (derived_members v rows origins))
 
--- the line of that region
+-- the line of a region with a certificate for each of its rows
 unfoldable pub derived_text : List ℕ → NamesView → List (Mark × Terms) → List CertificateView → List ℕ
 derived_text text v rows origins = compact_text (derived_value text v rows origins)
 
@@ -124,20 +124,20 @@ misfit_members words = member (codes "answer") (string (codes "misfit")) (member
 unfoldable pub unmarked_row_value : Terms → Data
 unmarked_row_value r = object (member (codes "row") (list_value pair_value r) no_members)
 
--- a row that goes; weights of 0 are left out
+-- a row that is dropped; weights of 0 are left out
 unfoldable pub drop_value : DropView → Data
 drop_value d = object
     (member (codes "row") (count_value d.row)
     (member (codes "scale") (integer_value d.proof.scale)
     (member (codes "weights") (list_value pair_value (filter is_nonzero_weight d.proof.weights)) no_members)))
 
--- a ray, and the rows that go after it
+-- a ray, and the rows that are dropped after it
 unfoldable pub step_value : StepView → Data
 step_value s = object
     (member (codes "drops") (list_value drop_value s.drops)
     (member (codes "point") (list_value integer_value s.ray) no_members))
 
--- the members of an outer bound but for what it is about
+-- the members of an outer bound, without what it is about
 unfoldable pub bounds_members : BoundsView → Members
 bounds_members b =
     member (codes "answer") (string (codes "outer"))
@@ -157,13 +157,13 @@ source_texts (texts.Question text) = OfQuestion text.now
 source_texts (texts.Copies head text) = OfCopies head.now text.now
 source_texts (texts.Sharing text) = OfSharing text.now
 
--- with the members of what the line is about
+-- the members `ms` with those of what the line is about
 abbrev pub with_source : SourceTexts → Members → Members
 with_source (OfQuestion text) ms = put (codes "question") (ascii_string text) ms
 with_source (OfCopies head text) ms = put (codes "question") (ascii_string text) (put (codes "copies") (ascii_string head) ms)
 with_source (OfSharing text) ms = put (codes "sharing") (ascii_string text) ms
 
--- the line of these members about that
+-- the line of the members `ms` about `source`
 unfoldable pub report_text : SourceTexts → Members → List ℕ
 report_text source ms = compact_text (object (with_source source ms))
 

@@ -24,7 +24,7 @@ use it_syntax::types::Sign;
 use serde_json::Value;
 use std::alloc::Global;
 
-/// Why a line isn't read whose part at this key isn't.
+/// The fault of a line whose part at `key` isn't read, because of `refusal`.
 pub fn fault(refusal: Refusal, key: Key) -> ReportFault
     ensures { result ≡ fault_by refusal key }
 {
@@ -44,7 +44,7 @@ fn is_equality(sign: Sign) -> bool
     }
 }
 
-/// A yes: as many certificates as a relation of this sign has targets.
+/// Reads the answer `yes`: as many certificates as a relation of this sign has targets.
 pub fn yes_at(alloc: Global, value: &Value, sign: Sign) -> Result<Answer, ReportFault>
     ensures { GivesKeyed answer_view result (ok_or (option_map Yes (proofs_at (target_count sign) (view value.now))) keys.Proofs) }
 {
@@ -54,7 +54,7 @@ pub fn yes_at(alloc: Global, value: &Value, sign: Sign) -> Result<Answer, Report
     }
 }
 
-/// A no: one value a coordinate, and a side of the relation.
+/// Reads the answer `no`: a value for each coordinate, and a side of the relation.
 #[tactic(auto, unfolding(crate::specs::AnswerReading::no_at))]
 pub fn no_at(alloc: Global, value: &Value, space: Space, sign: Sign) -> Result<Answer, ReportFault>
     requires { IsSpace space }
@@ -70,7 +70,7 @@ pub fn no_at(alloc: Global, value: &Value, space: Space, sign: Sign) -> Result<A
     }
 }
 
-/// An undecided, whose rate is one of these names.
+/// Reads the answer `undecided`; a rate in it is one of `names`.
 #[tactic(auto, unfolding(crate::specs::AnswerReading::undecided_at))]
 pub fn undecided_at(value: &Value, names: &Names) -> Result<Answer, ReportFault>
     ensures { GivesKeyed answer_view result (undecided_at names.now.rates (view value.now)) }
@@ -84,7 +84,7 @@ pub fn undecided_at(value: &Value, names: &Names) -> Result<Answer, ReportFault>
     }
 }
 
-/// A region over a space with so many coordinates.
+/// Reads a region over a space with `size` coordinates.
 pub fn region_at(alloc: Global, value: &Value, size: u32) -> Result<Answer, ReportFault>
     ensures { GivesKeyed answer_view result (ok_or (option_map Region (rows_at size (view value.now))) keys.Rows) }
 {
@@ -94,7 +94,7 @@ pub fn region_at(alloc: Global, value: &Value, size: u32) -> Result<Answer, Repo
     }
 }
 
-/// A containment: a set of so many variables for each auxiliary, and one certificate an obligation.
+/// Reads a containment: `auxiliaries` sets of `variables` variables, and `obligations` certificates.
 #[tactic(auto, unfolding(crate::specs::AnswerReading::contained_at))]
 pub fn contained_at(
     alloc: Global,
@@ -116,7 +116,7 @@ pub fn contained_at(
     }
 }
 
-/// A search without an end.
+/// Reads a search in which no candidate was proved.
 pub fn open_at(value: &Value) -> Result<Answer, ReportFault>
     ensures { GivesKeyed answer_view result (ok_or (option_map Open (option_and_then count_at (get (codes "tried") (view value.now)))) keys.Tried) }
 {

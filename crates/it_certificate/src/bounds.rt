@@ -25,14 +25,14 @@ use it_spans::{RowDrop, Step};
 use serde_json::Value;
 use std::alloc::Global;
 
-/// The number of a row that goes.
+/// The number of a row that is dropped.
 fn number_at(value: &Value) -> Option<u32>
     ensures { result ≡ option_and_then count_at (get (codes "row") (view value.now)) }
 {
     count_at(value.get("row")?)
 }
 
-/// A row that goes.
+/// A row that is dropped: its number, and a certificate.
 #[tactic(auto, unfolding(crate::specs::Bounds::drop_at))]
 fn drop_at(alloc: Global, value: &Value) -> Result<RowDrop, Refusal>
     ensures { Yields drop_view result (drop_at (view value.now)) }
@@ -47,7 +47,7 @@ fn drop_at(alloc: Global, value: &Value) -> Result<RowDrop, Refusal>
     })
 }
 
-/// Rows that go, in order.
+/// Rows that are dropped, in order.
 fn drops(alloc: Global, values: &[Value]) -> Result<Vec<RowDrop>, Refusal>
     ensures { Yields (λ v. map drop_view v.items) result (all_of drop_at (items_view values.now)) }
 {
@@ -59,7 +59,7 @@ fn drops(alloc: Global, values: &[Value]) -> Result<Vec<RowDrop>, Refusal>
     Ok(out)
 }
 
-/// The rows that go of a member.
+/// The rows that are dropped, from a member.
 fn drops_of_member(alloc: Global, value: Option<&Value>) -> Result<Vec<RowDrop>, Refusal>
     ensures { Yields (λ v. map drop_view v.items) result (list_at drop_at (option_map (λ v. view v.now) value.entry)) }
 {
@@ -69,7 +69,7 @@ fn drops_of_member(alloc: Global, value: Option<&Value>) -> Result<Vec<RowDrop>,
     }
 }
 
-/// A ray, and the rows that go after it.
+/// A ray, and the rows that are dropped after it.
 #[tactic(auto, unfolding(crate::specs::Bounds::step_at))]
 fn step_at(alloc: Global, value: &Value, space: Space) -> Result<Step, Refusal>
     requires { IsSpace space }

@@ -1,4 +1,4 @@
-//! The linear code of a report: what its point is said to be of.
+//! The linear code that a report claims for its point.
 ghost use Rattle.std.specs.Prelude.{◌≡◌, ◌≤◌, map, option_and_then, option_map};
 ghost use Rattle.serde_json.specs.View.{items_view, view};
 ghost use Rattle.it_codes.specs.Codes.{functions_of, size};
@@ -33,7 +33,7 @@ pub fn tells_code(value: &Value) -> bool
 
 // ---- numbers
 
-/// The field of so many elements.
+/// The field of `elements` elements, if there is one.
 fn field_of(elements: u32) -> Option<Field>
     ensures { result ≡ field_of elements }
 {
@@ -44,7 +44,7 @@ fn field_of(elements: u32) -> Option<Field>
     }
 }
 
-/// The field.
+/// The field of a code.
 fn field_at(value: &Value) -> Option<Field>
     ensures { result ≡ field_at (view value.now) }
 {
@@ -62,7 +62,7 @@ fn most_symbols(field: Field) -> u32
     }
 }
 
-/// The number, if it is below a bound.
+/// `number`, if it is below `bound`.
 fn number_below(bound: u32, number: u32) -> Option<u8>
     requires { bound ≤ 256 }
     ensures { result ≡ below bound number }
@@ -74,7 +74,7 @@ fn number_below(bound: u32, number: u32) -> Option<u8>
     }
 }
 
-/// How many symbols a message has.
+/// The number of symbols of a message.
 fn symbols_at(field: Field, value: &Value) -> Option<u8>
     ensures { result ≡ symbols_at field (view value.now) }
 {
@@ -88,7 +88,7 @@ fn some_of(number: u32) -> Option<u32>
     if number >= 1 { Some(number) } else { None }
 }
 
-/// What a symbol counts in the point's values.
+/// What one symbol counts in the point's values.
 fn times_at(value: &Value) -> Option<u32>
     ensures { result ≡ times_at (view value.now) }
 {
@@ -97,7 +97,7 @@ fn times_at(value: &Value) -> Option<u32>
 
 // ---- functions
 
-/// An element of a field of so many elements.
+/// An element of a field of `elements` elements.
 #[tactic(auto, unfolding(crate::specs::CodeReading::coefficient_at))]
 fn coefficient_at(elements: u32, value: &Value) -> Option<u8>
     requires { elements ≤ 3 }
@@ -121,7 +121,7 @@ fn coefficients(alloc: Global, elements: u32, values: &[Value]) -> Result<Vec<u8
     Ok(out)
 }
 
-/// A linear function of so many symbols.
+/// A linear function of `symbols` symbols, by its coefficients.
 #[tactic(auto, unfolding(crate::specs::CodeReading::function_at))]
 fn function_at(alloc: Global, elements: u32, symbols: u8, value: &Value) -> Result<Vec<u8>, Refusal>
     requires { elements ≤ 3 }
@@ -192,7 +192,7 @@ fn variables(
     Ok(out)
 }
 
-/// So many variables.
+/// The functions of `count` variables.
 #[tactic(auto, unfolding(crate::specs::CodeReading::variables_at))]
 fn variables_at(
     alloc: Global,
@@ -217,7 +217,7 @@ fn variables_at(
 
 // ---- a code
 
-/// A code of so many variables.
+/// A code of `count` variables.
 #[tactic(auto, unfolding(crate::specs::CodeReading::code_in), using(it_codes::proofs::EntropyLemmas::three_elements))]
 fn code_in(alloc: Global, count: usize, value: &Value) -> Result<ReportedCode, Refusal>
     ensures { Yields reported_code_view result (code_in count (view value.now)) }
@@ -240,7 +240,7 @@ fn code_in(alloc: Global, count: usize, value: &Value) -> Result<ReportedCode, R
     Ok(ReportedCode { code, times })
 }
 
-/// The code of a member.
+/// A code of `count` variables, from a member.
 fn code_of_member(
     alloc: Global,
     count: usize,

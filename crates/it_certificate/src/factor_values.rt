@@ -23,7 +23,7 @@ fn ratio(alloc: Global, num: &i128, den: &i128) -> Result<Value, AllocError>
     json!(in alloc; [num, den])
 }
 
-/// One certificate.
+/// A list of one certificate.
 fn one_proof(alloc: Global, certificate: &Certificate) -> Result<Value, AllocError>
     ensures { IfOk result (λ v. view v ≡ list_value proof_value (certificate_view certificate.now ∷ [])) }
 {
@@ -31,7 +31,7 @@ fn one_proof(alloc: Global, certificate: &Certificate) -> Result<Value, AllocErr
     json!(in alloc; [value])
 }
 
-/// Two certificates.
+/// A list of two certificates.
 fn two_proofs(
     alloc: Global,
     certificate: &Certificate,
@@ -115,7 +115,7 @@ fn steps_of(cause: BestCause) -> u32
     }
 }
 
-/// Its phase, 0 where it has none.
+/// The phase of a cause, 0 where it has none.
 fn phase_of(cause: BestCause) -> u32
     ensures { result ≡ phase_of cause }
 {

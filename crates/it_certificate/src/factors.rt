@@ -27,7 +27,7 @@ use it_syntax::types::Sign;
 use serde_json::Value;
 use std::alloc::Global;
 
-/// The kind of what is said of factors; none where the line is about something else.
+/// The kind of what a line says of factors; None where it is about something else.
 #[tactic(auto, unfolding(crate::specs::FactorReading::factor_kind_at))]
 pub fn factor_kind_at(value: &Value) -> Option<FactorKind>
     ensures { result ≡ factor_kind_at (view value.now) }
@@ -80,7 +80,7 @@ fn both_of(certificates: Vec<Certificate>) -> Option<(Certificate, Certificate)>
     Some((proof, below))
 }
 
-/// The one certificate.
+/// The certificate of `proofs`, where there is just one.
 fn proof_at(alloc: Global, value: &Value) -> Result<Certificate, Refusal>
     ensures { Yields certificate_view result (option_and_then one_of (certificates_at (view value.now))) }
 {
@@ -91,7 +91,7 @@ fn proof_at(alloc: Global, value: &Value) -> Result<Certificate, Refusal>
     }
 }
 
-/// The two certificates.
+/// The certificates of `proofs`, where there are two.
 fn proofs_at(alloc: Global, value: &Value) -> Result<(Certificate, Certificate), Refusal>
     ensures { Yields (λ p. (certificate_view p.0, certificate_view p.1)) result (option_and_then both_of (certificates_at (view value.now))) }
 {
@@ -164,7 +164,7 @@ fn cause_at(value: &Value) -> Option<FactorCause>
     factor_cause_of(text_of_member(value.get("cause"))?)
 }
 
-/// The steps or the step.
+/// The steps or the step of a cause.
 fn steps_at(value: &Value) -> Option<u32>
     ensures { result ≡ steps_at (view value.now) }
 {
@@ -182,14 +182,14 @@ fn byte_of(number: u32) -> Option<u8>
     }
 }
 
-/// The phase.
+/// The phase of a cause.
 fn phase_at(value: &Value) -> Option<u8>
     ensures { result ≡ phase_at (view value.now) }
 {
     byte_of(count_at(value.get("phase")?)?)
 }
 
-/// A cause with its steps and its phase, where it has them.
+/// `cause` with its steps and its phase, where it has them.
 fn cause_with(cause: FactorCause, steps: u32, phase: u8) -> BestCause
     ensures { result ≡ cause_with cause steps phase }
 {

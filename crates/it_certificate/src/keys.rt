@@ -2,8 +2,8 @@
 use std::alloc::{AllocError, AllocFailed};
 use thiserror::Error;
 
-/// The keys of a report in the order in which they are judged, but that `parts` comes before `proofs`, of bounds `rows` too, and `answer`
-/// once more after `question`.
+/// The keys of a report in the order in which they are judged, with these exceptions: `parts` comes before `proofs`, and of
+/// bounds so does `rows`; `answer` is judged a second time after `question`.
 #[derive(Clone, Copy, Debug)]
 pub enum Key {
     Answer,
@@ -25,7 +25,8 @@ pub enum Key {
     Origins,
 }
 
-/// Why a line isn't read: memory ran out, it has no JSON reading, or the first key that is missing or of another shape.
+/// Why a line isn't read: allocation fails, the line has no JSON reading, or a key, the first such one, is missing or of
+/// another shape.
 #[derive(Clone, Copy, Debug, Error)]
 pub enum ReportFault {
     #[error("there is too little memory to read the report")]
@@ -36,7 +37,7 @@ pub enum ReportFault {
     Shape { key: Key },
 }
 
-/// Why a part of a report isn't read: memory ran out, or it is missing or of another shape.
+/// Why a part of a report isn't read: allocation fails, or it is missing or of another shape.
 #[derive(Clone, Copy)]
 pub enum Refusal {
     Memory,

@@ -94,7 +94,7 @@ pub fn back_of(text: &str, equality: bool) -> Option<bool>
     }
 }
 
-/// The kind of this word, where it is one about factors; `has_phase` tells of `undecided` whether it is.
+/// The kind of this word, where it is one about factors; `undecided` is one only if `has_phase`.
 pub fn factor_kind_of(text: &str, has_phase: bool) -> Option<FactorKind>
     ensures { result ≡ factor_kind_of has_phase text.now }
 {

@@ -8,7 +8,7 @@ pub fn answers_read_back()
     ensures { ReadsBack }
 {}
 
-/// So does what is written of a region with a certificate for each of its rows.
+/// What is written of a region with a certificate for each of its rows, which fit the question, reads as that region and these.
 #[tactic(auto, using(crate::proofs::OriginRound::origins_read_back))]
 pub fn origins_read_back()
     ensures { OriginsReadBack }

@@ -96,7 +96,7 @@ fn integer_of_member(value: Option<&Value>) -> Option<i128>
     integer_at(value?)
 }
 
-/// A certificate.
+/// A certificate: a scale and weights.
 #[tactic(auto, unfolding(crate::specs::Parts::certificate_at))]
 pub fn certificate_at(alloc: Global, value: &Value) -> Result<Certificate, Refusal>
     ensures { Yields certificate_view result (certificate_at (view value.now)) }

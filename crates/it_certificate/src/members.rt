@@ -56,7 +56,7 @@ pub fn tells_outer(value: &Value) -> bool
     }
 }
 
-/// So many certificates of a member.
+/// The certificates of a member, `count` of them.
 fn certificates_of(
     alloc: Global,
     value: Option<&Value>,
@@ -72,7 +72,7 @@ fn certificates_of(
     }
 }
 
-/// So many that prove an answer.
+/// The certificates that prove an answer, `count` of them.
 #[tactic(auto, unfolding(crate::specs::Parts::proofs_at))]
 pub fn proofs_at(alloc: Global, value: &Value, count: usize) -> Result<Vec<Certificate>, Refusal>
     ensures { Yields (λ v. map certificate_view v.items) result (proofs_at count (view value.now)) }
@@ -80,7 +80,7 @@ pub fn proofs_at(alloc: Global, value: &Value, count: usize) -> Result<Vec<Certi
     certificates_of(alloc, value.get("proofs"), count)
 }
 
-/// So many from which rows come.
+/// The certificates that say from which lines rows come, `count` of them.
 #[tactic(auto, unfolding(crate::specs::Parts::origins_at))]
 pub fn origins_at(alloc: Global, value: &Value, count: usize) -> Result<Vec<Certificate>, Refusal>
     ensures { Yields (λ v. map certificate_view v.items) result (origins_at count (view value.now)) }
@@ -88,7 +88,7 @@ pub fn origins_at(alloc: Global, value: &Value, count: usize) -> Result<Vec<Cert
     certificates_of(alloc, value.get("origins"), count)
 }
 
-/// So many values.
+/// The values of a point, `count` of them.
 #[tactic(auto, unfolding(crate::specs::Parts::point_at))]
 fn point_at(alloc: Global, value: &Value, count: usize) -> Result<Vec<i128>, Refusal>
     ensures { Yields (λ v. v.items) result (point_at count (view value.now)) }
@@ -127,7 +127,7 @@ pub fn cause_kind_at(value: &Value) -> Option<CauseKind>
     cause_kind_of(text_of_member(value.get("cause"))?)
 }
 
-/// A step, or else a rate.
+/// The cause `Width` of `step`, else `WideRate` of `rate`.
 fn step_or_rate(step: Option<u32>, rate: Option<u8>) -> Option<Cause>
     ensures { result ≡ option_or (option_map Width step) (option_map WideRate rate) }
 {
@@ -137,7 +137,7 @@ fn step_or_rate(step: Option<u32>, rate: Option<u8>) -> Option<Cause>
     }
 }
 
-/// A cause of this kind with its budget, step or rate.
+/// The cause of this kind at `place`: a budget, a step or a rate.
 fn cause_of(names: &Names, kind: CauseKind, place: &str) -> Option<Cause>
     ensures { result ≡ cause_of names.now.rates kind place.now }
 {
@@ -152,7 +152,7 @@ fn cause_of(names: &Names, kind: CauseKind, place: &str) -> Option<Cause>
     }
 }
 
-/// The cause of this kind.
+/// The cause of this kind, from the key `at`.
 #[tactic(auto, unfolding(crate::specs::Parts::cause_at))]
 pub fn cause_at(value: &Value, names: &Names, kind: CauseKind) -> Option<Cause>
     ensures { result ≡ cause_at names.now.rates kind (view value.now) }

@@ -10,7 +10,7 @@ use serde_json::Value;
 /// The greatest number, 2^127 - 1.
 const GREATEST: u128 = 170141183460469231731687303715884105727;
 
-/// One digit more, unless the number passes 2^127 - 1.
+/// `n` with the digit `d` behind it, unless that passes 2^127 - 1.
 fn with_digit(n: u128, d: u8) -> Option<u128>
     requires within { n < 2 ^ 127 }
     requires digit { 48 ≤ d }
@@ -24,7 +24,7 @@ fn with_digit(n: u128, d: u8) -> Option<u128>
     if more > GREATEST { None } else { Some(more) }
 }
 
-/// The value of digits, unless it passes 2^127 - 1.
+/// The value of `digits`; None where it passes 2^127 - 1 or one of them is no digit.
 fn value_up_to_limit(digits: &[u8]) -> Option<u128>
     ensures { result ≡ option_and_then (below (2 ^ 127)) (value_from 0 digits.now) }
 {
@@ -42,7 +42,7 @@ fn value_up_to_limit(digits: &[u8]) -> Option<u128>
     Some(n)
 }
 
-/// The value of 1 to 39 digits.
+/// The value of 1 to 39 digits, at most 2^127 - 1.
 #[tactic(auto, unfolding(crate::specs::Numerals::magnitude_of))]
 fn magnitude_of(digits: &[u8]) -> Option<u128>
     ensures value { result ≡ magnitude_of digits.now }
@@ -75,7 +75,7 @@ pub fn integer_at(value: &Value) -> Option<i128>
     integer_of(value.as_str()?.as_bytes())
 }
 
-/// The number, unless it passes 32 bits.
+/// `n`, unless it has more than 32 bits.
 fn count_of(n: u64) -> Option<u32>
     ensures { result ≡ below (2 ^ 32) n }
 {
@@ -90,7 +90,7 @@ pub fn count_at(value: &Value) -> Option<u32>
     count_of(value.as_u64()?)
 }
 
-/// The number, if it is from 0 to 4294967295.
+/// `z`, if it is from 0 to 4294967295.
 fn count_of_integer(z: &i128) -> Option<u32>
     ensures { result ≡ count_of_integer z.now }
 {

@@ -1,5 +1,5 @@
 //! Objects of JSON, made member by member.
-//! Each call takes the members and hands them back: so a caller holds nothing where memory runs out.
+//! Each call takes the members and returns them, so that a caller has nothing to drop where allocation fails.
 ghost use Rattle.std.specs.Prelude.{◌≡◌, IfOk};
 ghost use Rattle.serde_json.specs.Data.{no_members, object, put, string};
 ghost use Rattle.serde_json.specs.View.{members_view, view};

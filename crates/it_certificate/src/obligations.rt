@@ -1,4 +1,4 @@
-//! How many targets a relation has, and how many obligations a region makes.
+//! The numbers of a relation's targets and of a region's obligations.
 ghost use Rattle.std.specs.Prelude.{◌≡◌, ◌≤◌, ℕ, length, map, sum_by};
 ghost use Rattle.it_syntax.specs.Givens.{IsGivenOf, given_view};
 ghost use Rattle.it_syntax.specs.Meaning.{relation_view};
@@ -10,7 +10,7 @@ ghost use Rattle.it_certificate.specs.ReportSteps.{given_form_count, relation_fo
 use it_question::types::Region;
 use it_syntax::types::{Given, Relation, Sign};
 
-/// How many targets a relation of this sign has.
+/// The number of targets of a relation of this sign.
 pub fn target_count(sign: Sign) -> usize
     ensures count { result ≡ target_count sign }
     ensures few { result ≤ 2 }
@@ -21,7 +21,7 @@ pub fn target_count(sign: Sign) -> usize
     }
 }
 
-/// How many forms a given says to be at least 0: two an equation.
+/// The number of forms that `given` says to be at least 0: two for an equation.
 fn given_form_count(given: &Given) -> usize
     ensures count { result ≡ given_form_count (given_view given.now) }
     ensures few { (n : ℕ) → IsGivenOf n (given_view given.now) → result ≤ 32 }
@@ -33,7 +33,7 @@ fn given_form_count(given: &Given) -> usize
     }
 }
 
-/// Those of the givens.
+/// The number of forms that the givens of `region` say to be at least 0.
 fn givens_form_count(region: &Region) -> usize
     requires { AreLinesOver region.now.names (region_view region.now).lines }
     ensures count { result ≡ sum_by given_form_count (map given_view region.now.lines.givens.items) }
@@ -46,7 +46,7 @@ fn givens_form_count(region: &Region) -> usize
     count
 }
 
-/// Those of the rows.
+/// The number of forms that `rows` say to be at least 0.
 fn rows_form_count(rows: &[Relation]) -> usize
     requires { length rows.now ≤ 64 }
     ensures count { result ≡ sum_by relation_form_count (map relation_view rows.now) }
@@ -59,7 +59,7 @@ fn rows_form_count(rows: &[Relation]) -> usize
     count
 }
 
-/// How many obligations the lines of the second region make: the forms that they say to be at least 0.
+/// The number of obligations that the lines of `region`, a second region, make: of forms that they say to be at least 0.
 pub fn obligation_count(region: &Region) -> usize
     requires { AreLinesOver region.now.names (region_view region.now).lines }
     ensures { result ≡ obligation_count (region_view region.now) }

@@ -35,7 +35,7 @@ pub fn unmarked(alloc: Global, rows: &[(Mark, Row)]) -> Result<Vec<Row>, AllocEr
     Ok(plain)
 }
 
-/// How many rows an answer has.
+/// The number of rows of an answer, 0 where it is no region.
 fn row_count(answer: &Answer) -> usize
     ensures { result ≡ length (rows_of (answer_view answer.now)) }
 {

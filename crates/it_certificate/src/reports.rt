@@ -24,7 +24,7 @@ use it_question::types::Question;
 use serde_json::Value;
 use std::alloc::Global;
 
-/// The question that a line is about.
+/// The question that a line asks.
 #[tactic(auto, using(crate::proofs::ReportLemmas::no_question))]
 fn asked_question(alloc: Global, value: &Value) -> Result<Question, ReportFault>
     ensures reading { GivesAsked (view value.now) result }
@@ -127,7 +127,7 @@ fn derived(alloc: Global, value: &Value) -> Result<Reported, ReportFault>
     }
 }
 
-/// The reading of a line of this kind about factors.
+/// The reading of a line about factors, of this kind.
 #[tactic(auto, using(crate::proofs::ReportLemmas::no_factor_source, crate::proofs::ReportLemmas::best_err))]
 fn factored(alloc: Global, value: &Value, kind: FactorKind) -> Result<Reported, ReportFault>
     requires told { false ≡ tells_misfit (view value.now) }
@@ -170,16 +170,23 @@ fn report_of(alloc: Global, value: &Value) -> Result<Reported, ReportFault>
     }
 }
 
-/// The reading of a report line, without its end: the question that it asks with the answer that it gives. The question is that of
-/// the sharing file `sharing` where there is such a key, else that of the text `question`, with the copies of the head `copies` where
-/// there is such a key. `NotJson` comes where the line is no UTF-8 or no JSON value, also one that is nested more than 127 deep.
-/// `Shape` names the first key that is missing or of another shape, in this order: `answer`; of `sharing`, `copies` and `question` the
-/// first that is there, where no question is asked, or `question` where none is there; `answer` again where the question's verb gives no
-/// such answer; and then for `yes` `proofs`, for `no` `point` and `side`, and `code` where there is such a key, for `undecided` `cause` and `at`, for `region` `rows`, and `origins` where there is such a key, for
-/// `contained` `parts` and `proofs`, for `open` `tried`, for `outer` `rows`, `proofs` and `rays`. What is said of factors is read for a
-/// question `prove E >= F`: for `best` `factor`, `proofs` and `point`, for `none` `point`, for `unbounded` `factor` and `proofs`, and for
-/// an `undecided` that has the key `phase` `cause`, `at` and `phase`. Of `misfit` no other key is read. Of doubled keys the last counts;
-/// other keys count for nothing. Nothing is said of whether the answer is right.
+/// The reading of a report line, without its end: the question that it asks with the answer that it gives. The question is that
+/// of the sharing file `sharing` where there is such a key, else that of the text `question`, with the copies of the head
+/// `copies` where there is such a key. `NotJson` comes where the line is no UTF-8 or no JSON value, also where it is nested
+/// more than 127 deep. `Shape` names the first key that is missing or of another shape, in this order: `answer`; where no
+/// question is asked, the first one of `sharing`, `copies` and `question` that is there, or `question` where none is; `answer`
+/// again where the question's verb gives no such answer; and then
+/// for `yes` `proofs`;
+/// for `no` `point` and `side`, and `code` where there is such a key;
+/// for `undecided` `cause` and `at`;
+/// for `region` `rows`, and `origins` where there is such a key;
+/// for `contained` `parts` and `proofs`;
+/// for `open` `tried`;
+/// for `outer` `rows`, `proofs` and `rays`.
+/// What is said of factors is read for a question `prove E >= F`: for `best` `factor`, `proofs` and `point`, for `none`
+/// `point`, for `unbounded` `factor` and `proofs`, and for an `undecided` that has the key `phase` `cause`, `at` and `phase`.
+/// Of `misfit` no other key is read. If a key is doubled its last value counts; other keys count for nothing. Nothing is said
+/// of whether the answer is right.
 pub fn answer_from_json(alloc: Global, line: &[u8]) -> Result<Reported, ReportFault>
     ensures reading { Reports line.now result }
     ensures limits { IfOk result KeepsLimits }

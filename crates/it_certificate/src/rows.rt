@@ -37,7 +37,7 @@ fn is_row(terms: &[(u32, i128)], size: u32) -> bool
     true
 }
 
-/// A row of a space with so many coordinates.
+/// The row of `terms`, if they are those of a row over `size` coordinates.
 fn row_of(terms: Vec<(u32, i128)>, size: u32) -> Option<Row>
     requires { All (λ t. IsWithin t.1) terms.items }
     ensures { result ≡ row_of size terms.items }
@@ -67,7 +67,7 @@ fn terms_at(alloc: Global, value: &Value) -> Result<Vec<(u32, i128)>, Refusal>
     Ok(terms)
 }
 
-/// A row without a mark.
+/// A row over `size` coordinates, without a mark.
 #[tactic(auto, unfolding(crate::specs::Parts::unmarked_row_at))]
 fn unmarked_row_at(alloc: Global, value: &Value, size: u32) -> Result<Row, Refusal>
     ensures { Yields (λ r. r) result (unmarked_row_at size (view value.now)) }
@@ -79,7 +79,7 @@ fn unmarked_row_at(alloc: Global, value: &Value, size: u32) -> Result<Row, Refus
     }
 }
 
-/// A row with its mark.
+/// A row over `size` coordinates, with its mark.
 #[tactic(auto, unfolding(crate::specs::Parts::marked_row_at))]
 fn marked_row_at(alloc: Global, value: &Value, size: u32) -> Result<(Mark, Row), Refusal>
     ensures { Yields (λ r. r) result (marked_row_at size (view value.now)) }
@@ -103,7 +103,7 @@ fn rows(alloc: Global, values: &[Value], size: u32) -> Result<Vec<(Mark, Row)>, 
     Ok(out)
 }
 
-/// The rows of a region over a space with so many coordinates.
+/// The rows of a region over a space with `size` coordinates.
 #[tactic(auto, unfolding(crate::specs::Parts::rows_at))]
 pub fn rows_at(alloc: Global, value: &Value, size: u32) -> Result<Vec<(Mark, Row)>, Refusal>
     ensures { Yields (λ v. v.items) result (rows_at size (view value.now)) }
@@ -126,7 +126,7 @@ fn unmarked_rows(alloc: Global, values: &[Value], size: u32) -> Result<Vec<Row>,
     Ok(out)
 }
 
-/// The rows of an outer bound over a space with so many coordinates.
+/// The rows of an outer bound over a space with `size` coordinates.
 #[tactic(auto, unfolding(crate::specs::Bounds::unmarked_rows_at))]
 pub fn unmarked_rows_at(alloc: Global, value: &Value, size: u32) -> Result<Vec<Row>, Refusal>
     ensures { Yields (λ v. v.items) result (unmarked_rows_at size (view value.now)) }

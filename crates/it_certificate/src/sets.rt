@@ -11,7 +11,7 @@ use it_space::VarSet;
 use serde_json::Value;
 use std::alloc::Global;
 
-/// The set of this number, if it is one of so many variables.
+/// The set of this number, if it is one of `variables` variables.
 fn set_of_number(variables: u8, number: u32) -> Option<VarSet>
     requires { variables ≤ 10 }
     ensures { result ≡ (if nat_lt number (2 ^ variables) then Some number else None) }
@@ -23,7 +23,7 @@ fn set_of_number(variables: u8, number: u32) -> Option<VarSet>
     }
 }
 
-/// A set of so many variables.
+/// A set of `variables` variables.
 #[tactic(auto, unfolding(crate::specs::Parts::set_at))]
 fn set_at(variables: u8, value: &Value) -> Option<VarSet>
     requires { variables ≤ 10 }
@@ -47,7 +47,7 @@ fn sets(alloc: Global, variables: u8, values: &[Value]) -> Result<Vec<VarSet>, R
     Ok(out)
 }
 
-/// So many sets of so many variables.
+/// The sets of a containment: `count` sets of `variables` variables.
 #[tactic(auto, unfolding(crate::specs::Parts::parts_at))]
 pub fn parts_at(
     alloc: Global,

@@ -78,7 +78,7 @@ fn made_of(alloc: Global, bytes: &[u8]) -> Result<Question, Refusal>
     }
 }
 
-/// Why a question isn't extended, by what is against its copies.
+/// Why a question isn't extended with copies, by the fault of these.
 fn refusal_by(fault: CopyFault) -> Refusal
     ensures { result ≡ refusal_by fault }
 {
@@ -90,7 +90,7 @@ fn refusal_by(fault: CopyFault) -> Refusal
     }
 }
 
-/// The only one of these questions with the copies, if there is one and it can have them.
+/// The only one of `questions`, extended with `copies`; `Shape` where there isn't just one, or it can't have them.
 #[tactic(auto, using(crate::proofs::SourceLemmas::not_one, crate::proofs::SourceLemmas::extended_only, crate::proofs::SourceLemmas::misfit_only))]
 fn extended(alloc: Global, copies: &[CopyLine], questions: &[Question]) -> Result<Question, Refusal>
     requires limits { All (λ q. IsQuestion (question_body q)) questions.now }
@@ -124,7 +124,7 @@ fn copied(alloc: Global, bytes: &[u8]) -> Result<Question, Refusal>
     }
 }
 
-/// One text after the other.
+/// `first` followed by `second`.
 fn joined(alloc: Global, first: &str, second: &str) -> Result<Vec<u8>, AllocError>
     ensures { IfOk result (λ bytes. bytes.items ≡ first.now ++ second.now) }
 {
@@ -134,7 +134,7 @@ fn joined(alloc: Global, first: &str, second: &str) -> Result<Vec<u8>, AllocErro
     Ok(bytes)
 }
 
-/// The question that the sharing file makes.
+/// The question that the sharing file `sharing` makes.
 #[tactic(auto, using(crate::proofs::SourceLemmas::sharing_given, crate::proofs::SourceLemmas::no_sharing_given))]
 fn sharing_at(alloc: Global, value: &Value) -> Result<Question, Refusal>
     requires there { is_some (get (codes "sharing") (view value.now)) ≡ true }
@@ -147,7 +147,7 @@ fn sharing_at(alloc: Global, value: &Value) -> Result<Question, Refusal>
     }
 }
 
-/// The question with the copies.
+/// The question of the text `question`, with the copies that the head `copies` asks for.
 #[tactic(auto, using(crate::proofs::SourceLemmas::copies_given, crate::proofs::SourceLemmas::no_head_given, crate::proofs::SourceLemmas::no_question_given))]
 fn copies_at(alloc: Global, value: &Value) -> Result<Question, Refusal>
     requires no_sharing { is_some (get (codes "sharing") (view value.now)) ≡ false }
@@ -167,7 +167,7 @@ fn copies_at(alloc: Global, value: &Value) -> Result<Question, Refusal>
     }
 }
 
-/// The question of the text.
+/// The question of the text `question`.
 #[tactic(auto, using(crate::proofs::SourceLemmas::text_given, crate::proofs::SourceLemmas::no_text_given))]
 fn question_at(alloc: Global, value: &Value) -> Result<Question, Refusal>
     requires no_sharing { is_some (get (codes "sharing") (view value.now)) ≡ false }

@@ -13,8 +13,8 @@ pub enum SourceText<'a> {
     Sharing(&'a [u8]),
 }
 
-/// What a report says of an outer bound, of which nothing says that it is right: rows at the rates that stay, a certificate of each, in
-/// order, and the steps by which the hull of its rays is made.
+/// What a report says of an outer bound, right or not: rows at the rates that stay, a certificate of each, in order, and the
+/// steps that make the hull of its rays.
 pub struct ReportedBounds {
     pub rows: Vec<Row>,
     pub proofs: Vec<Certificate>,
@@ -32,7 +32,7 @@ impl Drop for ReportedBounds {
     }
 }
 
-/// A linear code that a point is said to be of, and what one symbol counts in the point's values.
+/// The linear code that a report claims for a point, and what one symbol counts in the point's values.
 pub struct ReportedCode {
     pub code: LinearCode,
     pub times: u32,
@@ -45,8 +45,13 @@ impl Drop for ReportedCode {
     }
 }
 
-/// The question that is asked with an answer of the shape that it wants, with a no and a code that its point is said to be of, with a region and a certificate for each of its rows, with what is said of its factors, or with an outer bound, of
-/// which nothing says that it is right; or that a question can't have what is asked for.
+/// What a report says, right or not.
+/// `Answered`: an answer to the question, of the shape that this wants.
+/// `Coded`: a no, with the code claimed for its point.
+/// `Derived`: a region, with a certificate for each of its rows.
+/// `Factored`: what is found of the factors of the question's relation.
+/// `Bounded`: an outer bound.
+/// `Misfit`: that a question can't have what is asked for.
 pub enum Reported {
     Answered {
         question: Question,

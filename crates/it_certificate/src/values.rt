@@ -33,7 +33,7 @@ pub fn step_number(alloc: Global, number: u32) -> Result<Value, AllocError>
     json!(in alloc; text)
 }
 
-/// The number of a coordinate or a generator with its own as text.
+/// A term or a weight: the number of its coordinate or generator, and its own number as text.
 #[tactic(auto, unfolding(crate::specs::Values::pair_value))]
 fn pair(alloc: Global, pair: &(u32, i128)) -> Result<Value, AllocError>
     ensures { IfOk result (λ v. view v ≡ pair_value pair.now) }
@@ -150,7 +150,7 @@ pub fn unmarked_rows(alloc: Global, rows: &[Row]) -> Result<Value, AllocError>
     Ok(Value::Array(values))
 }
 
-/// The number of a row.
+/// The index of a row.
 fn row_number(alloc: Global, row: usize) -> Result<Value, AllocError>
     ensures { IfOk result (λ v. view v ≡ count_value row) }
 {
@@ -158,7 +158,7 @@ fn row_number(alloc: Global, row: usize) -> Result<Value, AllocError>
     json!(in alloc; number)
 }
 
-/// A row that goes.
+/// A row that is dropped.
 #[tactic(auto, unfolding(crate::specs::Values::drop_value))]
 fn drop_value(alloc: Global, drop: &RowDrop) -> Result<Value, AllocError>
     ensures { IfOk result (λ v. view v ≡ drop_value (drop_view drop.now)) }
@@ -172,7 +172,7 @@ fn drop_value(alloc: Global, drop: &RowDrop) -> Result<Value, AllocError>
     Ok(members.into_value())
 }
 
-/// Rows that go, in order.
+/// Rows that are dropped, in order.
 fn drops(alloc: Global, drops: &[RowDrop]) -> Result<Value, AllocError>
     ensures { IfOk result (λ v. view v ≡ list_value drop_value (map drop_view drops.now)) }
 {
@@ -183,7 +183,7 @@ fn drops(alloc: Global, drops: &[RowDrop]) -> Result<Value, AllocError>
     Ok(Value::Array(values))
 }
 
-/// A ray, and the rows that go after it.
+/// A ray, and the rows that are dropped after it.
 #[tactic(auto, unfolding(crate::specs::Values::step_value))]
 fn step(alloc: Global, step: &Step) -> Result<Value, AllocError>
     ensures { IfOk result (λ v. view v ≡ step_value (step_view step.now)) }
@@ -195,7 +195,7 @@ fn step(alloc: Global, step: &Step) -> Result<Value, AllocError>
     Ok(members.into_value())
 }
 
-/// Rays in order, each with the rows that go after it.
+/// Rays in order, each with the rows that are dropped after it.
 pub fn steps(alloc: Global, steps: &[Step]) -> Result<Value, AllocError>
     ensures { IfOk result (λ v. view v ≡ list_value step_value (step_views steps.now)) }
 {
@@ -257,7 +257,7 @@ fn rate(alloc: Global, names: &Names, rate: u8) -> Result<Value, AllocError>
     json!(in alloc; name)
 }
 
-/// At which step, budget or rate a cause came.
+/// The step, budget or rate of a cause, as text.
 pub fn step_or_rate_value(alloc: Global, names: &Names, cause: Cause) -> Result<Value, AllocError>
     requires { IfRate (IsAsciiRate names.now) cause }
     ensures { IfOk result (λ v. view v ≡ string (step_or_rate_word names.now cause)) }

@@ -97,7 +97,7 @@ fn contained_members(
     members.with_text(alloc, "answer", "contained")
 }
 
-/// The members of a search without an end.
+/// The members of a search in which no candidate was proved.
 #[tactic(auto, unfolding(crate::specs::Values::answer_members))]
 fn open_members(alloc: Global, names: &Names, tried: u32) -> Result<Members, AllocError>
     ensures { IfOk result (λ m. members_view m.map.entries ≡ answer_members names.now (Open tried)) }
@@ -156,7 +156,7 @@ fn answer_string(
 }
 
 /// The line of an answer, without its end: compact JSON with its keys in alphabetical order. `text` is the question's text, and
-/// `names` are its names, by which causes name rates. Weights of 0 are left out; the others stand in their order.
+/// `names` are its names, by which causes name rates. Weights of 0 are left out; the others keep their order.
 pub fn answer_json(
     alloc: Global,
     text: &[u8],
@@ -189,7 +189,7 @@ fn derived_members(
     members.with(alloc, "origins", origins)
 }
 
-/// The value of that region as the answer to the question of a text.
+/// The value of a region with a certificate for each of its rows, as the answer to the question of a text.
 #[tactic(auto, unfolding(crate::specs::Values::derived_value))]
 fn derived_value(
     alloc: Global,
@@ -205,7 +205,7 @@ fn derived_value(
     Ok(members.into_value())
 }
 
-/// The text of that region, which reads back as its value.
+/// The text of a region with a certificate for each of its rows, which reads back as its value.
 fn derived_string(
     alloc: Global,
     question: &str,
@@ -220,7 +220,8 @@ fn derived_string(
     value.to_string(alloc)
 }
 
-/// The line of a region with a certificate for each of its rows, without its end, as `answer_json` writes it, and with the key `origins`.
+/// The line of a region with a certificate for each of its rows, without its end: as `answer_json` writes it, with the
+/// certificates at the key `origins`.
 pub fn derived_json(
     alloc: Global,
     text: &[u8],
@@ -239,14 +240,14 @@ pub fn derived_json(
     Ok(line.into_bytes())
 }
 
-/// A byte of ASCII, or a question mark in its place.
+/// `byte`, or a question mark where it isn't ASCII.
 fn ascii_byte(byte: u8) -> u8
     ensures { result ≡ ascii_byte byte }
 {
     if byte < 128 { byte } else { b'?' }
 }
 
-/// Bytes in ASCII.
+/// `bytes` with a question mark for each byte that isn't ASCII.
 #[tactic(auto, using(crate::proofs::ValueLemmas::are_ascii))]
 fn in_ascii(alloc: Global, bytes: &[u8]) -> Result<Vec<u8>, AllocError>
     ensures bytes { IfOk result (λ v. v.items ≡ map ascii_byte bytes.now) }
@@ -259,7 +260,7 @@ fn in_ascii(alloc: Global, bytes: &[u8]) -> Result<Vec<u8>, AllocError>
     Ok(out)
 }
 
-/// The members with bytes as a text in ASCII.
+/// The members with `bytes` as a text in ASCII at `key`.
 fn with_bytes(
     alloc: Global,
     members: Members,
@@ -272,7 +273,7 @@ fn with_bytes(
     members.with_text(alloc, key, ascii_text(text.as_slice()))
 }
 
-/// The members with the texts of what the line is about.
+/// The members with the texts of `source`.
 fn with_source(
     alloc: Global,
     members: Members,
@@ -298,7 +299,7 @@ fn misfit_members(alloc: Global, cause: &[u8]) -> Result<Members, AllocError>
     members.with_text(alloc, "answer", "misfit")
 }
 
-/// The line of these members, of which none is a float, about what these texts ask.
+/// The line of `members`, of which none is a float, about `source`.
 fn line_about(
     alloc: Global,
     members: Members,
@@ -313,9 +314,9 @@ fn line_about(
     Ok(line.into_bytes())
 }
 
-/// The line of an answer to what these texts ask, without its end: compact JSON with its keys in alphabetical order. `names` are the
-/// names of the question that is asked, by which causes name rates. Weights of 0 are left out; the others stand in their order. Of the
-/// texts each byte outside of ASCII is written as `?`.
+/// The line of an answer to what `source` asks, without its end: compact JSON with its keys in alphabetical order. `names` are
+/// the names of the question that is asked, by which causes name rates. Weights of 0 are left out; the others keep their order.
+/// Each byte of the texts that isn't ASCII is written as `?`.
 pub fn report_json(
     alloc: Global,
     source: SourceText<'_>,
@@ -329,7 +330,8 @@ pub fn report_json(
     line_about(alloc, members, source)
 }
 
-/// The line of what is found of the factors of the relation that these texts ask about, without its end, as `report_json` writes it.
+/// The line of what is found of the factors of the relation about which `source` asks, without its end, as `report_json` writes
+/// it.
 pub fn best_json(alloc: Global, source: SourceText<'_>, best: &Best) -> Result<Vec<u8>, AllocError>
     ensures { IfOk result (λ out. out.items ≡ report_text (source_texts source.entry) (best_members (best_view best.now))) }
 {
@@ -337,7 +339,7 @@ pub fn best_json(alloc: Global, source: SourceText<'_>, best: &Best) -> Result<V
     line_about(alloc, members, source)
 }
 
-/// The line of a question that can't have what these texts ask for, without its end, with the words of the reason.
+/// The line of a question that can't have what `source` asks for, without its end; `cause` is the words of the reason.
 pub fn misfit_json(
     alloc: Global,
     source: SourceText<'_>,
@@ -363,8 +365,9 @@ fn bounds_members(alloc: Global, bounds: &ReportedBounds) -> Result<Members, All
     members.with_text(alloc, "answer", "outer")
 }
 
-/// The line of an outer bound of what these texts ask, without its end: compact JSON with its keys in alphabetical order. Weights of 0 are
-/// left out; the others stand in their order, as do rows and rays. Of the texts each byte outside of ASCII is written as `?`.
+/// The line of an outer bound of what `source` asks about, without its end: compact JSON with its keys in alphabetical order.
+/// Weights of 0 are left out; the others keep their order, as rows and rays do. Each byte of the texts that isn't ASCII is
+/// written as `?`.
 pub fn bounds_json(
     alloc: Global,
     source: SourceText<'_>,

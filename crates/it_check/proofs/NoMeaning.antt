@@ -1,4 +1,4 @@
--- A counterexample is found valid exactly where it is one and its numbers fit.
+-- The verdict on a counterexample is `Valid` exactly if it refutes the target and its numbers are within the limit.
 use Rattle.std.proofs.Common.{◌≡◌, ℕ, ◌+◌, ℤ, pos, neg_ℤ, ◌+ℤ◌, ◌≤ℤ◌, List, [], ◌∷◌, map, length, Bool, true, false, cond, not, Option, Some, None, ltb, refl, sym, ap, subst, ◌∙◌, arith}
 use Rattle.std.specs.Option.{option_or}
 use Rattle.std.specs.Bool.{Decides}
@@ -41,7 +41,7 @@ meets_not_violated : (k : Kind) (x : ℤ) → Meets k x → violates k x ≡ fal
 meets_not_violated Inequality x h = not_below x h
 meets_not_violated Equation x h = ap not ((Decides-int_eq x (pos 0)).1 h)
 
--- the value fits, and meets what is said of it
+-- the value fits, and meets its kind
 abbrev pub IsRight : (ℕ → ℤ) → Generator → Type 0
 IsRight p g = ValueFits g.row p × Meets g.kind (value g.row p)
 

@@ -1,4 +1,4 @@
--- Sums that are given up where a number passes the limit, by what fits.
+-- Sums that are None where a number passes the limit, by the conditions that the numbers fit.
 use Rattle.std.proofs.Common.{◌≡◌, ℕ, ◌^◌, ℤ, pos, ◌+ℤ◌, ◌*ℤ◌, unsigned_abs, [], ◌∷◌, Bool, true, false, cond, ◌&&◌, Option, Some, None, Result, Ok, Err, OkIff, refl, sym, ap, ◌∙◌, arith}
 use Rattle.std.specs.Bool.{Decides}
 use Rattle.std.specs.Result.{result_ok}

@@ -1,4 +1,4 @@
--- What valid certificates and counterexamples say of the problem.
+-- The meaning of valid certificates and counterexamples for the problem.
 use Rattle.std.proofs.Common.{◌≡◌, ℕ, ◌+◌, ℤ, pos, ◌≤ℤ◌, List, [], ◌∷◌, length, true, All, refl, arith}
 use Rattle.std.proofs.lemmas.Int.{ints}
 use Rattle.it_space.specs.declared.problems.Kind.{Kind}

@@ -1,4 +1,4 @@
--- A certificate is found valid exactly where it is one and its numbers fit.
+-- The verdict on a certificate is `Valid` exactly if it certifies the target and its numbers are within the limit.
 use Rattle.std.proofs.Common.{◌≡◌, ℕ, zero, suc, ◌+◌, ◌<◌, ◌≤◌, ◌⊎◌, inl, inr, ℤ, pos, ◌+ℤ◌, ◌*ℤ◌, ◌≤ℤ◌, List, [], ◌∷◌, length, Bool, true, false, cond, not, ◌&&◌, ltb, Option, Some, None, All, refl, sym, ap, ap₂, subst, ◌∙◌, arith}
 use Rattle.std.specs.Option.{option_or}
 use Rattle.std.specs.Bool.{Decides}

@@ -1,19 +1,19 @@
-//! What the verdicts mean, each theorem as the contract of a function.
+//! The meaning of the verdicts, each theorem as the contract of a function.
 ghost use Rattle.it_check.specs.Meaning.{ValidMet, ValidYes, ValidNo, YesIsTrue};
 
-/// A certificate is found valid exactly where it is one and its numbers fit.
+/// The verdict on a certificate is `Valid` exactly if it certifies the target and its numbers are within the limit.
 #[tactic(auto, using(crate::proofs::Truth::valid_yes_is))]
 pub fn valid_yes()
     ensures { ValidYes }
 {}
 
-/// A point is found valid exactly where it meets the problem and the numbers fit.
+/// The verdict on a point is `Valid` exactly if it meets the problem and the numbers are within the limit.
 #[tactic(auto, using(crate::proofs::Truth::valid_met_is))]
 pub fn valid_met()
     ensures { ValidMet }
 {}
 
-/// A counterexample is found valid exactly where it is one and its numbers fit.
+/// The verdict on a counterexample is `Valid` exactly if it refutes the target and its numbers are within the limit.
 #[tactic(auto, using(crate::proofs::Truth::valid_no_is))]
 pub fn valid_no()
     ensures { ValidNo }

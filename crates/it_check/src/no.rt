@@ -1,6 +1,5 @@
-//! The verdicts on a point that is to meet a problem, and on a counterexample.
+//! The verdicts on a point that should meet a problem, and on a counterexample.
 ghost use Rattle.std.specs.Prelude.{◌≡◌, ◌<◌, length, pos};
-ghost use Rattle.it_space.specs.Problems.{IsProblem, problem_view};
 ghost use Rattle.it_space.specs.Rows.{IsOver, point_of};
 ghost use Rattle.it_space.specs.Spaces.{size_of};
 ghost use Rattle.it_polymatroid.specs.Elementals.{elementals};
@@ -14,7 +13,7 @@ use crate::verdicts::Verdict;
 use it_elemental::{count, generator_count, kind_at};
 use it_space::{Kind, Point, Problem, Row, value};
 
-/// Whether a value is not as the kind says.
+/// Whether `value` violates an inequality or an equation.
 fn violates(kind: Kind, value: i128) -> bool
     ensures { result ≡ violates kind value }
 {
@@ -24,24 +23,22 @@ fn violates(kind: Kind, value: i128) -> bool
     }
 }
 
-/// The finding of a generator that the point violates, by its number.
+/// The verdict that generator `index`, whose value at the point is `value`, is violated.
 fn violation(problem: &Problem, index: u32, value: i128) -> Verdict
-    requires { IsProblem (problem_view problem.now) }
     ensures { result ≡ violation (length (elementals problem.now.space.variables)) index value }
 {
-    if index < count(problem.space.variables) {
+    if index < count(problem.space().variables) {
         Verdict::BrokenElemental { index, value }
     } else {
         Verdict::UnmetConstraint { index, value }
     }
 }
 
-/// A generator that isn't met, or whose value is wide.
+/// The verdict on `point` at generator `index`: that it is violated, or its value is wide; `None` if it is met.
 fn of_generator(problem: &Problem, index: u32, point: &Point) -> Option<Verdict>
-    requires problem { IsProblem (problem_view problem.now) }
-    requires listed { index < length (generators (problem_view problem.now)) }
+    requires listed { index < length (generators problem.now) }
     requires complete { length point.now ≡ size_of problem.now.space }
-    ensures { result ≡ of_generator (problem_view problem.now) index (point_of point.now) }
+    ensures { result ≡ of_generator problem.now index (point_of point.now) }
 {
     let Ok(value) = generator_value(problem, index, point) else {
         return Some(Verdict::Width { place: index });
@@ -53,11 +50,10 @@ fn of_generator(problem: &Problem, index: u32, point: &Point) -> Option<Verdict>
     }
 }
 
-/// The first such generator.
+/// The verdict at the first generator that is violated or whose value is wide; `None` if there is none.
 fn of_generators(problem: &Problem, point: &Point) -> Option<Verdict>
-    requires problem { IsProblem (problem_view problem.now) }
     requires complete { length point.now ≡ size_of problem.now.space }
-    ensures { result ≡ of_generators (length (elementals problem.now.space.variables)) 0 (generators (problem_view problem.now)) (point_of point.now) }
+    ensures { result ≡ of_generators (length (elementals problem.now.space.variables)) 0 (generators problem.now) (point_of point.now) }
 {
     for index in 0..generator_count(problem) {
         if let Some(verdict) = of_generator(problem, index, point) {
@@ -67,12 +63,11 @@ fn of_generators(problem: &Problem, point: &Point) -> Option<Verdict>
     None
 }
 
-/// Whether the point meets the problem: the first thing that is wrong with it, in order of the generators.
+/// Whether `point` meets `problem`: `Valid`, or the first fault, in order of the generators.
 #[tactic(auto, unfolding(crate::specs::Verdicts::met_verdict))]
 pub fn check_met(problem: &Problem, point: &Point) -> Verdict
-    requires problem { IsProblem (problem_view problem.now) }
     requires complete { length point.now ≡ size_of problem.now.space }
-    ensures { result ≡ met_verdict (length (elementals problem.now.space.variables)) (generators (problem_view problem.now)) (point_of point.now) }
+    ensures { result ≡ met_verdict (length (elementals problem.now.space.variables)) (generators problem.now) (point_of point.now) }
 {
     match of_generators(problem, point) {
         Some(verdict) => verdict,
@@ -80,12 +75,11 @@ pub fn check_met(problem: &Problem, point: &Point) -> Verdict
     }
 }
 
-/// A target that isn't violated, or whose value is wide.
+/// The verdict on `point` at the target: that it isn't violated, or its value is wide; `None` if it is violated.
 fn of_target(problem: &Problem, target: &Row, point: &Point) -> Option<Verdict>
-    requires problem { IsProblem (problem_view problem.now) }
     requires target { IsOver (size_of problem.now.space) target.now }
     requires complete { length point.now ≡ size_of problem.now.space }
-    ensures { result ≡ of_target (length (generators (problem_view problem.now))) (sum_within (pos 0) target.now (point_of point.now)) }
+    ensures { result ≡ of_target (length (generators problem.now)) (sum_within (pos 0) target.now (point_of point.now)) }
 {
     let Ok(value) = value(target, point) else {
         let place = generator_count(problem);
@@ -98,13 +92,11 @@ fn of_target(problem: &Problem, target: &Row, point: &Point) -> Option<Verdict>
     }
 }
 
-/// Whether the point meets the problem and violates the target: the first thing that is wrong with it, in order of the
-/// generators and then the target.
+/// Whether `point` meets `problem` and violates `target`: `Valid`, or the first fault, in order of the generators and then the target.
 pub fn check_no(problem: &Problem, target: &Row, point: &Point) -> Verdict
-    requires problem { IsProblem (problem_view problem.now) }
     requires target { IsOver (size_of problem.now.space) target.now }
     requires complete { length point.now ≡ size_of problem.now.space }
-    ensures { result ≡ no_verdict (length (elementals problem.now.space.variables)) (generators (problem_view problem.now)) target.now (point_of point.now) }
+    ensures { result ≡ no_verdict (length (elementals problem.now.space.variables)) (generators problem.now) target.now (point_of point.now) }
 {
     if let Some(verdict) = of_generators(problem, point) {
         return verdict;

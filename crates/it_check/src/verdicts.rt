@@ -1,6 +1,6 @@
-//! The words of the checker.
+//! The verdicts of the checker.
 
-/// What is wrong with a certificate or a counterexample, or that nothing is.
+/// The first fault of a certificate or a counterexample, or that it is valid.
 #[derive(Clone, Copy, Debug, PartialEq, Eq)]
 pub enum Verdict {
     Valid,
@@ -12,7 +12,7 @@ pub enum Verdict {
     UnknownGenerator {
         index: u32,
     },
-    /// The weight of this generator is negative, and it is no equation.
+    /// The weight of this generator is negative, and the generator isn't an equation.
     NegativeWeight {
         index: u32,
     },
@@ -20,7 +20,7 @@ pub enum Verdict {
     Width {
         place: u32,
     },
-    /// The two sides differ at this coordinate.
+    /// At this coordinate the scale times the target's coefficient, `left`, differs from the sum of weights times coefficients, `right`.
     Mismatch {
         coordinate: u32,
         left: i128,

@@ -2,7 +2,6 @@
 ghost use Rattle.std.specs.Prelude.{◌≡◌, ◌<◌, ◌≤◌, ℤ, length, All, OkIff, None, ◌*ℤ◌};
 ghost use Rattle.it_number.specs.Limit.{IsWithin};
 ghost use Rattle.it_space.specs.Answers.{certificate_view};
-ghost use Rattle.it_space.specs.Problems.{IsProblem, problem_view};
 ghost use Rattle.it_space.specs.Rows.{IsOver, IsValueOrWide, coefficient};
 ghost use Rattle.it_space.specs.Spaces.{size_of};
 ghost use Rattle.it_elemental.specs.Generators.{generators};
@@ -13,7 +12,7 @@ use it_elemental::{coefficient_at, generator_count, is_equation};
 use it_fraction::{Wide, signed_product};
 use it_space::{Certificate, Problem, Row, with_product};
 
-/// What is wrong with the scale, None if nothing.
+/// The fault of the scale; `None` if it has none.
 fn of_scale(certificate: &Certificate) -> Option<Verdict>
     ensures { result ≡ of_scale certificate.now.scale }
 {
@@ -25,10 +24,9 @@ fn of_scale(certificate: &Certificate) -> Option<Verdict>
     }
 }
 
-/// A weight of a generator that isn't there, or a negative one of an inequality.
+/// The fault of a weight: no generator has its number, or it is negative for an inequality; `None` if it has none.
 fn of_weight(problem: &Problem, weight: &(u32, i128)) -> Option<Verdict>
-    requires { IsProblem (problem_view problem.now) }
-    ensures { result ≡ of_weight (generators (problem_view problem.now)) weight.now }
+    ensures { result ≡ of_weight (generators problem.now) weight.now }
 {
     let index = weight.0;
     if index >= generator_count(problem) {
@@ -40,10 +38,9 @@ fn of_weight(problem: &Problem, weight: &(u32, i128)) -> Option<Verdict>
     None
 }
 
-/// The first such weight.
+/// The first fault of a weight; `None` if there is none.
 fn of_weights(problem: &Problem, weights: &[(u32, i128)]) -> Option<Verdict>
-    requires { IsProblem (problem_view problem.now) }
-    ensures { result ≡ of_weights (generators (problem_view problem.now)) weights.now }
+    ensures { result ≡ of_weights (generators problem.now) weights.now }
 {
     for weight in weights {
         if let Some(verdict) = of_weight(problem, weight) {
@@ -53,20 +50,19 @@ fn of_weights(problem: &Problem, weights: &[(u32, i128)]) -> Option<Verdict>
     None
 }
 
-/// The scale times the target's coefficient at a coordinate.
+/// The scale times the target's coefficient at coordinate `at`; `Wide` if it passes the limit.
 fn left_number(target: &Row, certificate: &Certificate, at: u32) -> Result<i128, Wide>
     ensures { OkIff result (IsWithin (certificate.now.scale *ℤ coefficient target.now at)) (certificate.now.scale *ℤ coefficient target.now at) }
 {
     signed_product(certificate.scale, target.coefficient(at))
 }
 
-/// The sum of weights times coefficients at a coordinate.
+/// The sum of the weights times the generators' coefficients at `coordinate`; `Wide` if a product or a partial sum passes the limit.
 fn right_number(problem: &Problem, weights: &[(u32, i128)], coordinate: u32) -> Result<i128, Wide>
-    requires problem { IsProblem (problem_view problem.now) }
-    requires listed { All (λ w. w.0 < length (generators (problem_view problem.now))) weights.now }
+    requires listed { All (λ w. w.0 < length (generators problem.now)) weights.now }
     requires from_one { 1 ≤ coordinate }
     requires of_space { coordinate ≤ size_of problem.now.space }
-    ensures { IsValueOrWide weights.now (column (generators (problem_view problem.now)) coordinate) result }
+    ensures { IsValueOrWide weights.now (column (generators problem.now) coordinate) result }
 {
     let mut sum: i128 = 0;
     for (index, weight) in weights {
@@ -75,18 +71,17 @@ fn right_number(problem: &Problem, weights: &[(u32, i128)], coordinate: u32) -> 
     Ok(sum)
 }
 
-/// Sides that differ at a coordinate, or one of them wide.
+/// The fault at `coordinate`: the two sides differ, or one of them is wide; `None` if there is none.
 fn of_coordinate(
     problem: &Problem,
     target: &Row,
     certificate: &Certificate,
     coordinate: u32,
 ) -> Option<Verdict>
-    requires problem { IsProblem (problem_view problem.now) }
-    requires listed { All (λ w. w.0 < length (generators (problem_view problem.now))) certificate.now.weights.items }
+    requires listed { All (λ w. w.0 < length (generators problem.now)) certificate.now.weights.items }
     requires from_one { 1 ≤ coordinate }
     requires of_space { coordinate ≤ size_of problem.now.space }
-    ensures { result ≡ of_coordinate (generators (problem_view problem.now)) target.now (certificate_view certificate.now) coordinate }
+    ensures { result ≡ of_coordinate (generators problem.now) target.now (certificate_view certificate.now) coordinate }
 {
     let Ok(left) = left_number(target, certificate, coordinate) else {
         return Some(Verdict::Width { place: coordinate });
@@ -104,13 +99,13 @@ fn of_coordinate(
     })
 }
 
-/// The first coordinate with such sides.
+/// The fault at the first coordinate that has one; `None` if none has.
 fn of_coordinates(problem: &Problem, target: &Row, certificate: &Certificate) -> Option<Verdict>
-    requires problem { IsProblem (problem_view problem.now) }
-    requires listed { All (λ w. w.0 < length (generators (problem_view problem.now))) certificate.now.weights.items }
-    ensures { result ≡ of_coordinates (generators (problem_view problem.now)) target.now (certificate_view certificate.now) 1 (size_of problem.now.space) }
+    requires listed { All (λ w. w.0 < length (generators problem.now)) certificate.now.weights.items }
+    ensures { result ≡ of_coordinates (generators problem.now) target.now (certificate_view certificate.now) 1 (size_of problem.now.space) }
 {
-    for coordinate in 1..problem.space.size() + 1 {
+    problem.facts();
+    for coordinate in 1..problem.size() + 1 {
         if let Some(verdict) = of_coordinate(problem, target, certificate, coordinate) {
             return Some(verdict);
         }
@@ -118,12 +113,11 @@ fn of_coordinates(problem: &Problem, target: &Row, certificate: &Certificate) ->
     None
 }
 
-/// Whether the weights add up to the target at its scale: the first thing that is wrong with them, in order of the scale,
-/// the weights as listed and the coordinates.
+/// Whether the weights add up to the scale times `target`: `Valid`, or the first fault, in order of the scale, the weights as listed
+/// and the coordinates.
 pub fn check_yes(problem: &Problem, target: &Row, certificate: &Certificate) -> Verdict
-    requires problem { IsProblem (problem_view problem.now) }
     requires target { IsOver (size_of problem.now.space) target.now }
-    ensures { result ≡ yes_verdict (generators (problem_view problem.now)) (size_of problem.now.space) target.now (certificate_view certificate.now) }
+    ensures { result ≡ yes_verdict (generators problem.now) (size_of problem.now.space) target.now (certificate_view certificate.now) }
 {
     if let Some(verdict) = of_scale(certificate) {
         return verdict;

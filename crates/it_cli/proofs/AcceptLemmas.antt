@@ -79,7 +79,6 @@ use Rattle.it_cli.proofs.FeedLemmas.{IsNoFeed, answer_text_clear}
 use Rattle.it_cli.proofs.JsonLemmas.{right_prove_fits, eliminated_cause_fits, all_weights_written, yes_same, no_same}
 use Rattle.it_cli.proofs.ContainedFits.{contained_fits}
 use Rattle.it_cli.proofs.NameFits.{rates_found}
-use Rattle.it_cli.specs.Accepted.{ReportsAreAccepted}
 
 -- ---- certificates and points of the run are valid
 
@@ -164,7 +163,7 @@ proofs_by_valid p effort (f ∷ fs) (t ∷ ts) (w ∷ ws) l z d =
 
 -- ---- lines
 
-question_fits : (q : BodyView) (a : AnswerView) (verb : VerbView) → q.verb ≡ verb → HasVerbShape q.names verb a → HasQuestionShape q a
+pub question_fits : (q : BodyView) (a : AnswerView) (verb : VerbView) → q.verb ≡ verb → HasVerbShape q.names verb a → HasQuestionShape q a
 unfolding HasQuestionShape
 question_fits q a verb e h = subst (λ x. HasVerbShape q.names x a) (sym e) h
 
@@ -173,7 +172,7 @@ pub record IsAccepted (line : List ℕ) : Type 0 where
   pub clear : Every IsNoFeed line
   pub verdicts : (v : LineVerdict) → IsVerdict line v → is_invalid v ≡ false
 
-accepted_by_verdict : (line : List ℕ) (w : LineVerdict) → Every IsNoFeed line → IsVerdict line w → is_invalid w ≡ false → IsAccepted line
+pub accepted_by_verdict : (line : List ℕ) (w : LineVerdict) → Every IsNoFeed line → IsVerdict line w → is_invalid w ≡ false → IsAccepted line
 accepted_by_verdict line w clear is ok = record { clear = clear; verdicts = λ v h. ap is_invalid (one_verdict line v w h is) ∙ ok }
 
 rate_ascii : (rates : List (List ℕ)) (r : ℕ) → All IsAscii rates → IsAscii (slice_index_or rates r [])
@@ -200,7 +199,7 @@ module _ (back : ReadsBack) (q : QuestionView) (short : length q.text ≤ 104857
   question_ascii : IsAsciiQuestion q
   question_ascii = All-head IsAsciiQuestion q [] (texts_are_ascii q.text (q ∷ []) file)
 
-  text_is : IsUtf8 q.text
+  pub text_is : IsUtf8 q.text
   text_is = IsUtf8-from_ascii q.text question_ascii.text
 
   line_reads : (a : AnswerView) → HasQuestionShape q.body a → IsPlain (answer_value q.text q.body.names a) → ReadsReport (line_of a) (Ok (Answered (Text q) (written_answer a)))
@@ -215,10 +214,10 @@ module _ (back : ReadsBack) (q : QuestionView) (short : length q.text ≤ 104857
   clear_of a plain = answer_text_clear q.text q.body.names a plain
 
   -- the question keeps the limits, and its problem and its rows are there
-  limits : IsQuestion q.body
+  pub limits : IsQuestion q.body
   limits = All-head (λ (x : QuestionView). IsQuestion x.body) q [] (file_limits q.text (q ∷ []) file)
 
-  small : QuestionHasSmallNumbers q.body
+  pub small : QuestionHasSmallNumbers q.body
   small = (file_has_small_numbers q.text (q ∷ []) file).0
 
   posed : IsProblemOf q.body (problem_of q.body)
@@ -332,6 +331,3 @@ module _ (back : ReadsBack) (q : QuestionView) (short : length q.text ≤ 104857
 pub right_accepted : ReadsBack → (budgets : Budgets) (plans : List Plan) (q : QuestionView) (reply : Reply) → IfSome budgets.effort.pivots (λ n. n < 2 ^ 32) → budgets.tries < 2 ^ 32 → length q.text ≤ 1048577 → IsFile q.text (q ∷ [])
     → IsRightAnswer budgets plans q.body reply → IsAccepted (answer_text q.text q.body.names reply.answer)
 right_accepted back budgets plans q reply few tries short file right = verb_accepted back q short file budgets few plans q.body.verb reply refl tries (a_yes_ascends budgets plans q.body reply right) right.shows right.due
-
-pub reports_are_accepted : ReadsBack → ReportsAreAccepted
-reports_are_accepted back budgets plans q reply few tries short file right = (right_accepted back budgets plans q reply few tries short file right).verdicts

@@ -1,5 +1,5 @@
 -- What mode `copy` writes.
-use Rattle.std.proofs.Common.{◌≡◌, ℕ, ◌<◌, List, [], ◌++◌, length, map, get_or, Result, Ok, Err, IfOk, codes, true, false, refl, ap, ap₂, ◌∙◌, arith}
+use Rattle.std.proofs.Common.{◌≡◌, ℕ, ◌<◌, List, [], ◌++◌, length, map, get_or, Result, Ok, Err, IfOk, codes, true, refl, sym, ap, ap₂, ◌∙◌, arith}
 use Rattle.std.specs.Global.{Vec}
 use Rattle.std.proofs.lemmas.List.{length-map, get_or-map}
 use Rattle.it_prove.specs.declared.types.Effort.{Effort}
@@ -9,16 +9,17 @@ use Rattle.it_question.specs.Questions.{BodyView, QuestionView, question_view, V
 use Rattle.it_copy.specs.CopyLines.{CopyView}
 use Rattle.it_copy.specs.declared.types.CopyFault.{CopyFault}
 use Rattle.it_copy.specs.declared.types.CopyFault.TheVariants.{Memory}
-use Rattle.it_copy.specs.Extensions.{IsExtension, IsMisfit, IsProof}
+use Rattle.it_copy.specs.Extensions.{IsExtension, IsProof}
 use Rattle.it_syntax.specs.NamesViews.{NamesView}
 use Rattle.it_certificate.specs.Values.{IsWritable, OfCopies, SourceTexts, answer_members, misfit_members, report_text}
 use Rattle.it_region.specs.declared.types.Candidate.{Candidate}
 use Rattle.it_contain.specs.Proposals.{Plan}
 use Rattle.it_answer.specs.declared.types.Budgets.{Budgets}
 use Rattle.it_answer.specs.RightAnswers.{IsDueBy, IsRightAnswer}
-use Rattle.it_cli.specs.Copies.{CopyQuestion, Extended, IsRightProof, Misfit, copy_texts, head_text, with_copies}
+use Rattle.it_cli.specs.Copies.{CopyQuestion, Extended, IsRightProof, copy_texts, head_text, with_copies}
 use Rattle.it_cli.specs.InnerEnds.{IsReportOf, IsTextOf}
-use Rattle.it_cli.specs.Misfits.{misfit_line, misfit_words}
+use Rattle.it_cli.specs.Misfits.{misfit_words}
+use Rattle.it_cli.specs.Modes.{Mode}
 use Rattle.it_cli.proofs.JsonLemmas.{due_is_writable}
 use Rattle.it_cli.specs.Outputs.{copy_mode}
 use Rattle.it_cli.proofs.RightLemmas.{question_at}
@@ -35,7 +36,7 @@ due_alone b plans q (Contain first second tries) a found proof h = absurd proof
 pub right_alone : (b : Budgets) (plans : List Plan) (q : BodyView) (a : AnswerView) (found : List Candidate) → IsProof q.verb → IsRightAnswer b plans q (record { answer = a; found = found }) → IsRightProof b.effort q a
 right_alone b plans q a found proof right = record { shows = right.shows; due = due_alone b plans q q.verb a found proof right.due }
 
--- and it can be written with any names
+-- a right answer to a question about a relation can be written with any names
 writable_by : (b : Budgets) (plans : List Plan) (q : BodyView) (verb : VerbView) (v : NamesView) (a : AnswerView) (found : List Candidate) → IsProof verb → IsDueBy b plans q verb (record { answer = a; found = found }) → IsWritable v a
 writable_by b plans q (Prove r) v a found proof (due, none) = due_is_writable b.effort q r v a due
 writable_by b plans q (Eliminate rates) v a found proof h = absurd proof
@@ -44,21 +45,17 @@ writable_by b plans q (Contain first second tries) v a found proof h = absurd pr
 pub right_is_writable : (b : Budgets) (plans : List Plan) (q : BodyView) (v : NamesView) (a : AnswerView) (found : List Candidate) → IsProof q.verb → IsRightAnswer b plans q (record { answer = a; found = found }) → IsWritable v a
 right_is_writable b plans q v a found proof right = writable_by b plans q q.verb v a found proof right.due
 
--- the line that says why there is no such question is a right reply
-pub misfit_text : {E : Type 0} (effort : Effort) (x : CopyQuestion) (k : ℕ) (fault : CopyFault) (r : Result (Vec ℕ) E) → IsMisfit x.question.body x.copies fault → IfOk r (λ t. t.items ≡ misfit_line k fault) → IfOk r (λ t. fault ≡ Memory → ⊥)
-    → IfOk r (λ t. IsTextOf (copy_mode false effort) [] k x t.items)
-misfit_text effort x k fault (Ok t) misfit told some = record { reply = Misfit fault; right = (some, misfit); is = told }
-misfit_text effort x k fault (Err e) misfit told some = tt
+-- in any mode, where what tells a misfit is a right reply, the line that says why there is no such question is that of the reply
+module _ (m : Mode) (x : m.Item) (k : ℕ) (fault : CopyFault) (reply : m.Reply) (right : (fault ≡ Memory → ⊥) → m.IsRight [] x reply) where
+  pub misfit_told : {E : Type 0} (line : List ℕ) (r : Result (Vec ℕ) E) → m.text k x reply ≡ line → IfOk r (λ t. t.items ≡ line) → IfOk r (λ t. fault ≡ Memory → ⊥) → IfOk r (λ t. IsTextOf m [] k x t.items)
+  misfit_told line (Ok t) same told some = record { reply = reply; right = right some; is = told ∙ sym same }
+  misfit_told line (Err e) same told some = tt
 
--- and so is that of a report
-pub misfit_reported : {E : Type 0} (effort : Effort) (x : CopyQuestion) (k : ℕ) (fault : CopyFault) (texts : SourceTexts) (r : Result (Vec ℕ) E) → texts ≡ copy_texts x → IsMisfit x.question.body x.copies fault
-    → IfOk r (λ t. t.items ≡ report_text texts (misfit_members (misfit_words fault)) ++ codes "\n") → IfOk r (λ t. fault ≡ Memory → ⊥) → IfOk r (λ t. IsTextOf (copy_mode true effort) [] k x t.items)
-misfit_reported effort x k fault texts (Ok t) same misfit told some = record {
-  reply = Misfit fault;
-  right = (some, misfit);
-  is = told ∙ ap (λ (s : SourceTexts). report_text s (misfit_members (misfit_words fault)) ++ codes "\n") same;
-}
-misfit_reported effort x k fault texts (Err e) same misfit told some = tt
+  -- and so is that of a report
+  pub misfit_reported : {E : Type 0} (texts own : SourceTexts) (r : Result (Vec ℕ) E) → texts ≡ own → m.text k x reply ≡ report_text own (misfit_members (misfit_words fault)) ++ codes "\n"
+      → IfOk r (λ t. t.items ≡ report_text texts (misfit_members (misfit_words fault)) ++ codes "\n") → IfOk r (λ t. fault ≡ Memory → ⊥) → IfOk r (λ t. IsTextOf m [] k x t.items)
+  misfit_reported texts own r same is told some = misfit_told (report_text texts (misfit_members (misfit_words fault)) ++ codes "\n") r
+      (is ∙ ap (λ (s : SourceTexts). report_text s (misfit_members (misfit_words fault)) ++ codes "\n") (sym same)) told some
 
 pub proof_reported : {E : Type 0} (effort : Effort) (x : CopyQuestion) (k : ℕ) (e : BodyView) (texts : SourceTexts) (r : Result (Vec ℕ) E) → texts ≡ copy_texts x → IsExtension x.question.body x.copies e
     → IfOk r (λ t. IsReportOf effort texts e t.items) → IfOk r (λ t. IsTextOf (copy_mode true effort) [] k x t.items)

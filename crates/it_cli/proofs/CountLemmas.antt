@@ -84,7 +84,7 @@ one_count one_answer budgets defined plans before counts (q ∷ qs) c d (reply, 
 
 -- ---- what they sum to
 
--- the counts with one answer more are those with one more yes, no or undecided
+-- the counts with one more answer are those with one more yes, no or undecided
 abbrev IsOneMore : Counts → Counts → Type 0
 IsOneMore c d = (d.yes + d.no + d.undecided ≡ c.yes + c.no + c.undecided + 1) × (d.regions ≡ c.regions) × (d.contained ≡ c.contained) × (d.left_open ≡ c.left_open)
 

@@ -1,5 +1,5 @@
 -- The text of a JSON value without floats is UTF-8 and reads as that value; and an answer that fits its question has such a value.
-use Rattle.std.proofs.Common.{◌≡◌, ℕ, suc, max, ◌<◌, ◌≤◌, ◌^◌, ℤ, pos, negsuc, List, [], ◌∷◌, ◌++◌, map, filter, codes, decimal, Bool, true, false, Some, option_map, option_and_then, All, IsUtf8, refl, sym, ap, ap₂, subst, ◌∙◌, arith, lit≤, append-nil, if◌then◌else◌}
+use Rattle.std.proofs.Common.{◌≡◌, ℕ, suc, max, ◌<◌, ◌≤◌, ◌^◌, ℤ, pos, negsuc, List, [], ◌∷◌, ◌++◌, map, filter, codes, decimal, Bool, true, false, Some, Result, Ok, option_map, option_and_then, All, IsUtf8, refl, sym, ap, ap₂, subst, ◌∙◌, arith, lit≤, append-nil, if◌then◌else◌}
 use Rattle.std.proofs.lemmas.Fmt.{IsAscii-decimal_wide}
 use Rattle.std.proofs.lemmas.List.Elements.{All-head, All-tail, All-filter}
 use Rattle.std.proofs.lemmas.Str.{IsUtf8-append, IsUtf8-nil, IsUtf8-from_ascii}
@@ -29,8 +29,8 @@ use Rattle.it_space.specs.declared.answers.Mark.{Mark}
 use Rattle.it_space.specs.declared.answers.Mark.TheVariants.{Plain, Needed, Unsettled}
 use Rattle.it_syntax.specs.NamesViews.{NamesView}
 use Rattle.it_certificate.specs.AnswerShapes.{IsNumberedAmount, IsNumbered}
-use Rattle.it_certificate.specs.Values.{integer_value, count_value, pair_value, proof_value, row_value, cause_word, step_or_rate_word, answer_members, answer_value, answer_text}
-use Rattle.it_certificate.proofs.ValueLemmas.{answer_shallow}
+use Rattle.it_certificate.specs.Values.{integer_value, count_value, pair_value, proof_value, row_value, cause_word, step_or_rate_word, answer_members, answer_value, answer_text, derived_text, derived_value}
+use Rattle.it_certificate.proofs.ValueLemmas.{answer_shallow, derived_back_is}
 
 -- ---- values without floats
 
@@ -265,6 +265,31 @@ module _ (text : List ℕ) (v : NamesView) (ok : IsUtf8 text) where
   unfolding answer_value answer_members
   region_plain rows h = ((answer_utf8, (IsUtf8-are_ascii (codes "region") refl, (question_utf8, (ok, (IsUtf8-are_ascii (codes "rows") refl, (items_plain row_value (λ r. All IsNumberedAmount r.1) row_plain rows h, tt)))))), refl)
 
+  pub derived_plain : (rows : List (Mark × Terms)) (ws : List CertificateView) → All (λ r. All IsNumberedAmount r.1) rows → All IsNumbered ws → IsPlain (derived_value text v rows ws)
+  unfolding derived_value answer_members
+  derived_plain rows ws h k = (
+    (
+      answer_utf8,
+      (
+        IsUtf8-are_ascii (codes "region") refl,
+        (
+          IsUtf8-are_ascii (codes "origins") refl,
+          (
+            items_plain proof_value IsNumbered proof_plain ws k,
+            (
+              question_utf8,
+              (
+                ok,
+                (IsUtf8-are_ascii (codes "rows") refl, (items_plain row_value (λ r. All IsNumberedAmount r.1) row_plain rows h, tt)),
+              ),
+            ),
+          ),
+        ),
+      ),
+    ),
+    refl,
+  )
+
   pub contained_plain : (parts : List ℕ) (proofs : List CertificateView) → All (λ s. s < 2 ^ 32) parts → All IsNumbered proofs → IsPlain (answer_value text v (Contained parts proofs))
   unfolding answer_value answer_members
   contained_plain parts proofs h k = (
@@ -299,3 +324,15 @@ answer_text_utf8 text v a h = text_utf8 (answer_value text v a) h
 pub answer_text_back : (text : List ℕ) (v : NamesView) (a : AnswerView) → IsPlain (answer_value text v a) → read (answer_text text v a) ≡ Some (answer_value text v a)
 unfolding answer_text
 answer_text_back text v a h = read_text (answer_value text v a) h (answer_shallow text v a)
+
+-- the line of a region with certificates of its rows
+pub derived_text_utf8 : (text : List ℕ) (v : NamesView) (rows : List (Mark × Terms)) (ws : List CertificateView) → IsPlain (derived_value text v rows ws) → IsUtf8 (derived_text text v rows ws)
+unfolding derived_text
+derived_text_utf8 text v rows ws h = text_utf8 (derived_value text v rows ws) h
+
+pub derived_text_back : (text : List ℕ) (v : NamesView) (rows : List (Mark × Terms)) (ws : List CertificateView) → IsPlain (derived_value text v rows ws) → read (derived_text text v rows ws) ≡ Some (derived_value text v rows ws)
+unfolding derived_text
+derived_text_back text v rows ws h =
+    let d = derived_value text v rows ws in
+    let out : Result Data Data = Ok d in
+    derived_back_is compact_text text v rows ws d out refl (λ shallow. read_text d h shallow)

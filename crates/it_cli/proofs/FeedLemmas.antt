@@ -9,11 +9,13 @@ use Rattle.json.specs.Print.{escape_byte, escape, quoted}
 use Rattle.json.proofs.Printed.Strings.{escape_byte_plain}
 use Rattle.serde_json.specs.Data.{Num, unsigned, negative, float, Data, null, boolean, number, string, array, object, Items, no_items, item, Members, no_members, member}
 use Rattle.serde_json.specs.Written.{number_text, comma_if, compact_text, items_text, members_text}
-use Rattle.it_space.specs.Answers.{AnswerView}
+use Rattle.it_space.specs.declared.answers.Mark.{Mark}
+use Rattle.it_space.specs.Answers.{AnswerView, CertificateView}
+use Rattle.it_space.specs.Rows.{Terms}
 use Rattle.it_space.proofs.EveryLemmas.{every-append}
 use Rattle.it_syntax.specs.NamesViews.{NamesView}
 use Rattle.it_question.specs.Lines.{in_front, split_lines}
-use Rattle.it_certificate.specs.Values.{answer_value, answer_text}
+use Rattle.it_certificate.specs.Values.{answer_value, answer_text, derived_text, derived_value}
 use Rattle.it_cli.proofs.DataLemmas.{IsPlainNumber, IsPlain, ItemsArePlain, MembersArePlain}
 
 -- a byte is no line feed
@@ -114,3 +116,8 @@ mutual
 pub answer_text_clear : (text : List ℕ) (v : NamesView) (a : AnswerView) → IsPlain (answer_value text v a) → Every IsNoFeed (answer_text text v a)
 unfolding answer_text
 answer_text_clear text v a h = data_clear (answer_value text v a) h
+
+-- that of a region with certificates of its rows
+pub derived_text_clear : (text : List ℕ) (v : NamesView) (rows : List (Mark × Terms)) (ws : List CertificateView) → IsPlain (derived_value text v rows ws) → Every IsNoFeed (derived_text text v rows ws)
+unfolding derived_text
+derived_text_clear text v rows ws h = data_clear (derived_value text v rows ws) h

@@ -182,7 +182,7 @@ scaled_proof : (p : ProblemView) (effort : Effort) (t : Terms) (w : CertificateV
 scaled_proof p effort t w (inl e) = scaled_by_end p t w e.end e.follows
 scaled_proof p effort t w (inr (quick, settled)) = record { scale = settled.2; canonical = settled.1 }
 
--- so have those of targets and of obligations
+-- proofs of targets and of obligations have such a shape
 pub proofs_scaled : (p : ProblemView) (effort : Effort) (ts : List Terms) (ws : List CertificateView) → AreProofsOf p effort ts ws → All IsScaled ws
 proofs_scaled p effort [] [] d = All-nil IsScaled
 proofs_scaled p effort [] (w ∷ ws) d = absurd d
@@ -283,7 +283,7 @@ none_is_any P causes.Scale h = tt
 none_is_any P (causes.Rows r) h = absurd h
 none_is_any P (causes.WideRate r) h = absurd h
 
--- so what is due of a relation can be written with any names
+-- the answer that is due of a relation can be written with any names
 pub due_is_writable : (effort : Effort) (q : BodyView) (r : RelationView) (v : NamesView) (a : AnswerView) → IsDueRelation effort q r a → IsWritable v a
 due_is_writable effort q r v (Yes ws) due = tt
 due_is_writable effort q r v (No back values) due = tt

@@ -120,7 +120,7 @@ output_of r s settings h reading = subst (λ (x : Settings). IsOutput r.plans x 
 fault_of : (r : Call) (settings : Settings) (u : IsUnread r) → settings_of r.words ≡ Some settings → (mode_of r.plans settings).FaultAt u.bytes u.line u.column u.code
 fault_of r settings u reading = subst (λ (x : Settings). (mode_of r.plans x).FaultAt u.bytes u.line u.column u.code) (one_reading r u.settings settings u.input.reading reading) u.fault
 
--- that of what is there
+-- the fault of what is there
 fault_there : (r : Call) (settings : Settings) (bytes : List ℕ) (u : IsUnread r) → settings_of r.words ≡ Some settings → IsThere r (most_bytes settings) bytes → (mode_of r.plans settings).FaultAt bytes u.line u.column u.code
 fault_there r settings bytes u reading there =
     subst (λ (b : List ℕ). (mode_of r.plans settings).FaultAt b u.line u.column u.code) (there_is_given r settings u.settings (most_bytes settings) bytes u.bytes reading refl there u.input) (fault_of r settings u reading)

@@ -11,6 +11,8 @@ pub mod OutputLemmas
 pub mod PrefixLemmas
 pub mod CheckLemmas
 pub mod CopyLemmas
+pub mod CopyFactors
+pub mod BestLemmas
 pub mod SharingLemmas
 pub mod JsonLemmas
 pub mod ContainedFits
@@ -20,6 +22,8 @@ pub mod NameFits
 pub mod FeedLemmas
 pub mod AcceptLemmas
 pub mod ShortTexts
+pub mod AcceptedOrigins
 pub mod AcceptedOutput
 pub mod TruthLemmas
 pub mod WrittenLemmas
+pub mod OriginLemmas

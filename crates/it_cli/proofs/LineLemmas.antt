@@ -1,5 +1,5 @@
 -- Right answers can be written: their generators are there, their points and causes are of the question's names.
-use Rattle.std.proofs.Common.{◌≡◌, inl, inr, ℕ, ◌+◌, ◌<◌, ◌≤◌, ℤ, List, [], ◌∷◌, map, length, drop, All, Bool, true, false, refl, sym, ap, ap₂, subst, ◌∙◌, arith, length-append}
+use Rattle.std.proofs.Common.{◌≡◌, inl, inr, ℕ, ◌+◌, ◌<◌, ◌≤◌, ℤ, List, [], ◌∷◌, map, length, drop, All, Bool, true, false, None, refl, sym, ap, ap₂, subst, ◌∙◌, arith, length-append}
 use Rattle.std.proofs.lemmas.List.{length-map}
 use Rattle.std.proofs.Math.Seq.{drop-append_seam}
 use Rattle.std.proofs.lemmas.List.Elements.{All-nil, All-cons, All-head, All-tail, All-weaker}
@@ -62,7 +62,7 @@ use Rattle.it_region.specs.declared.types.Candidate.{Candidate}
 use Rattle.it_region.specs.Obligations.{IsSubstitution, obligations}
 use Rattle.it_contain.specs.Proposals.{Plan}
 use Rattle.it_settings.specs.declared.types.Format.TheVariants.{Text, Proof}
-use Rattle.it_cli.specs.Right.{answer_lines}
+use Rattle.it_cli.specs.ToldOrigins.{answer_lines}
 use Rattle.it_cli.proofs.ProofLemmas.{generator_rows_are}
 use Rattle.it_cli.proofs.RateLemmas.{IsEndOf, end_of_rates}
 use Rattle.it_print.proofs.RowLemmas.{row_over}
@@ -128,7 +128,7 @@ few_names q k = by_verb q.verb k.verb
     by_verb (Eliminate rates) over = (k.few, k.few_rates)
     by_verb (Contain a b tries) over = (over.0.few_variables, subst (λ (rs : List (List ℕ)). length rs ≤ 16) (sym over.0.rates) k.few_rates)
 
--- and at least one variable
+-- a question has at least one variable
 pub some_names : (q : BodyView) → IsQuestion q → 1 ≤ variable_count q
 some_names q k = by_verb q.verb k.verb
   where
@@ -233,11 +233,11 @@ printable_is_writable q m (answers.Open tried) k ascii p = tt
 
 -- the lines in each format
 pub text_by_places : (q : QuestionView) (k : ℕ) (s : Space) (cs : List Constraint) (answer : AnswerView) (bytes : List ℕ) → AreStated s (question_origins q.body) (question_demands q.body) cs
-    → bytes ≡ answer_line k q.body (origins_of cs) answer → bytes ≡ answer_lines Text k q answer
+    → bytes ≡ answer_line k q.body (origins_of cs) answer → bytes ≡ answer_lines Text k q answer None
 text_by_places q k s cs answer bytes stated is = is ∙ ap (λ xs. answer_line k q.body xs answer) (origins_same (question_origins q.body) cs stated.placed)
 
 pub proof_by_places : (q : QuestionView) (k : ℕ) (s : Space) (cs : List Constraint) (answer : AnswerView) (bytes : List ℕ) → s ≡ space_of (problem_names q.body) → AreStated s (question_origins q.body) (question_demands q.body) cs
-    → bytes ≡ proof_text k q.body (origins_of cs) (generator_rows (problem_names q.body) cs) (map (terms_in q.body) (answer_forms q.body answer)) answer → bytes ≡ answer_lines Proof k q answer
+    → bytes ≡ proof_text k q.body (origins_of cs) (generator_rows (problem_names q.body) cs) (map (terms_in q.body) (answer_forms q.body answer)) answer → bytes ≡ answer_lines Proof k q answer None
 proof_by_places q k s cs answer bytes space stated is = is ∙ ap₂ (λ xs rows. proof_text k q.body xs rows (map (terms_in q.body) (answer_forms q.body answer)) answer)
     (origins_same (question_origins q.body) cs stated.placed) (generator_rows_are q.body cs (subst (λ (t : Space). AllZip (States t) (question_demands q.body) cs) space stated.stated))
 

@@ -1,10 +1,12 @@
 -- Each mode is determined, and so an input has one output.
-use Rattle.std.proofs.Common.{Bool, ◌≡◌, ℕ, ◌+◌, List, [], ◌∷◌, ◌++◌, map, flat_map, Option, false, refl, sym, ap, ap₂, subst, ◌∙◌, arith}
+use Rattle.std.proofs.Common.{Bool, ◌≡◌, ◌≢◌, ℕ, ◌+◌, List, [], ◌∷◌, ◌++◌, map, flat_map, Option, None, false, refl, sym, ap, ap₂, subst, ◌∙◌, arith}
 use Rattle.std.proofs.lemmas.Bool.{false≢true}
-use Rattle.it_space.specs.Answers.{AnswerView}
+use Rattle.it_space.specs.Answers.{AnswerView, CertificateView}
 use Rattle.it_question.specs.Questions.{BodyView, QuestionView}
 use Rattle.it_question.specs.Files.{FileFaultIsOne, FileIsOne, FileOrFault}
+use Rattle.it_copy.specs.declared.types.CopyFault.{CopyFault}
 use Rattle.it_copy.specs.CopyLines.{CopyView}
+use Rattle.it_copy.specs.Extensions.{IsMisfit}
 use Rattle.it_copy.specs.Files.{CopyFaultIsOne, CopyFileIsOne, CopyFileOrFault}
 use Rattle.it_copy.specs.Points.{ExtensionOrMisfit, OneExtension, OneMisfit}
 use Rattle.it_prove.specs.declared.types.Effort.{Effort}
@@ -12,23 +14,26 @@ use Rattle.it_contain.specs.Proposals.{Plan, plan_after_all}
 use Rattle.it_answer.specs.Replies.{Reply}
 use Rattle.it_answer.specs.RightAnswers.{OneRightAnswer}
 use Rattle.it_bounds.specs.Reports.{OneRightTold}
-use Rattle.it_factor.specs.RightReplies.{OneRightReply}
+use Rattle.it_factor.specs.RightReplies.{IsRightReply, OneRightReply}
 use Rattle.it_outer.specs.declared.types.Limits.{Limits}
 use Rattle.it_sharing.specs.SharingFiles.{SharingFaultIsOne, SharingIsOne, SharingOrFault}
 use Rattle.it_sharing.specs.Sharings.{SharingView, made_question}
 use Rattle.it_report.specs.Meaning as reports
 use Rattle.it_settings.specs.declared.types.Format.{Format}
+use Rattle.it_settings.specs.declared.types.Format.TheVariants.{Text, Json, Proof, Derived}
 use Rattle.it_settings.specs.declared.types.Run.{Run}
 use Rattle.it_settings.specs.declared.types.Run.TheVariants.{Bland, Quick}
 use Rattle.it_settings.specs.declared.types.Settings.TheVariants.{Answer, Check, Bench, Copy, Best, Outer, Sharing}
 use Rattle.it_answer.specs.declared.types.Budgets.{Budgets}
 use Rattle.it_gen.specs.GeneratedFiles.{generated_file}
+use Rattle.it_cli.specs.BestReplies.{BestReply, IsAskedWith, IsRightBestReply, IsToldMisfit}
 use Rattle.it_cli.specs.Copies.{CopyQuestion, CopyReply, Extended, IsRightCopy, IsRightProof, Misfit, with_copies}
 use Rattle.it_cli.specs.Counts.{AreCounted, IsBenchLine, bench_line, no_counts}
 use Rattle.it_cli.specs.Laws.{ModesAreDetermined, ModesHaveOneReading, OneOutput}
 use Rattle.it_cli.specs.Modes.{HasOneReading, IsDetermined, Mode, Replies, WholeOutput}
 use Rattle.it_cli.specs.Outputs.{answer_mode, bench_mode, best_mode, check_mode, copy_mode, mode_of, outer_mode, sharing_mode}
 use Rattle.it_cli.specs.Right.{budgets_of, effort_of, limits_of}
+use Rattle.it_cli.specs.ToldOrigins.{AreToldOrigins, IsRightTold, ToldReply}
 use Rattle.it_cli.specs.SharingReplies.{Answered, Factored, IsRightSharing, Many, SharingReply, said_by}
 use Rattle.it_cli.specs.declared.status.Status.{Status}
 use Rattle.it_cli.proofs.CountLemmas.{one_count}
@@ -86,8 +91,8 @@ heads_are_one one report effort = record {
   apart = λ bytes xs line column c a f. one.apart bytes a.copies a.questions line column c a.read f;
 }
 
-relations_are_one : FileIsOne → FileFaultIsOne → FileOrFault → (report : Bool) (effort : Effort) → HasOneReading (best_mode report effort)
-relations_are_one one_file one_fault apart report effort = record { one_reading = one_file; one_fault = one_fault; apart = apart }
+factored_are_one : CopiesAreOne → (report : Bool) (effort : Effort) → HasOneReading (best_mode report effort)
+factored_are_one one report effort = let mode = heads_are_one one report effort in record { one_reading = mode.one_reading; one_fault = mode.one_fault; apart = mode.apart }
 
 bounded_are_one : FileIsOne → FileFaultIsOne → FileOrFault → (report : Bool) (limits : Limits) → HasOneReading (outer_mode report limits)
 bounded_are_one one_file one_fault apart report limits = record { one_reading = one_file; one_fault = one_fault; apart = apart }
@@ -111,7 +116,7 @@ module _ (one_file : FileIsOne) (one_fault : FileFaultIsOne) (apart : FileOrFaul
   modes_have_one_reading plans Check = lines_are_one
   modes_have_one_reading plans (Bench seed count run pivots rows tries) = nothing_is_one (budgets_of run pivots rows tries) plans seed count
   modes_have_one_reading plans (Copy report run pivots) = heads_are_one copies report (effort_of run pivots)
-  modes_have_one_reading plans (Best report run pivots) = relations_are_one one_file one_fault apart report (effort_of run pivots)
+  modes_have_one_reading plans (Best report run pivots) = factored_are_one copies report (effort_of run pivots)
   modes_have_one_reading plans (Outer report run pivots rows tries) = bounded_are_one one_file one_fault apart report (limits_of run pivots rows tries)
   modes_have_one_reading plans (Sharing report run pivots) = sharing_files_are_one sharings report (effort_of run pivots)
 
@@ -122,12 +127,47 @@ not_quick : (run : Run) (pivots : Option ℕ) → run ≡ Bland → (effort_of r
 not_quick Bland pivots e = refl
 not_quick Quick pivots e = absurd (cc)
 
+-- no certificates are told in another format
+none_told : (format : Format) → format ≢ Derived → (q : BodyView) (answer : AnswerView) (origins : Option (List CertificateView)) → AreToldOrigins format q answer origins → origins ≡ None
+none_told Text other q answer origins told = told
+none_told Json other q answer origins told = told
+none_told Proof other q answer origins told = told
+none_told Derived other q answer origins told = absurd (other refl)
+
+abbrev told_of : Reply → Option (List CertificateView) → ToldReply
+told_of reply origins = record { reply = reply; origins = origins }
+
+one_told : (format : Format) → format ≢ Derived → OneRightAnswer → (budgets : Budgets) → budgets.effort.quick ≡ false → (plans : List Plan) (q : BodyView) (a b : ToldReply) → IsRightTold format budgets plans q a → IsRightTold format budgets plans q b
+    → a ≡ b
+one_told format other one_answer budgets defined plans q a b f g =
+    ap₂ told_of (one_answer budgets plans q a.reply b.reply defined f.reply g.reply)
+    (none_told format other q a.reply.answer a.origins f.origins ∙ sym (none_told format other q b.reply.answer b.origins g.origins))
+
 one_line : OneRightAnswer → FileIsOne → (budgets : Budgets) → budgets.effort.quick ≡ false → (plans : List Plan) (seed count : ℕ) (line other : List ℕ)
     → IsBenchLine budgets plans seed count line → IsBenchLine budgets plans seed count other → line ≡ other
 one_line one_answer one_file budgets defined plans seed count line other a b =
     let same = one_file (generated_file seed count) a.questions b.questions a.asked b.asked in
     let moved : AreCounted budgets plans [] no_counts b.questions a.counts = subst (λ (qs : List QuestionView). AreCounted budgets plans [] no_counts qs a.counts) same a.counted in
     a.is ∙ ap (bench_line seed count) (one_count one_answer budgets defined plans [] no_counts b.questions a.counts b.counts moved b.counted) ∙ sym b.is
+
+-- what is asked of a question with some copies is one question, or there is one reason against it
+module _ (one : CopiesAreOne) where
+  asked_is_one : (q d e : BodyView) (cs : List CopyView) → IsAskedWith q cs d → IsAskedWith q cs e → d ≡ e
+  asked_is_one q d e [] a b = a ∙ sym b
+  asked_is_one q d e (c ∷ cs) a b = one.extension q d e (c ∷ cs) a b
+
+  asked_or_misfit : (x : CopyQuestion) (e : BodyView) (cs : List CopyView) (f : CopyFault) → x.copies ≡ cs → IsAskedWith x.question.body cs e → IsToldMisfit x f → ⊥
+  asked_or_misfit x e [] f is a (some, told, misfit) = some is
+  asked_or_misfit x e (c ∷ cs) f is a (some, told, misfit) = one.either x.question.body e (c ∷ cs) f told a (subst (λ (ds : List CopyView). IsMisfit x.question.body ds f) is misfit)
+
+module _ (one_factor : OneRightReply) (effort : Effort) (defined : effort.quick ≡ false) where
+  one_best : CopiesAreOne → (x : CopyQuestion) (a b : BestReply) → IsRightBestReply effort x a → IsRightBestReply effort x b → a ≡ b
+  one_best one x (Misfit f) (Misfit g) (some, told, is) (some', other, so) = ap Misfit (one.misfit x.question.body x.copies f g told other is so)
+  one_best one x (Misfit f) (Extended e a) misfit (asked, right) = absurd (asked_or_misfit one x e x.copies f refl asked misfit)
+  one_best one x (Extended e a) (Misfit f) (asked, right) misfit = absurd (asked_or_misfit one x e x.copies f refl asked misfit)
+  one_best one x (Extended d a) (Extended e b) (asked, right) (other, is_right) =
+      let same : e ≡ d = asked_is_one one x.question.body e d x.copies other asked in
+      ap₂ Extended (sym same) (one_factor effort d a b defined right (subst (λ (q : BodyView). IsRightReply effort q b) same is_right))
 
 module _ (one_answer : OneRightAnswer) (effort : Effort) (defined : effort.quick ≡ false) where
   -- a question about a relation has one right answer
@@ -158,7 +198,7 @@ module _ (reading : ModesHaveOneReading) (one_answer : OneRightAnswer) (one_file
   modes_are_determined plans (Answer format run pivots rows tries) bland = record {
     reading = reading plans (Answer format run pivots rows tries);
     one_reply = λ s x a b f g.
-        one_answer (budgets_of run pivots rows tries) (map (plan_after_all (flat_map (λ (r : Reply). r.found) s)) plans) x.body a b (not_quick run pivots bland) f g;
+        one_told format bland.1 one_answer (budgets_of run pivots rows tries) (not_quick run pivots bland.0) (map (plan_after_all (flat_map (λ (t : ToldReply). t.reply.found) s)) plans) x.body a b f g;
   }
   modes_are_determined plans Check bland = record { reading = reading plans Check; one_reply = λ s x a b f g. one_verdict x a b f g }
   modes_are_determined plans (Bench seed count run pivots rows tries) bland = record {
@@ -171,7 +211,7 @@ module _ (reading : ModesHaveOneReading) (one_answer : OneRightAnswer) (one_file
   }
   modes_are_determined plans (Best report run pivots) bland = record {
     reading = reading plans (Best report run pivots);
-    one_reply = λ s x a b f g. one_factor (effort_of run pivots) x.body a b (not_quick run pivots bland) f g;
+    one_reply = λ s x a b f g. one_best one_factor (effort_of run pivots) (not_quick run pivots bland) copies x a b f g;
   }
   modes_are_determined plans (Outer report run pivots rows tries) bland = record {
     reading = reading plans (Outer report run pivots rows tries);

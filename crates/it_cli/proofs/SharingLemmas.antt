@@ -10,8 +10,8 @@ use Rattle.it_sharing.specs.Sharings.{SharingView, made_question, maximal_count,
 use Rattle.it_cli.specs.Copies.{IsRightProof}
 use Rattle.it_syntax.specs.NamesViews.{NamesView}
 use Rattle.it_certificate.specs.Values.{OfSharing, answer_members, report_text}
-use Rattle.it_cli.specs.InnerEnds.{IsFactorReportOf, IsProofText, IsReportOf, IsTextOf}
-use Rattle.it_cli.specs.Outputs.{best_mode, sharing_mode}
+use Rattle.it_cli.specs.InnerEnds.{IsFactorReportOf, IsFactorText, IsProofText, IsReportOf, IsTextOf}
+use Rattle.it_cli.specs.Outputs.{sharing_mode}
 use Rattle.it_canon.specs.QuestionDemands.{question_origins}
 use Rattle.it_cli.specs.SharingReplies.{Answered, Factored, said_by, sharing_heading}
 
@@ -20,7 +20,7 @@ pub made_is_proof : (x : SharingView) (q : QuestionView) → q ≡ made_question
 unfolding made_question
 made_is_proof x q made = subst (λ (y : QuestionView). IsProof y.body.verb) (sym made) tt
 
--- with the file's names
+-- a made question has the file's names
 names_of_made : (x : SharingView) (q : QuestionView) → q ≡ made_question x → q.body.names ≡ x.names
 unfolding made_question
 names_of_made x q made = ap (λ (y : QuestionView). y.body.names) made
@@ -32,7 +32,7 @@ module _ (effort : Effort) (bytes : List ℕ) (x : SharingView) (minimal maximal
   headed : (line text : List ℕ) → text ≡ sharing_heading minimal maximal ++ line → text ≡ sharing_heading (minimal_count x) (maximal_count x) ++ line
   headed line text is = is ∙ ap₂ (λ m n. sharing_heading m n ++ line) is_minimal is_maximal
 
-  pub factored_text : (line text : List ℕ) → x.best ≡ true → IsTextOf (best_mode false effort) [] 1 q line → text ≡ sharing_heading minimal maximal ++ line → IsTextOf (sharing_mode false effort) [] 1 (said_by bytes x) text
+  pub factored_text : (line text : List ℕ) → x.best ≡ true → IsFactorText effort 1 q.body line → text ≡ sharing_heading minimal maximal ++ line → IsTextOf (sharing_mode false effort) [] 1 (said_by bytes x) text
   factored_text line text asked t is = record {
     reply = Factored t.reply;
     right = (few_sets, asked, subst (λ (y : QuestionView). IsRightReply effort y.body t.reply) made t.right);

@@ -88,7 +88,7 @@ taken_given (suc i) (l ∷ lines) = let k = taken_given i lines in omega (arith,
 
 -- ---- files
 
--- a question's text has at most so many bytes
+-- the text of `q` has at most `most` bytes
 abbrev IsShortBy : ℕ → QuestionView → Type 0
 IsShortBy most q = length q.text ≤ most
 

@@ -1,4 +1,4 @@
--- Without a budget no run ends for want of steps.
+-- Without a budget no run ends because its steps are used up.
 use Rattle.std.proofs.Common.{◌≡◌, inl, inr, ℕ, List, [], ◌∷◌, map, None}
 use Rattle.it_space.specs.declared.answers.Cause.TheVariants as causes
 use Rattle.it_space.specs.Answers.AnswerView.{Undecided}

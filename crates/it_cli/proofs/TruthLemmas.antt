@@ -1,5 +1,5 @@
 -- Right replies in modes `copy`, `best` and `sharing` are true.
-use Rattle.std.proofs.Common.{◌≡◌, ℤ, ◌↔◌, true, List, Some, refl, sym, ap, subst, ◌∙◌}
+use Rattle.std.proofs.Common.{◌≡◌, ℤ, ◌↔◌, true, List, [], ◌∷◌, None, Some, refl, sym, ap, subst, ◌∙◌}
 use Rattle.it_prove.specs.declared.types.Effort.{Effort}
 use Rattle.it_space.specs.Answers.{AnswerView}
 use Rattle.it_space.specs.Answers.AnswerView.{Yes, No, Undecided, Region, Contained, Open}
@@ -23,9 +23,11 @@ use Rattle.it_ratio.specs.Truth.{HoldsFor, IsTrueBest, asked_by, at_least}
 use Rattle.it_factor.specs.Truth.{IsTrueReply}
 use Rattle.it_ratio.proofs.SameFactors.{true_of_same}
 use Rattle.it_report.proofs.SourceTruth.{own_lines}
+use Rattle.it_cli.specs.BestReplies.{BestReply, IsAskedWith, IsRightBestReply}
 use Rattle.it_cli.specs.Copies.{CopyQuestion, CopyReply, IsRightCopy, Misfit, Extended}
 use Rattle.it_cli.specs.SharingReplies.{IsRightSharing, SharingReply, Many, Answered, Factored}
-use Rattle.it_cli.specs.Truth.{IsTrueCopy, IsTrueSharing, IsTrueWithCopies}
+use Rattle.it_cli.specs.Truth.{HoldsWithCopies, IsTrueBestReply, IsTrueCopy, IsTrueReplyWith, IsTrueSharing, IsTrueWithCopies}
+use Rattle.it_cli.proofs.CopyFactors.{asked_is_proof, same_with_copies}
 
 -- ---- of a question with copies
 
@@ -53,6 +55,23 @@ module _ (shown_is_true : factors.WhatIsShownIsTrue) where
   pub right_reply_is_true : (effort : Effort) (q : BodyView) (reply : ReplyView) → IsRightReply effort q reply → IsTrueReply q reply
   right_reply_is_true effort q (Found best) right = (right.0, right.1, shown_is_true q right.0 best right.2.shows)
   right_reply_is_true effort q Other right = right
+
+  -- with copies, by what is true of the question with them
+  true_reply_with : (q e : BodyView) (c : CopyView) (cs : List CopyView) (reply : ReplyView) → IsQuestion q → IsExtension q (c ∷ cs) e → IsTrueReply e reply → IsTrueReplyWith q (c ∷ cs) e reply
+  true_reply_with q e c cs (Found best) limits extension t =
+      let verb : e.verb ≡ q.verb = ap (λ (x : BodyView). x.verb) extension.is in
+      let asked : asked_by q.verb ≡ Some t.0 = ap asked_by (sym verb) ∙ t.1 in
+      let proof = asked_is_proof q.verb t.0 asked in
+      (t.0, asked, true_of_same (HoldsFor e t.0) (HoldsWithCopies q e t.0) best (same_with_copies q e t.0 limits proof (verb ∙ proof)) t.2)
+  true_reply_with q e c cs Other limits extension t = ap asked_by (sym (ap (λ (x : BodyView). x.verb) extension.is)) ∙ t
+
+  true_reply : (effort : Effort) (q e : BodyView) (cs : List CopyView) (reply : ReplyView) → IsQuestion q → IsAskedWith q cs e → IsRightReply effort e reply → IsTrueReplyWith q cs e reply
+  true_reply effort q e [] reply limits same right = right_reply_is_true effort q reply (subst (λ (x : BodyView). IsRightReply effort x reply) same right)
+  true_reply effort q e (c ∷ cs) reply limits extension right = true_reply_with q e c cs reply limits extension (right_reply_is_true effort e reply right)
+
+  pub right_best_is_true : (effort : Effort) (x : CopyQuestion) (reply : BestReply) → IsQuestion x.question.body → IsRightBestReply effort x reply → IsTrueBestReply x reply
+  right_best_is_true effort x (Misfit fault) limits right = right
+  right_best_is_true effort x (Extended e reply) limits right = (right.0, true_reply effort x.question.body e x.copies reply limits right.0 right.1)
 
 -- ---- of a sharing file
 

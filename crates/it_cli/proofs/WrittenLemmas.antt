@@ -3,7 +3,6 @@ use Rattle.std.proofs.Common.{◌≡◌, ℕ, ◌+◌, inl, List, [], ◌∷◌,
 use Rattle.std.proofs.lemmas.List.Elements.{All-nil, All-cons, All-head, All-tail, All-map}
 use Rattle.it_settings.specs.declared.types.Settings.{Settings}
 use Rattle.it_settings.specs.declared.types.Settings.TheVariants.{Answer, Copy, Best, Outer, Sharing}
-use Rattle.it_space.specs.Answers.{AnswerView}
 use Rattle.it_question.specs.Limits.{IsQuestion}
 use Rattle.it_question.specs.Questions.{QuestionView}
 use Rattle.it_contain.specs.Proposals.{Plan}
@@ -12,30 +11,28 @@ use Rattle.it_copy.specs.Points.{YesByCopies}
 use Rattle.it_sharing.specs.PerfectSharing.{MadeQuestionIsOfPerfectSharing}
 use Rattle.it_sharing.specs.SharingFiles.{SharingIsWithin}
 use Rattle.it_sharing.specs.Sharings.{IsSharing, IsBoundWhereBest}
-use Rattle.it_answer.specs.Replies.{Reply}
 use Rattle.it_answer.specs.Shows as answers
 use Rattle.it_answer.specs.Shows.{Shows}
 use Rattle.it_answer.specs.Truth.{IsTrueAnswer}
-use Rattle.it_bounds.specs.Replies as bounds
+use Rattle.it_bounds.specs.Replies.{ReplyView as BoundsView}
 use Rattle.it_bounds.specs.RightReplies as right_bounds
 use Rattle.it_bounds.specs.Truth as true_bounds
-use Rattle.it_bounds.specs.Reports.{ToldReply, told_lines}
-use Rattle.it_factor.specs.Replies.{ReplyView}
+use Rattle.it_bounds.specs.Reports as bounds
 use Rattle.it_factor.specs.RightReplies as factors
-use Rattle.it_factor.specs.Truth.{IsTrueReply}
-use Rattle.it_cli.specs.FactorReports.{best_lines}
+use Rattle.it_cli.specs.BestReplies.{best_lines}
 use Rattle.it_cli.specs.Copies.{AsksWithCopies, CopyQuestion, copy_lines, with_copies}
 use Rattle.it_cli.specs.Modes.{Mode, WholeOutput}
 use Rattle.it_cli.specs.Outputs.{IsOutput, answer_mode, best_mode, copy_mode, most_bytes, outer_mode, sharing_mode}
-use Rattle.it_cli.specs.Right.{answer_lines, budgets_of, effort_of, limits_of}
+use Rattle.it_cli.specs.Right.{budgets_of, effort_of, limits_of}
+use Rattle.it_cli.specs.ToldOrigins.{AreToldOrigins, ToldReply, told_lines}
 use Rattle.it_cli.specs.SharingReplies.{AsksOfSharing, SharingFile, SharingReply, said_by, sharing_lines}
-use Rattle.it_cli.specs.Truth.{IsTrueCopy, IsTrueSharing}
+use Rattle.it_cli.specs.Truth.{IsTrueBestReply, IsTrueCopy, IsTrueSharing}
 use Rattle.it_cli.specs.Written.{AnswersAreTrue, AnswersShow, AreLinesFor, AreReplyLines, BoundsAreTrue, CopiesAreTrue, FactorsAreTrue, SharingIsTrue, ShownAnswers, TrueAnswers, TrueBounds, TrueCopies, TrueFactors, TrueSharing, WritesSuch}
 use Rattle.it_cli.specs.declared.status.Status.{Status}
 use Rattle.it_cli.specs.declared.status.Status.TheVariants.{Done}
 use Rattle.it_cli.proofs.LawLemmas.{headline}
 use Rattle.it_cli.proofs.ReplyLemmas.{RepliesFrom}
-use Rattle.it_cli.proofs.TruthLemmas.{right_copy_is_true, right_reply_is_true, right_sharing_is_true}
+use Rattle.it_cli.proofs.TruthLemmas.{right_best_is_true, right_copy_is_true, right_sharing_is_true}
 
 -- ---- in any mode
 
@@ -65,12 +62,13 @@ Any x = Unit {0}
 
 pub answers_show : AnswersShow
 answers_show format run pivots rows tries = writes_such (Answer format run pivots rows tries) 1048576 (ShownAnswers format) refl (λ plans bytes out o.
-    lines_for (answer_mode (budgets_of run pivots rows tries) plans format) (λ (reply : Reply). reply.answer) (answer_lines format) (λ k q reply. refl) Any (λ (q : QuestionView) (answer : AnswerView). Shows q.body answer) (λ earlier q reply any right. right.shows) (λ bytes qs asked i d l. tt) bytes out Done o)
+    lines_for (answer_mode (budgets_of run pivots rows tries) plans format) (λ told. told) (told_lines format) (λ k q told. refl) Any (λ (q : QuestionView) (told : ToldReply). Shows q.body told.reply.answer × AreToldOrigins format q.body told.reply.answer told.origins)
+    (λ earlier q told any right. (right.reply.shows, right.origins)) (λ bytes qs asked i d l. tt) bytes out Done o)
 
 pub answers_are_true : answers.WhatIsShownIsTrue → AnswersAreTrue
 answers_are_true shown_is_true format run pivots rows tries = writes_such (Answer format run pivots rows tries) 1048576 (TrueAnswers format) refl (λ plans bytes out o.
-    lines_for (answer_mode (budgets_of run pivots rows tries) plans format) (λ (reply : Reply). reply.answer) (answer_lines format) (λ k q reply. refl) Any (λ (q : QuestionView) (answer : AnswerView). IsTrueAnswer q.body answer)
-    (λ earlier q reply any right. shown_is_true q.body reply.answer right.shows) (λ bytes qs asked i d l. tt) bytes out Done o)
+    lines_for (answer_mode (budgets_of run pivots rows tries) plans format) (λ told. told) (told_lines format) (λ k q told. refl) Any (λ (q : QuestionView) (told : ToldReply). IsTrueAnswer q.body told.reply.answer)
+    (λ earlier q told any right. shown_is_true q.body told.reply.answer right.reply.shows) (λ bytes qs asked i d l. tt) bytes out Done o)
 
 -- the question keeps the limits
 abbrev IsWithinLimits : CopyQuestion → Type 0
@@ -84,19 +82,18 @@ pub copies_are_true : answers.WhatIsShownIsTrue → YesByCopies → CopiedQuesti
 copies_are_true shown_is_true by_copies are_within report run pivots = writes_such (Copy report run pivots) 1048576 (TrueCopies report) refl (λ plans bytes out o.
     lines_for (copy_mode report (effort_of run pivots)) (λ reply. reply) (copy_lines report) (λ k x reply. refl) IsWithinLimits IsTrueCopy (λ earlier. right_copy_is_true shown_is_true by_copies (effort_of run pivots)) (copied_within are_within) bytes out Done o)
 
-pub factors_are_true : factors.WhatIsShownIsTrue → FactorsAreTrue
-factors_are_true shown_is_true report run pivots = writes_such (Best report run pivots) 1048576 (TrueFactors report) refl (λ plans bytes out o.
-    lines_for (best_mode report (effort_of run pivots)) (λ reply. reply) (best_lines report) (λ k q reply. refl) Any (λ (q : QuestionView) (reply : ReplyView). IsTrueReply q.body reply)
-    (λ earlier q reply any. right_reply_is_true shown_is_true (effort_of run pivots) q.body reply) (λ bytes qs asked i d l. tt) bytes out Done o)
+pub factors_are_true : factors.WhatIsShownIsTrue → CopiedQuestionsAreWithin → FactorsAreTrue
+factors_are_true shown_is_true are_within report run pivots = writes_such (Best report run pivots) 1048576 (TrueFactors report) refl (λ plans bytes out o.
+    lines_for (best_mode report (effort_of run pivots)) (λ reply. reply) (best_lines report) (λ k x reply. refl) IsWithinLimits IsTrueBestReply (λ earlier. right_best_is_true shown_is_true (effort_of run pivots)) (copied_within are_within) bytes out Done o)
 
 -- what a reply to the question shows is true
 abbrev IsTrueWhereShown : QuestionView → Type 0
-IsTrueWhereShown q = (reply : bounds.ReplyView) → right_bounds.ShowsReply q.body reply → true_bounds.IsTrueReply q.body reply
+IsTrueWhereShown q = (reply : BoundsView) → right_bounds.ShowsReply q.body reply → true_bounds.IsTrueReply q.body reply
 
 pub bounds_are_true : right_bounds.WhatIsShownIsTrue → BoundsAreTrue
 bounds_are_true shown_is_true report run pivots rows tries = writes_such (Outer report run pivots rows tries) 1048576 (TrueBounds report (limits_of run pivots rows tries)) refl (λ plans bytes out o.
-    lines_for (outer_mode report (limits_of run pivots rows tries)) (λ told. told) (told_lines report (limits_of run pivots rows tries)) (λ k q told. refl)
-    IsTrueWhereShown (λ (q : QuestionView) (told : ToldReply). true_bounds.IsTrueReply q.body told.reply) (λ earlier q told within right. within told.reply right.reply.shows) shown_is_true bytes out Done o)
+    lines_for (outer_mode report (limits_of run pivots rows tries)) (λ told. told) (bounds.told_lines report (limits_of run pivots rows tries)) (λ k q told. refl)
+    IsTrueWhereShown (λ (q : QuestionView) (told : bounds.ToldReply). true_bounds.IsTrueReply q.body told.reply) (λ earlier q told within right. within told.reply right.reply.shows) shown_is_true bytes out Done o)
 
 -- what the file says is within the limits
 abbrev IsWithinSharing : SharingFile → Type 0

@@ -14,7 +14,7 @@ use Rattle.it_certificate.specs.Values.{OfCopies, SourceTexts, answer_members, m
 use Rattle.it_cli.specs.Misfits.{misfit_line, misfit_words}
 use Rattle.it_canon.specs.QuestionDemands.{question_origins}
 
--- a question and the copies that it is to have
+-- a question and the copies that are asked for in it
 pub record CopyQuestion : Type 0 where
   pub copies : List CopyView
   pub question : QuestionView
@@ -30,16 +30,20 @@ pub record AsksWithCopies (bytes : List ℕ) (items : List CopyQuestion) : Type 
   pub read : IsCopyFile bytes copies questions
   pub are : items ≡ map (with_copies copies) questions
 
--- why the question can't have the copies, or the question with them and an answer to it
-pub data CopyReply : Type 0 where
-  Misfit : (fault : CopyFault) → CopyReply
-  Extended : (question : BodyView) (answer : AnswerView) → CopyReply
+-- why the question can't have the copies, or the question that is asked, with them, and what is told of it
+pub data ReplyWith (Told : Type 0) : Type 0 where
+  Misfit : (fault : CopyFault) → ReplyWith Told
+  Extended : (question : BodyView) (told : Told) → ReplyWith Told
+
+-- what is told is an answer
+abbrev pub CopyReply : Type 0
+CopyReply = ReplyWith AnswerView
 
 -- a right answer to a question about a relation, which tries no candidates and eliminates nothing
 abbrev pub IsRightProof : Effort → BodyView → AnswerView → Type 0
 IsRightProof effort q answer = IsRightAnswer (record { effort = effort; rows = 1; tries = 1 }) [] q (record { answer = answer; found = [] })
 
--- a right reply; want of memory is none
+-- a right reply; `Memory` is no reason
 abbrev pub IsRightCopy : Effort → CopyQuestion → CopyReply → Type 0
 IsRightCopy effort x (Misfit fault) = (fault ≡ Memory → ⊥) × IsMisfit x.question.body x.copies fault
 IsRightCopy effort x (Extended e answer) = IsExtension x.question.body x.copies e × IsRightProof effort e answer

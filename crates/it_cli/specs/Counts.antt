@@ -1,4 +1,4 @@
--- How many right answers of each kind the questions of a generated file have, and the line that tells it.
+-- The number of right answers of each kind to the questions of a generated file, and the line of these counts.
 use Rattle.std.specs.Prelude.{◌≡◌, ℕ, ◌+◌, List, [], ◌∷◌, ◌++◌, codes, decimal}
 use Rattle.it_space.specs.Answers.{AnswerView}
 use Rattle.it_space.specs.Answers.AnswerView.{Yes, No, Undecided, Region, Contained, Open}
@@ -12,11 +12,11 @@ use Rattle.it_answer.specs.Replies.{Reply}
 use Rattle.it_cli.specs.Right.{IsRightAfter}
 use Rattle.it_cli.specs.declared.counts.Counts.{Counts}
 
--- no answer is counted yet
+-- the counts of no answers
 abbrev pub no_counts : Counts
 no_counts = record { yes = 0; no = 0; undecided = 0; regions = 0; contained = 0; left_open = 0 }
 
--- one answer more
+-- the counts with one more answer
 abbrev pub with_answer : Counts → AnswerView → Counts
 with_answer c (Yes ws) = record c { yes = c.yes + 1 }
 with_answer c (No is_back values) = record c { no = c.no + 1 }
@@ -25,13 +25,13 @@ with_answer c (Region rows) = record c { regions = c.regions + 1 }
 with_answer c (Contained parts proofs) = record c { contained = c.contained + 1 }
 with_answer c (Open tried) = record c { left_open = c.left_open + 1 }
 
--- the counts before, and one right answer more for each question in order, come to this
+-- `end` is `counts` and one more right answer for each question, in order
 abbrev pub AreCounted : Budgets → List Plan → List Candidate → Counts → List QuestionView → Counts → Type 0
 AreCounted budgets plans before counts [] end = end ≡ counts
 AreCounted budgets plans before counts (q ∷ qs) end =
     (reply : Reply) × IsRightAfter budgets plans before q reply × AreCounted budgets plans (before ++ reply.found) (with_answer counts reply.answer) qs end
 
--- the line that tells the counts
+-- the line of the counts
 unfoldable pub bench_line : ℕ → ℕ → Counts → List ℕ
 bench_line seed count c = codes "bench seed " ++ decimal seed ++ codes " count " ++ decimal count
     ++ codes " yes " ++ decimal c.yes ++ codes " no " ++ decimal c.no ++ codes " undecided " ++ decimal c.undecided

@@ -1,7 +1,8 @@
 -- What follows from how a call ends and from what a right answer is.
-use Rattle.std.specs.Prelude.{◌≡◌, ℕ, ◌+◌, ◌≤◌, ◌<◌, List, [], ◌++◌, length, ◌⊎◌, Option, Some, None}
+use Rattle.std.specs.Prelude.{◌≡◌, ◌≢◌, ℕ, ◌+◌, ◌≤◌, ◌<◌, List, [], ◌++◌, length, ◌⊎◌, Option, Some, None}
 use Rattle.std.specs.List.{list_any}
 use Rattle.it_outside.specs.Causes.{next_count}
+use Rattle.it_settings.specs.declared.types.Format.TheVariants.{Derived}
 use Rattle.it_settings.specs.declared.types.Run.{Run}
 use Rattle.it_settings.specs.declared.types.Run.TheVariants.{Bland}
 use Rattle.it_settings.specs.declared.types.Settings.{Settings}
@@ -57,7 +58,8 @@ abbrev pub IsThere : Call → Option ℕ → List ℕ → Type 0
 IsThere r (Some most) bytes = (r.left ≡ Some bytes) × (length bytes ≤ most)
 IsThere r None bytes = bytes ≡ []
 
--- With a reading, an input in which the mode is asked something, and no fault, the whole output is written or memory is wanted.
+-- With words that have a reading, an input in which the mode is asked something, and no fault, the whole output is written, or
+-- allocation failed.
 abbrev pub IsComplete : Type 0
 IsComplete = (r : Call) (s : Status) (settings : Settings) (bytes : List ℕ) (items : List (mode_of r.plans settings).Item) → Ends r s
     → settings_of r.words ≡ Some settings → IsThere r (most_bytes settings) bytes → (mode_of r.plans settings).Asks bytes items
@@ -68,7 +70,7 @@ IsComplete = (r : Call) (s : Status) (settings : Settings) (bytes : List ℕ) (i
 abbrev pub SureEnds : Type 0
 SureEnds = (r : Call) (s : Status) → Ends r s → r.read_faults_after ≡ 0 → r.write_faults_after ≡ 0 → (s ≡ ReadFault → ⊥) × (s ≡ WriteFault → ⊥)
 
--- ---- each answer comes where it is due, but for want of memory and for faults
+-- ---- the usage line and the refusals come where they are due, unless a read, a write or an allocation fails
 
 -- words without a reading have the usage line, and nothing is read for them
 abbrev pub UsageIsDue : Type 0
@@ -99,9 +101,9 @@ CountsAddUp = (budgets : Budgets) (plans : List Plan) (seed count : ℕ) (questi
     → IsFile (generated_file seed count) questions → AreCounted budgets plans [] no_counts questions counts
     → (counts.yes + counts.no + counts.undecided ≡ count) × (counts.regions ≡ 0) × (counts.contained ≡ 0) × (counts.left_open ≡ 0)
 
--- targets are decided by the defined run alone
+-- targets are decided by the defined run alone, and nothing is told that a search proposes
 abbrev pub AreByBland : Settings → Type 0
-AreByBland (Answer format run pivots rows tries) = run ≡ Bland
+AreByBland (Answer format run pivots rows tries) = (run ≡ Bland) × (format ≢ Derived)
 AreByBland Check = Unit {0}
 AreByBland (Bench seed count run pivots rows tries) = run ≡ Bland
 AreByBland (Copy report run pivots) = run ≡ Bland
@@ -113,7 +115,7 @@ AreByBland (Sharing report run pivots) = run ≡ Bland
 abbrev pub ModesHaveOneReading : Type 0
 ModesHaveOneReading = (plans : List Plan) (settings : Settings) → HasOneReading (mode_of plans settings)
 
--- and where targets are decided by the defined run alone, an item has one right reply after others
+-- where targets are decided by the defined run alone, each mode is determined: an item has one right reply after others
 abbrev pub ModesAreDetermined : Type 0
 ModesAreDetermined = (plans : List Plan) (settings : Settings) → AreByBland settings → IsDetermined (mode_of plans settings)
 
@@ -133,7 +135,8 @@ NoLineIsOutOfSteps = (budgets : Budgets) (plans : List Plan) (q : BodyView) (ste
 abbrev pub VerdictsArePrefix : Type 0
 VerdictsArePrefix = (plans : List Plan) (bytes out : List ℕ) → IsFirstOutput plans Check bytes out ⊎ IsOutputInPart plans Check bytes out → IsPrefixOfOutput plans Check bytes out
 
--- what is written of the line of counts where a write fails is a prefix of a whole output; where memory is wanted, nothing or a whole output
+-- what is written of the line of counts where a write fails is a prefix of a whole output; where allocation fails, nothing or a
+-- whole output
 abbrev pub CountsArePrefix : Type 0
 CountsArePrefix = (plans : List Plan) (seed count : ℕ) (run : Run) (pivots : Option ℕ) (rows tries : ℕ) (bytes out : List ℕ)
     → (IsOutputInPart plans (Bench seed count run pivots rows tries) bytes out → IsPrefixOfOutput plans (Bench seed count run pivots rows tries) bytes out)

@@ -1,11 +1,12 @@
 pub mod Refusals
 pub mod Right
+pub mod ToldOrigins
 pub mod Counts
 pub mod CountSteps
 pub mod Modes
 pub mod Misfits
 pub mod Copies
-pub mod FactorReports
+pub mod BestReplies
 pub mod SharingReplies
 pub mod Truth
 pub mod Outputs

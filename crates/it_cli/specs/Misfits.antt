@@ -3,7 +3,7 @@ use Rattle.std.specs.Prelude.{ℕ, List, [], ◌++◌, codes, decimal}
 use Rattle.it_copy.specs.declared.types.CopyFault.{CopyFault}
 use Rattle.it_copy.specs.declared.types.CopyFault.TheVariants.{Memory, Verb, Copy, Many, Large}
 
--- why it can't have them; nothing is told for want of memory
+-- why the question can't have the copies; no words for `Memory`, which is no such reason
 abbrev pub misfit_words : CopyFault → List ℕ
 misfit_words Memory = []
 misfit_words Verb = codes "verb"

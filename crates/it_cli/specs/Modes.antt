@@ -5,8 +5,9 @@ use Rattle.it_outside.specs.Traffic.{IsPrefix}
 use Rattle.it_forms.specs.declared.types.Code.{Code}
 use Rattle.it_cli.specs.declared.status.Status.{Status}
 
--- The bytes of an input ask for items, one after the other, or have a first fault, at a line and a column. An item has replies that are
--- right after those to the items before it. A reply's lines depend on the item's number. All replies tell the status.
+-- The bytes of an input ask for items, one after the other, or have a first fault, at a line and a column. An item has replies
+-- that are right after those to the items before it. A reply's lines depend on the item's number. The status depends on all
+-- replies.
 pub record Mode : Type 1 where
   pub Item : Type 0
   pub Reply : Type 0
@@ -28,14 +29,14 @@ pub record WholeOutput (m : Mode) (bytes out : List ℕ) (status : Status) : Typ
   pub written : Replies m items replies out
   pub is : status ≡ m.status replies
 
--- the lines of the replies to the first of them, before these later ones
+-- the lines of the replies to the first items; the bytes ask for the items `later` after them
 pub record FirstOutput (m : Mode) (later : List m.Item) (bytes out : List ℕ) : Type 0 where
   pub items : List m.Item
   pub asked : m.Asks bytes (items ++ later)
   pub replies : List m.Reply
   pub written : Replies m items replies out
 
--- the same, and then a prefix of the lines of a right reply to the next
+-- the lines of the replies to the first items, and then a prefix of the lines of a right reply to the next one
 pub record OutputInPart (m : Mode) (bytes out : List ℕ) : Type 0 where
   pub next : m.Item
   pub later : List m.Item
@@ -53,7 +54,7 @@ pub record HasOneReading (m : Mode) : Type 0 where
   pub one_fault : (bytes : List ℕ) (line column row place : ℕ) (c d : Code) → m.FaultAt bytes line column c → m.FaultAt bytes row place d → (line ≡ row) × (column ≡ place) × (c ≡ d)
   pub apart : (bytes : List ℕ) (xs : List m.Item) (line column : ℕ) (c : Code) → m.Asks bytes xs → m.FaultAt bytes line column c → ⊥
 
--- and an item has one right reply after others
+-- the mode has one reading of bytes, and an item has one right reply after others
 pub record IsDetermined (m : Mode) : Type 0 where
   pub reading : HasOneReading m
   pub one_reply : (earlier : List m.Reply) (x : m.Item) (a b : m.Reply) → m.IsRight earlier x a → m.IsRight earlier x b → a ≡ b

@@ -1,5 +1,5 @@
--- The modes, and what a whole input is answered with by the one that the words ask for.
-use Rattle.std.specs.Prelude.{◌≡◌, ℕ, List, [], ◌∷◌, flat_map, Bool, true, false, Option, Some, None}
+-- The modes, and the output of the one that the words ask for.
+use Rattle.std.specs.Prelude.{◌≡◌, ℕ, List, [], ◌∷◌, flat_map, map, Bool, true, false, Option, Some, None}
 use Rattle.std.specs.List.{list_any}
 use Rattle.it_outside.specs.Traffic.{IsPrefix}
 use Rattle.it_settings.specs.declared.types.Format.{Format}
@@ -10,18 +10,17 @@ use Rattle.it_question.specs.Lines.{split_lines}
 use Rattle.it_question.specs.Questions.{QuestionView}
 use Rattle.it_copy.specs.Files.{CopyFileFaultAt}
 use Rattle.it_forms.specs.declared.types.Code.{Code}
-use Rattle.it_contain.specs.Proposals.{Plan}
+use Rattle.it_contain.specs.Proposals.{Plan, plan_after_all}
 use Rattle.it_answer.specs.declared.types.Budgets.{Budgets}
-use Rattle.it_answer.specs.Replies.{Reply}
 use Rattle.it_report.specs.Judging.{IsVerdict}
 use Rattle.it_report.specs.LineVerdicts.{LineVerdict, is_invalid, verdict_line}
 use Rattle.it_outer.specs.declared.types.Limits.{Limits}
 use Rattle.it_prove.specs.declared.types.Effort.{Effort}
-use Rattle.it_bounds.specs.Reports.{IsRightTold, told_lines}
-use Rattle.it_factor.specs.RightReplies.{IsRightReply}
-use Rattle.it_cli.specs.Right.{IsRightAfter, answer_lines, budgets_of, effort_of, limits_of}
+use Rattle.it_bounds.specs.Reports as bounds
+use Rattle.it_cli.specs.Right.{budgets_of, effort_of, limits_of}
+use Rattle.it_cli.specs.ToldOrigins.{IsRightTold, ToldReply, told_lines}
 use Rattle.it_cli.specs.Counts.{IsBenchLine}
-use Rattle.it_cli.specs.FactorReports.{best_lines}
+use Rattle.it_cli.specs.BestReplies.{IsRightBestReply, best_lines}
 use Rattle.it_cli.specs.Copies.{AsksWithCopies, IsRightCopy, copy_lines}
 use Rattle.it_sharing.specs.SharingFiles.{SharingFaultAt}
 use Rattle.it_cli.specs.SharingReplies.{AsksOfSharing, IsRightSharing, sharing_lines}
@@ -29,7 +28,7 @@ use Rattle.it_cli.specs.Modes.{FirstOutput, Mode, OutputInPart, Replies, WholeOu
 use Rattle.it_cli.specs.declared.status.Status.{Status}
 use Rattle.it_cli.specs.declared.status.Status.TheVariants.{Done, Invalid}
 
--- the most bytes of an input; none where the mode has no input
+-- the most bytes of an input; None where the mode has no input
 abbrev pub most_bytes : Settings → Option ℕ
 most_bytes Check = Some 67108864
 most_bytes (Bench seed count run pivots rows tries) = None
@@ -50,11 +49,11 @@ done_mode {Item} {Reply} asks fault_at is_right text = record {
   status = λ replies. Done;
 }
 
--- one right answer to each question of a file, by boxes that had these plans before the first
+-- one right answer to each question of a file, by boxes that had these plans before the first, with what the format tells of its rows
 abbrev pub answer_mode : Budgets → List Plan → Format → Mode
 answer_mode budgets plans format = done_mode IsFile FileFaultAt
-    (λ (earlier : List Reply) (q : QuestionView) (reply : Reply). IsRightAfter budgets plans (flat_map (λ (r : Reply). r.found) earlier) q reply)
-    (λ k q reply. answer_lines format k q reply.answer)
+    (λ (earlier : List ToldReply) (q : QuestionView) told. IsRightTold format budgets (map (plan_after_all (flat_map (λ (t : ToldReply). t.reply.found) earlier)) plans) q.body told)
+    (told_lines format)
 
 -- the status after all verdicts are written
 abbrev pub verdict_status : Bool → Status
@@ -73,7 +72,7 @@ check_mode = record {
   status = λ verdicts. verdict_status (list_any is_invalid verdicts);
 }
 
--- the line of the counts for a generated file, which is one item; nothing is asked of an input
+-- the line of the counts for a generated file, which is one item; the input is ignored
 abbrev pub bench_mode : Budgets → List Plan → ℕ → ℕ → Mode
 bench_mode budgets plans seed count = done_mode (λ bytes items. items ≡ tt {0} ∷ []) (λ bytes line column code. ⊥)
     (λ earlier item line. IsBenchLine budgets plans seed count line) (λ k item line. line)
@@ -82,13 +81,13 @@ bench_mode budgets plans seed count = done_mode (λ bytes items. items ≡ tt {0
 abbrev pub copy_mode : Bool → Effort → Mode
 copy_mode report effort = done_mode AsksWithCopies CopyFileFaultAt (λ earlier. IsRightCopy effort) (copy_lines report)
 
--- one right reply to each question of a file that asks for factors, as a line of a report or not
+-- one right reply about factors to each question of a file with a head, which may be empty, as a line of a report or not
 abbrev pub best_mode : Bool → Effort → Mode
-best_mode report effort = done_mode IsFile FileFaultAt (λ earlier (q : QuestionView) reply. IsRightReply effort q.body reply) (best_lines report)
+best_mode report effort = done_mode AsksWithCopies CopyFileFaultAt (λ earlier. IsRightBestReply effort) (best_lines report)
 
 -- one right reply to each question of a file that asks for outer bounds, as a line of a report or not
 abbrev pub outer_mode : Bool → Limits → Mode
-outer_mode report limits = done_mode IsFile FileFaultAt (λ earlier q told. IsRightTold report limits q.body told) (told_lines report limits)
+outer_mode report limits = done_mode IsFile FileFaultAt (λ earlier q told. bounds.IsRightTold report limits q.body told) (bounds.told_lines report limits)
 
 -- one right reply to what a sharing file asks, as a line of a report or not
 abbrev pub sharing_mode : Bool → Effort → Mode
@@ -110,11 +109,12 @@ mode_of plans (Sharing report run pivots) = sharing_mode report (effort_of run p
 abbrev pub IsOutput : List Plan → Settings → List ℕ → List ℕ → Status → Type 0
 IsOutput plans settings bytes out status = WholeOutput (mode_of plans settings) bytes out status
 
--- what is written of it where memory was wanted: the lines of the first items
+-- the part of the output that is written where allocation failed: the lines of the first items
 abbrev pub IsFirstOutput : List Plan → Settings → List ℕ → List ℕ → Type 0
 IsFirstOutput plans settings bytes out = (later : List (mode_of plans settings).Item) × FirstOutput (mode_of plans settings) later bytes out
 
--- what is written of it where a write failed: the lines of the first items, and then a prefix of those of the next one
+-- the part of the output that is written where a write failed: the lines of the first items, and then a prefix of those of the
+-- next one
 abbrev pub IsOutputInPart : List Plan → Settings → List ℕ → List ℕ → Type 0
 IsOutputInPart plans settings bytes out = OutputInPart (mode_of plans settings) bytes out
 

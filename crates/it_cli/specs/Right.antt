@@ -1,46 +1,40 @@
--- Right answers to questions in order, and the lines of each.
-use Rattle.std.specs.Prelude.{ℕ, List, ◌++◌, map, Option, true, false, codes}
-use Rattle.it_settings.specs.declared.types.Format.{Format}
-use Rattle.it_settings.specs.declared.types.Format.TheVariants.{Text, Json, Proof}
+-- Right answers to questions in order.
+use Rattle.std.specs.Prelude.{ℕ, List, map, Option, true, false}
 use Rattle.it_settings.specs.declared.types.Run.{Run}
 use Rattle.it_settings.specs.declared.types.Run.TheVariants.{Bland, Quick}
-use Rattle.it_space.specs.Answers.{AnswerView}
 use Rattle.it_elemental.specs.Generators.{Generator}
 use Rattle.it_question.specs.Questions.{BodyView, QuestionView}
 use Rattle.it_demand.specs.Demands.{Demand}
-use Rattle.it_canon.specs.QuestionDemands.{question_demands, question_origins, terms_in}
+use Rattle.it_canon.specs.QuestionDemands.{question_demands, terms_in}
 use Rattle.it_canon.specs.TrueLines.{variable_count}
 use Rattle.it_region.specs.declared.types.Candidate.{Candidate}
 use Rattle.it_contain.specs.Proposals.{Plan, plan_after_all}
-use Rattle.it_certificate.specs.Values.{answer_text}
-use Rattle.it_print.specs.Lines.{answer_line}
-use Rattle.it_print.specs.ProofLines.{proof_text}
 use Rattle.it_answer.specs.declared.types.Budgets.{Budgets}
 use Rattle.it_answer.specs.Forms.{all_demands, demand_at}
-use Rattle.it_region.specs.AnswerForms.{answer_forms}
 use Rattle.it_answer.specs.Replies.{Reply}
 use Rattle.it_answer.specs.RightAnswers.{IsRightAnswer}
 use Rattle.it_outer.specs.declared.types.Limits.{Limits}
 use Rattle.it_prove.specs.declared.types.Effort.{Effort}
 
--- what is done to decide a target: a quick run first, or not, and the steps of the defined run, if they are bounded
+-- the effort to decide a target: a quick run first, or not, and the steps of the defined run, if they are bounded
 abbrev pub effort_of : Run → Option ℕ → Effort
 effort_of Bland pivots = record { quick = false; pivots = pivots }
 effort_of Quick pivots = record { quick = true; pivots = pivots }
 
--- how much an answer may cost: the effort for a target, the rows after a rate and the candidates that are tried
+-- the budgets of an answer: the effort for a target, the rows after a rate and the candidates that are tried
 abbrev pub budgets_of : Run → Option ℕ → ℕ → ℕ → Budgets
 budgets_of run pivots rows tries = record { effort = effort_of run pivots; rows = rows; tries = tries }
 
--- how much a search for outer bounds may take: the rows that one more ray leaves, the rays, and the effort for a row
+-- the limits of a search for outer bounds: the rows that one more ray leaves, the rays, and the effort for a row
 abbrev pub limits_of : Run → Option ℕ → ℕ → ℕ → Limits
 limits_of run pivots rows tries = record { rows = rows; rays = tries; effort = effort_of run pivots }
 
--- the boxes had these plans before the first question, and know of the candidates that were found for earlier ones
+-- a right answer by boxes that had these plans before the first question, and know of the candidates `before` that were found
+-- for earlier ones
 abbrev pub IsRightAfter : Budgets → List Plan → List Candidate → QuestionView → Reply → Type 0
 IsRightAfter budgets plans before q reply = IsRightAnswer budgets (map (plan_after_all before) plans) q.body reply
 
--- ---- the lines of an answer
+-- ---- the rows of a question's generators
 
 -- what a demand says, as a row
 abbrev pub row_of_demand : BodyView → Demand → Generator
@@ -49,9 +43,3 @@ row_of_demand q d = record { kind = d.kind; row = terms_in q d.form }
 -- the rows of a question's generators, by number
 abbrev pub question_generators : BodyView → ℕ → Generator
 question_generators q g = row_of_demand q (demand_at (all_demands (variable_count q) (question_demands q)) g)
-
--- the lines of an answer to question k
-abbrev pub answer_lines : Format → ℕ → QuestionView → AnswerView → List ℕ
-answer_lines Text k q a = answer_line k q.body (question_origins q.body) a
-answer_lines Json k q a = answer_text q.text q.body.names a ++ codes "\n"
-answer_lines Proof k q a = proof_text k q.body (question_origins q.body) (question_generators q.body) (map (terms_in q.body) (answer_forms q.body a)) a

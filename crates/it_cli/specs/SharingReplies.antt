@@ -12,7 +12,7 @@ use Rattle.it_sharing.specs.SharingFiles.{IsSharingFile}
 use Rattle.it_sharing.specs.Sharings.{SharingView, made_question, maximal_count, minimal_count}
 use Rattle.it_certificate.specs.Values.{OfSharing, answer_members, misfit_members, report_text}
 use Rattle.it_cli.specs.Copies.{IsRightProof}
-use Rattle.it_cli.specs.FactorReports.{reply_members}
+use Rattle.it_cli.specs.BestReplies.{reply_members}
 use Rattle.it_canon.specs.QuestionDemands.{question_origins}
 
 -- a sharing file: its bytes and what it says
@@ -20,7 +20,7 @@ pub record SharingFile : Type 0 where
   pub bytes : List ℕ
   pub says : SharingView
 
--- these bytes with what they say
+-- the sharing file of these bytes, which say `x`
 abbrev pub said_by : List ℕ → SharingView → SharingFile
 said_by bytes x = record { bytes = bytes; says = x }
 
@@ -42,11 +42,11 @@ IsRightSharing effort x Many = most_lines < minimal_count x + maximal_count x
 IsRightSharing effort x (Answered answer) = (minimal_count x + maximal_count x ≤ most_lines) × (x.best ≡ false) × IsRightProof effort (made_question x).body answer
 IsRightSharing effort x (Factored reply) = (minimal_count x + maximal_count x ≤ most_lines) × (x.best ≡ true) × IsRightReply effort (made_question x).body reply
 
--- the line with both numbers
+-- the line with the numbers of minimal and maximal sets
 unfoldable pub sharing_heading : ℕ → ℕ → List ℕ
 sharing_heading minimal maximal = codes "sharing " ++ decimal minimal ++ codes " " ++ decimal maximal ++ codes "\n"
 
--- lines about the made question, after both numbers
+-- lines about the made question, after the line with both numbers
 abbrev pub sharing_text : SharingView → List ℕ → List ℕ
 sharing_text x lines = sharing_heading (minimal_count x) (maximal_count x) ++ lines
 

@@ -7,20 +7,18 @@ use Rattle.it_settings.specs.declared.types.Format.{Format}
 use Rattle.it_settings.specs.declared.types.Run.{Run}
 use Rattle.it_settings.specs.declared.types.Settings.{Settings}
 use Rattle.it_settings.specs.declared.types.Settings.TheVariants.{Answer, Copy, Best, Outer, Sharing}
-use Rattle.it_space.specs.Answers.{AnswerView}
 use Rattle.it_question.specs.Files.{IsFile}
 use Rattle.it_question.specs.Questions.{QuestionView}
 use Rattle.it_answer.specs.Shows.{Shows}
 use Rattle.it_answer.specs.Truth.{IsTrueAnswer}
 use Rattle.it_bounds.specs.Truth as true_bounds
-use Rattle.it_bounds.specs.Reports.{ToldReply, told_lines}
-use Rattle.it_factor.specs.Replies.{ReplyView}
-use Rattle.it_factor.specs.Truth.{IsTrueReply}
-use Rattle.it_cli.specs.Right.{answer_lines, limits_of}
+use Rattle.it_bounds.specs.Reports as bounds
+use Rattle.it_cli.specs.Right.{limits_of}
+use Rattle.it_cli.specs.ToldOrigins.{AreToldOrigins, ToldReply, told_lines}
 use Rattle.it_cli.specs.Copies.{AsksWithCopies, copy_lines}
-use Rattle.it_cli.specs.FactorReports.{best_lines}
+use Rattle.it_cli.specs.BestReplies.{best_lines}
 use Rattle.it_cli.specs.SharingReplies.{AsksOfSharing, SharingFile, SharingReply, sharing_lines}
-use Rattle.it_cli.specs.Truth.{IsTrueCopy, IsTrueSharing}
+use Rattle.it_cli.specs.Truth.{IsTrueBestReply, IsTrueCopy, IsTrueSharing}
 use Rattle.it_cli.specs.Ends.{Call, Ends}
 use Rattle.it_cli.specs.declared.status.Status.TheVariants.{Done}
 
@@ -32,7 +30,7 @@ AreReplyLines IsSuch text k [] out = out ≡ []
 AreReplyLines {Item} {Reply} IsSuch text k (x ∷ xs) out =
     (reply : Reply) × (rest : List ℕ) × IsSuch x reply × AreReplyLines IsSuch text (k + 1) xs rest × (out ≡ text k x reply ++ rest)
 
--- those for all items that the bytes ask for
+-- lines of one such reply to each of the items that the bytes ask for
 abbrev pub AreLinesFor : {Item Reply : Type 0} → (List ℕ → List Item → Type 0) → (Item → Reply → Type 0) → (ℕ → Item → Reply → List ℕ) → List ℕ → List ℕ → Type 0
 AreLinesFor {Item} Asks IsSuch text bytes out = (items : List Item) × Asks bytes items × AreReplyLines IsSuch text 1 items out
 
@@ -43,27 +41,28 @@ WritesSuch settings IsSuch = (r : Call) (bytes old new : List ℕ) → Ends r Do
 
 -- ---- in each mode
 
--- the lines of an answer to each of a file's questions, which shows what it says
+-- the lines of an answer to each of a file's questions, which shows what it says; the certificates that are told of its rows prove these
 abbrev pub ShownAnswers : Format → List ℕ → List ℕ → Type 0
-ShownAnswers format = AreLinesFor IsFile (λ (q : QuestionView) (answer : AnswerView). Shows q.body answer) (answer_lines format)
+ShownAnswers format = AreLinesFor IsFile (λ (q : QuestionView) (told : ToldReply). Shows q.body told.reply.answer × AreToldOrigins format q.body told.reply.answer told.origins) (told_lines format)
 
--- those of an answer that is true
+-- the lines of a true answer to each of a file's questions
 abbrev pub TrueAnswers : Format → List ℕ → List ℕ → Type 0
-TrueAnswers format = AreLinesFor IsFile (λ (q : QuestionView) (answer : AnswerView). IsTrueAnswer q.body answer) (answer_lines format)
+TrueAnswers format = AreLinesFor IsFile (λ (q : QuestionView) (told : ToldReply). IsTrueAnswer q.body told.reply.answer) (told_lines format)
 
--- those of a true reply to each question of a file with a head, as lines of a report or not
+-- the lines of a true reply to each question of a file with a head, as lines of a report or not
 abbrev pub TrueCopies : Bool → List ℕ → List ℕ → Type 0
 TrueCopies report = AreLinesFor AsksWithCopies IsTrueCopy (copy_lines report)
 
--- those of a true reply to each question of a file that asks for factors, as lines of a report or not
+-- those of a true reply about factors to each question of such a file, as lines of a report or not
 abbrev pub TrueFactors : Bool → List ℕ → List ℕ → Type 0
-TrueFactors report = AreLinesFor IsFile (λ (q : QuestionView) (reply : ReplyView). IsTrueReply q.body reply) (best_lines report)
+TrueFactors report = AreLinesFor AsksWithCopies IsTrueBestReply (best_lines report)
 
--- those of a true reply to each question of a file that asks for outer bounds, made within these limits, as lines of a report or not
+-- the lines of a true reply to each question of a file that asks for outer bounds, made within these limits, as lines of a
+-- report or not
 abbrev pub TrueBounds : Bool → Limits → List ℕ → List ℕ → Type 0
-TrueBounds report limits = AreLinesFor IsFile (λ (q : QuestionView) (told : ToldReply). true_bounds.IsTrueReply q.body told.reply) (told_lines report limits)
+TrueBounds report limits = AreLinesFor IsFile (λ (q : QuestionView) (told : bounds.ToldReply). true_bounds.IsTrueReply q.body told.reply) (bounds.told_lines report limits)
 
--- those of a true reply to what a sharing file asks, as a line of a report or not
+-- the lines of a true reply to what a sharing file asks, as a line of a report or not
 abbrev pub TrueSharing : Bool → List ℕ → List ℕ → Type 0
 TrueSharing report = AreLinesFor AsksOfSharing (λ (x : SharingFile) (reply : SharingReply). IsTrueSharing x.says reply) (λ k. sharing_lines report)
 
@@ -73,7 +72,7 @@ TrueSharing report = AreLinesFor AsksOfSharing (λ (x : SharingFile) (reply : Sh
 abbrev pub AnswersShow : Type 0
 AnswersShow = (format : Format) (run : Run) (pivots : Option ℕ) (rows tries : ℕ) → WritesSuch (Answer format run pivots rows tries) (ShownAnswers format)
 
--- and each is true
+-- in mode `answer` each answer that was written is true
 abbrev pub AnswersAreTrue : Type 0
 AnswersAreTrue = (format : Format) (run : Run) (pivots : Option ℕ) (rows tries : ℕ) → WritesSuch (Answer format run pivots rows tries) (TrueAnswers format)
 
@@ -81,14 +80,14 @@ AnswersAreTrue = (format : Format) (run : Run) (pivots : Option ℕ) (rows tries
 abbrev pub CopiesAreTrue : Type 0
 CopiesAreTrue = (report : Bool) (run : Run) (pivots : Option ℕ) → WritesSuch (Copy report run pivots) (TrueCopies report)
 
--- in mode `best`
+-- in mode `best` each reply that was written is true
 abbrev pub FactorsAreTrue : Type 0
 FactorsAreTrue = (report : Bool) (run : Run) (pivots : Option ℕ) → WritesSuch (Best report run pivots) (TrueFactors report)
 
--- in mode `outer`
+-- in mode `outer` each reply that was written is true
 abbrev pub BoundsAreTrue : Type 0
 BoundsAreTrue = (report : Bool) (run : Run) (pivots : Option ℕ) (rows tries : ℕ) → WritesSuch (Outer report run pivots rows tries) (TrueBounds report (limits_of run pivots rows tries))
 
--- and in mode `sharing`
+-- in mode `sharing` the reply that was written is true
 abbrev pub SharingIsTrue : Type 0
 SharingIsTrue = (report : Bool) (run : Run) (pivots : Option ℕ) → WritesSuch (Sharing report run pivots) (TrueSharing report)

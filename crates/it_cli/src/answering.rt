@@ -1,6 +1,8 @@
 //! Mode `answer`: a question file and its answers.
-ghost use Rattle.std.specs.Prelude.{◌≡◌, ◌≤◌, ◌++◌, codes, length, map, All, IfOk, IsAscii};
+ghost use Rattle.std.specs.Prelude.{◌≡◌, ◌≤◌, length, map, All, IfOk};
 ghost use Rattle.it_space.specs.Answers.{answer_view};
+ghost use Rattle.it_space.specs.Rows.{IsOver};
+ghost use Rattle.it_space.specs.Spaces.{size_of};
 ghost use Rattle.it_question.specs.AsciiTexts.{IsAsciiQuestion};
 ghost use Rattle.it_question.specs.Limits.{IsQuestion};
 ghost use Rattle.it_question.specs.Questions.{question_view, question_body};
@@ -10,28 +12,26 @@ ghost use Rattle.it_question.specs.ProblemLines.{problem_names};
 ghost use Rattle.it_canon.specs.QuestionDemands.{question_demands, question_origins};
 ghost use Rattle.it_answer.specs.AnswerKinds.{IsAnswerTo};
 ghost use Rattle.it_print.specs.Lines.{IsPrintable};
-ghost use Rattle.it_certificate.specs.Values.{IsWritable, answer_text};
-ghost use Rattle.it_cli.specs.InnerEnds.{EndsForBytes, EndsForItems, EndsWithLineOrMemory, IsAnswerText, proof_lines_of, text_lines_of};
+ghost use Rattle.it_certificate.specs.OriginReading.{rows_of};
+ghost use Rattle.it_cli.specs.InnerEnds.{EndsForBytes, EndsForItems, EndsWithLineOrMemory, IsAnswerText, IsToldText, proof_lines_of, text_lines_of};
 ghost use Rattle.it_cli.specs.Outputs.{answer_mode};
 ghost use Rattle.it_cli.specs.Refusals.{fault_line};
-ghost use Rattle.it_cli.specs.Right.{answer_lines};
 
+use crate::json_lines::{derived_line, json_line};
 use crate::refusals::fault_line;
 use crate::status::Status;
 use crate::telling::tell;
 use it_answer::{AnsweredProblem, Budgets, answer, target_rows};
-use it_certificate::answer_json;
 use it_contain::Proposer;
 use it_outside::{Sink, write_all};
 use it_print::{answer_line, proof_text};
 use it_question::questions;
 use it_question::types::{FileFault, Question};
 use it_settings::types::Format;
-use it_space::Answer;
 use it_syntax::types::Code;
 use std::alloc::{AllocError, Global};
 
-/// What is done for the bytes of a question file.
+/// Answers a question file.
 pub fn answer_file<K: Sink>(
     alloc: Global,
     format: Format,
@@ -50,7 +50,7 @@ pub fn answer_file<K: Sink>(
     }
 }
 
-/// Writes the answers, each as soon as it is there.
+/// Writes each answer as soon as it is there.
 fn answer_all<K: Sink>(
     alloc: Global,
     format: Format,
@@ -74,7 +74,7 @@ fn answer_all<K: Sink>(
     Status::Done
 }
 
-/// The lines of the answer to question k, counted from 1.
+/// The lines of the answer to question `k`, counted from 1.
 fn answer_one(
     alloc: Global,
     format: Format,
@@ -91,7 +91,7 @@ fn answer_one(
     lines(alloc, format, k, question, &answered)
 }
 
-/// The lines of an answer in a format.
+/// The lines of an answer in `format`.
 fn lines(
     alloc: Global,
     format: Format,
@@ -101,16 +101,18 @@ fn lines(
 ) -> Result<Vec<u8>, AllocError>
     requires limits { IsQuestion (question_body question.now) }
     requires ascii { IsAsciiQuestion (question_view question.now) }
-    requires stated { AreStated answered.now.problem.space (question_origins (question_body question.now)) (question_demands (question_body question.now)) answered.now.problem.constraints.items }
+    requires stated { AreStated answered.now.problem.space (question_origins (question_body question.now)) (question_demands (question_body question.now)) answered.now.problem.constraints }
     requires space { answered.now.problem.space ≡ space_of (problem_names (question_body question.now)) }
     requires fits { IsAnswerTo (question_body question.now) (answer_view answered.now.answer) }
-    requires printable { IsPrintable (question_body question.now) (length answered.now.problem.constraints.items) answered.now.answer }
-    ensures { IfOk result (λ text. text.items ≡ answer_lines format k (question_view question.now) (answer_view answered.now.answer)) }
+    requires printable { IsPrintable (question_body question.now) (length answered.now.problem.constraints) answered.now.answer }
+    requires rows { All (IsOver (size_of (space_of (question_body question.now).names))) (rows_of (answer_view answered.now.answer)) }
+    ensures { IfOk result (λ text. IsToldText format k (question_view question.now) (answer_view answered.now.answer) text.items) }
 {
     match format {
         Format::Text => text_lines(alloc, k, question, answered),
         Format::Json => json_line(alloc, question, &answered.answer),
         Format::Proof => proof_lines(alloc, k, question, answered),
+        Format::Derived => derived_line(alloc, question, &answered.answer),
     }
 }
 
@@ -122,28 +124,16 @@ pub fn text_lines(
     answered: &AnsweredProblem,
 ) -> Result<Vec<u8>, AllocError>
     requires limits { IsQuestion (question_body question.now) }
-    requires printable { IsPrintable (question_body question.now) (length answered.now.problem.constraints.items) answered.now.answer }
+    requires printable { IsPrintable (question_body question.now) (length answered.now.problem.constraints) answered.now.answer }
     ensures { IfOk result (λ text. text.items ≡ text_lines_of k (question_body question.now) answered.now) }
 {
     answer_line(
         alloc,
         k,
         question,
-        answered.problem.constraints.as_slice(),
+        answered.problem.constraints(),
         &answered.answer,
     )
-}
-
-/// The line of an answer in the format `json`.
-fn json_line(alloc: Global, question: &Question, answer: &Answer) -> Result<Vec<u8>, AllocError>
-    requires ascii { IsAscii (question_view question.now).text }
-    requires writable { IsWritable question.now.names (answer_view answer.now) }
-    ensures { IfOk result (λ line. line.items ≡ answer_text (question_view question.now).text question.now.names (answer_view answer.now) ++ codes "\n") }
-{
-    let text = question.text(alloc)?;
-    let mut line = answer_json(alloc, text.as_slice(), &question.names, answer)?;
-    line.extend_from_slice(b"\n")?;
-    Ok(line)
 }
 
 /// The lines of an answer in the format `proof`, with the rows of which it has certificates.
@@ -154,10 +144,10 @@ fn proof_lines(
     answered: &AnsweredProblem,
 ) -> Result<Vec<u8>, AllocError>
     requires limits { IsQuestion (question_body question.now) }
-    requires stated { AreStated answered.now.problem.space (question_origins (question_body question.now)) (question_demands (question_body question.now)) answered.now.problem.constraints.items }
+    requires stated { AreStated answered.now.problem.space (question_origins (question_body question.now)) (question_demands (question_body question.now)) answered.now.problem.constraints }
     requires space { answered.now.problem.space ≡ space_of (problem_names (question_body question.now)) }
     requires fits { IsAnswerTo (question_body question.now) (answer_view answered.now.answer) }
-    requires printable { IsPrintable (question_body question.now) (length answered.now.problem.constraints.items) answered.now.answer }
+    requires printable { IsPrintable (question_body question.now) (length answered.now.problem.constraints) answered.now.answer }
     ensures { IfOk result (λ text. text.items ≡ proof_lines_of k (question_body question.now) answered.now) }
 {
     let targets = target_rows(alloc, question, &answered.answer)?;
@@ -165,7 +155,7 @@ fn proof_lines(
         alloc,
         k,
         question,
-        answered.problem.constraints.as_slice(),
+        answered.problem.constraints(),
         targets.as_slice(),
         &answered.answer,
     )

@@ -14,7 +14,7 @@ use it_question::questions;
 use it_question::types::{FileFault, Question};
 use std::alloc::{AllocError, Global};
 
-/// What is done for the bytes of a question file.
+/// Writes the outer bounds of the eliminations in a question file.
 pub fn find_bounds<K: Sink>(
     alloc: Global,
     report: bool,
@@ -33,7 +33,7 @@ pub fn find_bounds<K: Sink>(
     }
 }
 
-/// Writes the lines of each question, as soon as they are there.
+/// Writes the lines of each question as soon as they are there.
 fn reply_all<K: Sink>(
     alloc: Global,
     report: bool,
@@ -56,7 +56,7 @@ fn reply_all<K: Sink>(
     Status::Done
 }
 
-/// The lines of the right reply to question k, counted from 1, or the line of a report.
+/// The lines of the right reply to question `k`, counted from 1; with `report` the line of a report instead.
 fn bound_lines(
     alloc: Global,
     report: bool,
@@ -77,7 +77,7 @@ fn bound_lines(
         limits,
         k,
         question,
-        replied.problem.constraints.as_slice(),
+        replied.problem.constraints(),
         &replied.reply,
     )
 }

@@ -9,7 +9,7 @@ use it_question::first_line;
 use it_report::judge;
 use std::alloc::Global;
 
-/// What is done for the bytes of a report: each verdict is written as soon as it is there.
+/// Checks a report; writes each verdict as soon as it is there.
 pub fn check_report<K: Sink>(alloc: Global, bytes: &[u8], sink: &mut K) -> Status
     ensures { EndsForBytes K.taken K.faults check_mode sink.old sink.new bytes.now result }
 {

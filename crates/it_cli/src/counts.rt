@@ -1,4 +1,4 @@
-//! How many answers are of each kind.
+//! The number of answers of each kind.
 ghost use Rattle.std.specs.Prelude.{◌≡◌, ◌<◌, ◌^◌, ◌++◌, IfOk, OnOk, codes, decimal};
 ghost use Rattle.it_space.specs.Answers.{answer_view};
 ghost use Rattle.it_cli.specs.Counts.{bench_line, no_counts, with_answer};
@@ -8,7 +8,7 @@ use it_print::write_number;
 use it_space::Answer;
 use std::alloc::{AllocError, Global};
 
-/// How many answers are of each kind.
+/// The number of answers of each kind.
 #[derive(Clone, Copy)]
 pub struct Counts {
     pub yes: usize,
@@ -20,7 +20,7 @@ pub struct Counts {
 }
 
 impl Counts {
-    /// No answer is counted yet.
+    /// Counts of no answers.
     pub fn new() -> Counts
         ensures { result ≡ no_counts }
     {
@@ -34,7 +34,7 @@ impl Counts {
         }
     }
 
-    /// The counts with one answer more.
+    /// The counts with one more answer.
     pub fn with_answer(self, answer: &Answer) -> Counts
         requires few { total self < 2 ^ 63 }
         ensures { result ≡ with_answer self (answer_view answer.now) }
@@ -76,7 +76,7 @@ fn write_count(out: &mut Vec<u8>, word: &[u8], count: usize) -> Result<(), Alloc
     write_number(out, count)
 }
 
-/// Appends what was asked for: a seed and a count of questions.
+/// Appends the seed and the count of questions that were asked for.
 fn write_asked(out: &mut Vec<u8>, seed: u32, count: u32) -> Result<(), AllocError>
     ensures { OnOk result (out.new.items ≡ out.old.items ++ codes "bench seed " ++ decimal seed ++ codes " count " ++ decimal count) }
 {
@@ -84,7 +84,7 @@ fn write_asked(out: &mut Vec<u8>, seed: u32, count: u32) -> Result<(), AllocErro
     write_count(out, b" count ", count as usize)
 }
 
-/// Appends how many answers are a yes, a no, or undecided.
+/// Appends the numbers of answers that are a yes, a no, or undecided.
 fn write_outcomes(out: &mut Vec<u8>, counts: Counts) -> Result<(), AllocError>
     ensures { OnOk result (out.new.items ≡ out.old.items ++ outcomes_text counts) }
 {
@@ -93,7 +93,7 @@ fn write_outcomes(out: &mut Vec<u8>, counts: Counts) -> Result<(), AllocError>
     write_count(out, b" undecided ", counts.undecided)
 }
 
-/// Appends how many answers are about regions: a region, a substitution that was found, or none.
+/// Appends the numbers of answers about regions: of regions, of substitutions that were found, and of searches that found none.
 fn write_regions(out: &mut Vec<u8>, counts: Counts) -> Result<(), AllocError>
     ensures { OnOk result (out.new.items ≡ out.old.items ++ regions_text counts) }
 {

@@ -1,95 +1,100 @@
-//! Mode `best`: a question file, and the best factors between the sides of its relations.
-ghost use Rattle.std.specs.Prelude.{◌≤◌, [], All, IfOk, false, length, map, true};
+//! Mode `best`: the best factors between the sides of a question's relation, with the copies that the file's head asks for, if there are
+//! any.
+ghost use Rattle.std.specs.Prelude.{◌≡◌, ◌≤◌, [], IfOk, length, map, true, false};
 ghost use Rattle.it_question.specs.Limits.{IsQuestion};
 ghost use Rattle.it_question.specs.Questions.{question_body, question_view};
-ghost use Rattle.it_cli.specs.InnerEnds.{EndsForBytes, EndsForItems, IsTextOf};
+ghost use Rattle.it_copy.specs.CopyLines.{AreNamed, copy_view};
+ghost use Rattle.it_cli.specs.Copies.{with_copies};
+ghost use Rattle.it_cli.specs.InnerEnds.{IsFactorText, IsTextOf};
 ghost use Rattle.it_cli.specs.Outputs.{best_mode};
 
-use crate::answering::tell_fault;
-use crate::reporting::factor_report;
-use crate::status::Status;
+use crate::misfits::{misfit_line, misfit_report};
+use crate::reporting::{factor_report, head_text};
 use it_certificate::SourceText;
+use it_copy::extend;
+use it_copy::types::CopyLine;
 use it_factor::{reply, reply_line};
-use it_outside::{Sink, write_all};
 use it_prove::Effort;
-use it_question::questions;
-use it_question::types::{FileFault, Question};
+use it_question::types::Question;
 use std::alloc::{AllocError, Global};
 
-/// What is done for the bytes of a question file.
-pub fn find_factors<K: Sink>(
+/// The line of the right reply to question `k`, counted from 1; with `report` the line of a report instead.
+pub fn factor_text(
     alloc: Global,
     report: bool,
     effort: Effort,
-    bytes: &[u8],
-    sink: &mut K,
-) -> Status
-    requires { length bytes.now ≤ 1048576 }
-    ensures { EndsForBytes K.taken K.faults (best_mode report effort) sink.old sink.new bytes.now result }
-{
-    match questions(alloc, bytes) {
-        Ok(questions) => reply_all(alloc, report, effort, questions.as_slice(), sink),
-        Err(FileFault::Fault { line, column, code }) => tell_fault(alloc, line, column, code, sink),
-        Err(FileFault::Memory) => Status::Memory,
-    }
-}
-
-/// Writes the line of each question, as soon as it is there.
-fn reply_all<K: Sink>(
-    alloc: Global,
-    report: bool,
-    effort: Effort,
-    questions: &[Question],
-    sink: &mut K,
-) -> Status
-    requires { All (λ q. IsQuestion (question_body q)) questions.now }
-    ensures { EndsForItems K.taken K.faults (best_mode report effort) sink.old sink.new (map question_view questions.now) result }
-{
-    for (i, question) in questions.iter().enumerate() {
-        let Ok(text) = text(alloc, report, effort, i + 1, question) else {
-            return Status::Memory;
-        };
-        let Ok(()) = write_all(sink, text.as_slice()) else {
-            return Status::WriteFault;
-        };
-    }
-    Status::Done
-}
-
-/// The line of the right reply to question k, counted from 1, or the line of a report.
-fn text(
-    alloc: Global,
-    report: bool,
-    effort: Effort,
+    copies: &[CopyLine],
     k: usize,
     question: &Question,
 ) -> Result<Vec<u8>, AllocError>
-    requires { IsQuestion (question_body question.now) }
-    ensures { IfOk result (λ text. IsTextOf (best_mode report effort) [] k (question_view question.now) text.items) }
+    requires limits { IsQuestion (question_body question.now) }
+    requires names { AreNamed copies.now }
+    requires few { length copies.now ≤ 4 }
+    ensures { IfOk result (λ text. IsTextOf (best_mode report effort) [] k (with_copies (map copy_view copies.now) (question_view question.now)) text.items) }
 {
     if report {
-        report_line(alloc, effort, k, question)
+        reply_report(alloc, effort, copies, k, question)
     } else {
-        factor_line(alloc, effort, k, question)
+        reply_text(alloc, effort, copies, k, question)
     }
 }
 
-/// The line of a report of the right reply to a question, whatever its number.
-fn report_line(
+/// The line of the right reply to question `k` as text.
+fn reply_text(
     alloc: Global,
     effort: Effort,
+    copies: &[CopyLine],
     k: usize,
     question: &Question,
 ) -> Result<Vec<u8>, AllocError>
-    requires { IsQuestion (question_body question.now) }
-    ensures { IfOk result (λ text. IsTextOf (best_mode true effort) [] k (question_view question.now) text.items) }
+    requires limits { IsQuestion (question_body question.now) }
+    requires names { AreNamed copies.now }
+    requires few { length copies.now ≤ 4 }
+    ensures { IfOk result (λ text. IsTextOf (best_mode false effort) [] k (with_copies (map copy_view copies.now) (question_view question.now)) text.items) }
 {
-    let text = question.text(alloc)?;
-    let source = SourceText::Question(text.as_slice());
-    factor_report(alloc, effort, source, question)
+    if copies.is_empty() {
+        return factor_line(alloc, effort, k, question);
+    }
+    match extend(alloc, question, copies) {
+        Ok(extended) => factor_line(alloc, effort, k, &extended),
+        Err(fault) => misfit_line(alloc, k, fault),
+    }
 }
 
-/// The line of the right reply to question k, counted from 1.
+/// The line of a report on the right reply to a question; it doesn't depend on its number.
+fn reply_report(
+    alloc: Global,
+    effort: Effort,
+    copies: &[CopyLine],
+    k: usize,
+    question: &Question,
+) -> Result<Vec<u8>, AllocError>
+    requires limits { IsQuestion (question_body question.now) }
+    requires names { AreNamed copies.now }
+    requires few { length copies.now ≤ 4 }
+    ensures { IfOk result (λ text. IsTextOf (best_mode true effort) [] k (with_copies (map copy_view copies.now) (question_view question.now)) text.items) }
+{
+    let text = question.text(alloc)?;
+    if copies.is_empty() {
+        return factor_report(
+            alloc,
+            effort,
+            SourceText::Question(text.as_slice()),
+            question,
+        );
+    }
+    let head = head_text(alloc, copies)?;
+    let source = SourceText::Copies {
+        head: head.as_slice(),
+        question: text.as_slice(),
+    };
+    match extend(alloc, question, copies) {
+        Ok(extended) => factor_report(alloc, effort, source, &extended),
+        Err(fault) => misfit_report(alloc, source, fault),
+    }
+}
+
+/// The line of the right reply to question `k`, counted from 1, without copies.
 pub fn factor_line(
     alloc: Global,
     effort: Effort,
@@ -97,14 +102,14 @@ pub fn factor_line(
     question: &Question,
 ) -> Result<Vec<u8>, AllocError>
     requires { IsQuestion (question_body question.now) }
-    ensures { IfOk result (λ text. IsTextOf (best_mode false effort) [] k (question_view question.now) text.items) }
+    ensures { IfOk result (λ text. IsFactorText effort k (question_body question.now) text.items) }
 {
     let replied = reply(alloc, question, effort)?;
     reply_line(
         alloc,
         k,
         question,
-        replied.problem.constraints.as_slice(),
+        replied.problem.constraints(),
         &replied.reply,
     )
 }

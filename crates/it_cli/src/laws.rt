@@ -6,7 +6,7 @@ ghost use Rattle.it_cli.specs.Written.{AnswersAreTrue, AnswersShow, BoundsAreTru
 
 use it_answer::{answers_are_determined, shown_answers_are_true};
 use it_bounds::shown_bounds_are_true;
-use it_certificate::answers_read_back;
+use it_certificate::{answers_read_back, origins_read_back};
 use it_copy::{copied_questions_are_within, copies_are_determined, heads_are_one, yes_by_copies};
 use it_factor::{replies_are_determined, shown_factors_are_true};
 use it_gen::generated_is_file;
@@ -22,22 +22,22 @@ pub fn headline()
     ensures counts { CountsAreWritten }
 {}
 
-/// Where the words have a reading, the input (if the mode has one) is given whole and has a reading, and no fault is
-/// counted, the whole output is written or memory was wanted.
+/// Where the words have a reading, the input (if the mode has one) is given whole and has a reading, and no fault is counted,
+/// the whole output is written, or allocation failed.
 pub fn is_complete()
     ensures { IsComplete }
 {
     modes_have_one_reading();
 }
 
-/// Over a source and a sink that never count a fault, as `SureSource` and `SureSink` of it_outside, neither status of a fault
-/// comes.
+/// Over a source and a sink that never count a fault, as `SureSource` and `SureSink` of it_outside, the status is neither
+/// `ReadFault` nor `WriteFault`.
 pub fn no_fault_without_cause()
     ensures { SureEnds }
 {}
 
-/// The usage line and the refusals come where they are due, but for want of memory and for faults. Mode `bench` refuses nothing and
-/// leaves the source as it was.
+/// The usage line and the refusals come where the words or the input call for them, unless a read, a write or an allocation
+/// fails. Mode `bench` refuses nothing and leaves the source as it was.
 pub fn are_due()
     ensures usage { UsageIsDue }
     ensures long { LongIsDue }
@@ -107,16 +107,18 @@ pub fn copies_are_true()
 
 /// Each reply whose lines are written after `Done` in mode `best` is true of its question. A least factor holds wherever the question's
 /// lines are true, and no smaller one does; where none is told, none holds; where no least one is, the one that is told and all smaller
-/// ones hold.
+/// ones hold. With copies this is said of the factors that hold for the question's relation wherever there are such copies, and a misfit
+/// is why the question can't have them.
 pub fn factors_are_true()
     ensures { FactorsAreTrue }
 {
     shown_factors_are_true();
+    copied_questions_are_within();
 }
 
-/// Each reply whose lines are written after `Done` in mode `outer` is true of its question. Its rows hold exactly at the rates of which
-/// some whole multiple is that of a polymatroid at which all lines are true, with some values of the rates that go; its rays are
-/// such, and span all that the rows allow; and no row that is marked as needed follows from the others.
+/// Each reply whose lines are written after `Done` in mode `outer` is true of its question. Its rows hold exactly at the rates
+/// of which some whole multiple is that of a polymatroid at which all lines are true, with some values of the eliminated rates;
+/// its rays are such, and span all that the rows allow; and no row that is marked as needed follows from the others.
 pub fn bounds_are_true()
     ensures { BoundsAreTrue }
 {
@@ -168,16 +170,18 @@ pub fn no_step_is_zero()
     it_answer::no_step_is_zero();
 }
 
-/// The line of a right answer in the format `json`, where it is checked, is valid or skipped.
+/// The line of a right answer in the formats `json` and `derived`, where it is checked, is valid or skipped.
 pub fn reports_are_accepted()
     ensures { ReportsAreAccepted }
 {
     answers_read_back();
+    origins_read_back();
 }
 
-/// Where the output of mode `answer` in the format `json` is checked as a report, the status is `Done`.
+/// Where the output of mode `answer` in the format `json` or `derived` is checked as a report, the status is `Done`.
 pub fn output_is_accepted()
     ensures { OutputIsAccepted }
 {
     answers_read_back();
+    origins_read_back();
 }

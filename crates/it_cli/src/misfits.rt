@@ -9,7 +9,7 @@ use it_copy::types::CopyFault;
 use it_print::write_number;
 use std::alloc::{AllocError, Global};
 
-/// Appends why a question can't have the copies; for want of memory there is nothing to tell.
+/// Appends why a question can't have the copies; fails for `Memory`, which is no such reason.
 fn write_misfit(out: &mut Vec<u8>, fault: CopyFault) -> Result<(), AllocError>
     ensures told { OnOk result (out.new.items ≡ out.old.items ++ misfit_words fault) }
     ensures some { OnOk result (fault ≡ Memory → ⊥) }
@@ -26,7 +26,7 @@ fn write_misfit(out: &mut Vec<u8>, fault: CopyFault) -> Result<(), AllocError>
     }
 }
 
-/// The line of a report of what can't have the copies that these texts ask for.
+/// The line of a report on a question that can't have the copies for which `source` asks.
 pub fn misfit_report(
     alloc: Global,
     source: SourceText<'_>,
@@ -42,7 +42,7 @@ pub fn misfit_report(
     Ok(line)
 }
 
-/// The line of question k, which can't have the copies.
+/// The line of question `k`, which can't have the copies.
 #[tactic(auto, unfolding(crate::specs::Misfits::misfit_line))]
 pub fn misfit_line(alloc: Global, k: usize, fault: CopyFault) -> Result<Vec<u8>, AllocError>
     ensures told { IfOk result (λ text. text.items ≡ misfit_line k fault) }

@@ -8,7 +8,7 @@ ghost use Rattle.it_copy.specs.Extensions.{IsProof};
 ghost use Rattle.it_print.specs.Lines.{joined_texts, or_zero};
 ghost use Rattle.it_cli.specs.Copies.{copy_line, head_text};
 ghost use Rattle.it_factor.specs.Replies.{reply_view};
-ghost use Rattle.it_cli.specs.FactorReports.{reply_members};
+ghost use Rattle.it_cli.specs.BestReplies.{reply_members};
 ghost use Rattle.it_cli.specs.InnerEnds.{IsFactorReportOf, IsReportOf};
 
 use it_answer::{Budgets, answer};
@@ -30,7 +30,7 @@ fn write_more(out: &mut Vec<u8>, names: &[Vec<u8>]) -> Result<(), AllocError>
     Ok(())
 }
 
-/// Appends names with commas between them, or `0` where there is none.
+/// Appends names with commas between them; `0` if there are none.
 fn write_set(out: &mut Vec<u8>, names: &[Vec<u8>]) -> Result<(), AllocError>
     ensures { OnOk result (out.new.items ≡ out.old.items ++ joined_texts (codes ",") false (or_zero (map (λ v. v.items) names.now))) }
 {
@@ -68,7 +68,7 @@ pub fn head_text(alloc: Global, copies: &[CopyLine]) -> Result<Vec<u8>, AllocErr
     Ok(text)
 }
 
-/// The line of a report of a right answer to a question about a relation, about what these texts ask.
+/// The line of a report on a right answer to a question about a relation; `source` is what is asked.
 pub fn proof_report(
     alloc: Global,
     effort: Effort,
@@ -91,7 +91,7 @@ pub fn proof_report(
     Ok(line)
 }
 
-/// The line of a report of a reply, without its end, about what these texts ask.
+/// The line of a report on a reply, without its end; `source` is what is asked.
 fn reply_json(alloc: Global, source: SourceText<'_>, reply: &Reply) -> Result<Vec<u8>, AllocError>
     ensures { IfOk result (λ out. out.items ≡ report_text (source_texts source.entry) (reply_members (reply_view reply.now))) }
 {
@@ -101,7 +101,7 @@ fn reply_json(alloc: Global, source: SourceText<'_>, reply: &Reply) -> Result<Ve
     }
 }
 
-/// The line of a report of the right reply about the factors that a question asks for, about what these texts ask.
+/// The line of a report on the right reply about the factors that a question asks for; `source` is what is asked.
 pub fn factor_report(
     alloc: Global,
     effort: Effort,

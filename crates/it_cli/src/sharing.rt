@@ -27,7 +27,7 @@ use std::alloc::{AllocError, Global};
 /// The line where the minimal and the maximal sets are too many.
 const MANY: &[u8] = b"misfit many\n";
 
-/// What is done for the bytes of a sharing file.
+/// Answers what a sharing file asks.
 pub fn answer_sharing<K: Sink>(
     alloc: Global,
     report: bool,
@@ -63,7 +63,7 @@ fn reply<K: Sink>(
     }
 }
 
-/// The lines of the right reply to what a sharing file asks, or the line of a report.
+/// The lines of the right reply to what a sharing file asks; with `report` the line of a report instead.
 fn text(
     alloc: Global,
     report: bool,
@@ -98,7 +98,7 @@ fn lines(
     }
 }
 
-/// The line of a report of the right reply to what a sharing file asks.
+/// The line of a report on the right reply to what a sharing file asks.
 fn report_line(
     alloc: Global,
     effort: Effort,
@@ -115,7 +115,7 @@ fn report_line(
     }
 }
 
-/// The line of a report where the sets are too many.
+/// The line of a report on a file whose sets are too many.
 fn many_report(alloc: Global, bytes: &[u8]) -> Result<Vec<u8>, AllocError>
     ensures { IfOk result (λ text. text.items ≡ report_text (OfSharing bytes.now) (misfit_members (codes "many")) ++ codes "\n") }
 {
@@ -124,7 +124,7 @@ fn many_report(alloc: Global, bytes: &[u8]) -> Result<Vec<u8>, AllocError>
     Ok(line)
 }
 
-/// The line of a report of the right reply to the question that a sharing file makes.
+/// The line of a report on the right reply to the question that a sharing file makes.
 fn made_report(
     alloc: Global,
     effort: Effort,
@@ -183,7 +183,7 @@ fn made_lines(
     }
 }
 
-/// The line with the numbers of minimal and maximal sets, and further lines after it.
+/// The line with the numbers of minimal and maximal sets, and then `lines`.
 #[tactic(auto, unfolding(crate::specs::SharingReplies::sharing_heading))]
 fn with_heading(
     alloc: Global,

@@ -4,7 +4,7 @@ ghost use Rattle.it_cli.specs.InnerEnds.{EndOfLine};
 use crate::status::Status;
 use it_outside::{Sink, write_all};
 
-/// Writes a line. The call then ends with the status, or with `WriteFault` where the write failed.
+/// Writes `line` and returns `status`, or `WriteFault` if the write fails.
 pub fn tell<K: Sink>(sink: &mut K, line: &[u8], status: Status) -> Status
     ensures { EndOfLine (K.taken sink.old) (K.taken sink.new) (K.faults sink.old) (K.faults sink.new) line.now status result }
 {

@@ -11,8 +11,7 @@ use crate::answering::answer_file;
 use crate::benching::bench;
 use crate::bounding::find_bounds;
 use crate::checking::check_report;
-use crate::copying::answer_with_copies;
-use crate::factoring::find_factors;
+use crate::heads::{Wanted, reply_to_file};
 use crate::refusals::LONG;
 use crate::sharing::answer_sharing;
 use crate::status::Status;
@@ -31,8 +30,8 @@ const USAGE: &[u8] =
     b"usage: itip answer|check|bench|copy|best|sharing [--format text|json|proof] [--pivots N] [--rows N] [--tries N] [--seed N] [--count N]\n";
 
 /// All that the program does: `words` are those of the command line after the program's name, `proposers` the boxes that
-/// containments are looked for with. The input is read whole before the first line of output. The lines of one question, or the
-/// line of one verdict, are written by one write, in order.
+/// propose candidates for containments. The input is read whole before the first line of output. The lines of one question, or
+/// the line of one verdict, are written by one write, in order.
 pub fn itip<S: Source, K: Sink>(
     alloc: Global,
     words: &[&str],
@@ -46,7 +45,7 @@ pub fn itip<S: Source, K: Sink>(
     call(alloc, words, source, sink, &mut boxes)
 }
 
-/// The same, by boxes that outlive the call.
+/// Like `itip`, with boxes that outlive the call.
 fn call<S: Source, K: Sink>(
     alloc: Global,
     words: &[&str],
@@ -63,7 +62,7 @@ fn call<S: Source, K: Sink>(
     }
 }
 
-/// What is done for words with a reading.
+/// Runs the mode of `settings`.
 fn run<S: Source, K: Sink>(
     alloc: Global,
     settings: Settings,
@@ -80,7 +79,7 @@ fn run<S: Source, K: Sink>(
     }
 }
 
-/// What is done for words that ask for a mode with an input of at most so many bytes.
+/// Runs a mode with an input of at most `most` bytes.
 fn read<S: Source, K: Sink>(
     alloc: Global,
     settings: Settings,
@@ -101,7 +100,7 @@ fn read<S: Source, K: Sink>(
     }
 }
 
-/// The most bytes of an input; none where the mode has no input.
+/// The most bytes of an input; None where the mode has no input.
 fn limit(settings: Settings) -> Option<usize>
     ensures { result ≡ most_bytes settings }
 {
@@ -116,7 +115,7 @@ fn limit(settings: Settings) -> Option<usize>
     }
 }
 
-/// What is done to decide a target.
+/// The effort to decide a target.
 fn effort_of(run: Run, pivots: Option<u32>) -> Effort
     ensures { result ≡ effort_of run pivots }
 {
@@ -132,7 +131,7 @@ fn effort_of(run: Run, pivots: Option<u32>) -> Effort
     }
 }
 
-/// How much an answer may cost.
+/// The budgets of an answer.
 fn budgets_of(run: Run, pivots: Option<u32>, rows: u32, tries: u32) -> Budgets
     requires few { rows ≤ 4096 }
     ensures { result ≡ budgets_of run pivots rows tries }
@@ -144,7 +143,7 @@ fn budgets_of(run: Run, pivots: Option<u32>, rows: u32, tries: u32) -> Budgets
     }
 }
 
-/// What a search for outer bounds may take.
+/// The limits of a search for outer bounds.
 fn limits_of(run: Run, pivots: Option<u32>, rows: u32, tries: u32) -> Limits
     ensures { result ≡ limits_of run pivots rows tries }
 {
@@ -155,7 +154,7 @@ fn limits_of(run: Run, pivots: Option<u32>, rows: u32, tries: u32) -> Limits
     }
 }
 
-/// What is done for the bytes of a whole input, or for none.
+/// Runs the mode of `settings` on the bytes of a whole input, or on none.
 fn reply<K: Sink>(
     alloc: Global,
     settings: Settings,
@@ -194,12 +193,26 @@ fn reply<K: Sink>(
             report,
             run,
             pivots,
-        } => answer_with_copies(alloc, report, effort_of(run, pivots), bytes, sink),
+        } => reply_to_file(
+            alloc,
+            Wanted::Answers,
+            report,
+            effort_of(run, pivots),
+            bytes,
+            sink,
+        ),
         Settings::Best {
             report,
             run,
             pivots,
-        } => find_factors(alloc, report, effort_of(run, pivots), bytes, sink),
+        } => reply_to_file(
+            alloc,
+            Wanted::Factors,
+            report,
+            effort_of(run, pivots),
+            bytes,
+            sink,
+        ),
         Settings::Outer {
             report,
             run,

@@ -1,4 +1,4 @@
--- The closure as a meet is the least closed set that holds the set.
+-- The closure, as an intersection, is the least closed set that contains the set.
 use Rattle.std.proofs.Common.{◌≡◌, ℕ, zero, suc, ◌+◌, ◌-◌, ◌^◌, ◌<◌, ◌≤◌, ◌⊎◌, inl, inr, List, [], ◌∷◌, Bool, true, false, ◌&&◌, not, cond, bit_and, refl, sym, ap, ap₂, subst, ◌∙◌, arith, All, eq-eqb}
 use Rattle.std.specs.List.{filter, AllByRecursion as Every}
 use Rattle.std.proofs.lemmas.Bool.{eqb-true, false≢true}
@@ -96,7 +96,7 @@ meet_in w p from (suc count) a h k e = by_test (p from) refl (same_or_more from 
     by_test false f (inl s) ih = absurd (false≢true (sym f ∙ ap p s ∙ e))
     by_test false f (inr l) ih = subst (λ (b : Bool). IsInside (meet_all w (cond b (from ∷ filter p (span (from + 1) count)) (filter p (span (from + 1) count)))) a) (sym f) (ih l)
 
--- what holds of each closed set that holds s
+-- what holds of each closed set that contains s
 of_closed : (n : ℕ) (ds : List Dependence) (s : ℕ) (P : ℕ → Type 0) → ((a : ℕ) → IsInside s a → Every (Keeps a) ds → P a) → Every P (filter (λ a. is_inside s a && is_closed ds a) (span 0 (2 ^ n)))
 of_closed n ds s P f = every-filter P (λ a. is_inside s a && is_closed ds a) (span 0 (2 ^ n))
     (every_all (λ a. (is_inside s a && is_closed ds a) ≡ true → P a) (span 0 (2 ^ n)) (λ a e.

@@ -1,4 +1,4 @@
--- How many columns constraints have, counted one by one, and how many rows there are at most.
+-- The number of columns of constraints, counted one by one, and a bound on the number of rows.
 use Rattle.std.proofs.Common.{◌≡◌, ℕ, ◌+◌, ◌-◌, ◌*◌, ◌<◌, ◌≤◌, ◌^◌, List, [], ◌∷◌, length, drop, get_or, ap, arith, lit<, length-append}
 use Rattle.std.specs.Prelude.{filter}
 use Rattle.std.proofs.Math.Nat.{pow-le-pow_right, mul-le-mul_right}

@@ -9,7 +9,7 @@ use Rattle.it_polymatroid.specs.Polymatroid.{IsPolymatroid}
 use Rattle.it_closure.specs.declared.dependences.Dependence.{Dependence}
 use Rattle.it_closure.specs.Closures.{closure, MeetsDependences}
 
--- the place over closed sets of a coordinate: the closure of a set, or 0 where that is the closure of the empty set; a rate's place is its own
+-- the place over closed sets of a coordinate: for a set its closure, or 0 if that is the closure of the empty set; for a rate its own
 unfoldable pub place : ℕ → List Dependence → ℕ → ℕ
 place n ds c = if nat_lt c (2 ^ n) then (if nat_eq (closure n ds c) (closure n ds 0) then 0 else closure n ds c) else c
 
@@ -17,15 +17,15 @@ place n ds c = if nat_lt c (2 ^ n) then (if nat_eq (closure n ds c) (closure n d
 abbrev pub placed_terms : ℕ → List Dependence → Terms → Terms
 placed_terms n ds terms = map (λ t. (place n ds t.0, t.1)) terms
 
--- a map that has at each place other than 0 the sum of the coefficients there
+-- f has at each place other than 0 the sum of the coefficients there
 abbrev pub AreSumsByPlace : ℕ → List Dependence → Terms → (ℕ → ℤ) → Type 0
 AreSumsByPlace n ds terms f = (c : ℕ) → 0 < c → f c ≡ coefficient (placed_terms n ds terms) c
 
--- the map on all coordinates that has at each the value at its place
+-- the map that has at each coordinate the value of p at its place
 abbrev pub spread_out : ℕ → List Dependence → (ℕ → ℤ) → ℕ → ℤ
 spread_out n ds p c = p (place n ds c)
 
--- a row over closed sets: its value at each map is that of the row at the map spread out
+-- new is old over closed sets: its value at each map is that of old at the map spread out
 abbrev pub IsCollapseOf : ℕ → List Dependence → Terms → Terms → Type 0
 IsCollapseOf n ds old new = (p : ℕ → ℤ) → p 0 ≡ pos 0 → value new p ≡ value old (spread_out n ds p)
 
@@ -38,12 +38,12 @@ PlaceSumsFit f (t ∷ ts) = (0 < t.0 → IsWithin (f t.0 +ℤ t.1)) × PlaceSums
 abbrev pub CollapseFits : ℕ → List Dependence → Terms → Type 0
 CollapseFits n ds terms = PlaceSumsFit (λ c. pos 0) (placed_terms n ds terms)
 
--- dependences of sets of the n variables
+-- ds are dependences of sets of the n variables
 pub record AreDependences (n : ℕ) (ds : List Dependence) : Type 0 where
   pub inside : All (λ d. IsInside d.from d.to) ds
   pub below : All (λ d. d.to < 2 ^ n) ds
 
--- A polymatroid that meets the dependences has one value at a set and at its closure.
+-- A polymatroid that meets the dependences has the same value at a set and at its closure.
 abbrev pub ClosuresKeep : Type 0
 ClosuresKeep = (n : ℕ) (ds : List Dependence) (h : ℕ → ℤ) → AreDependences n ds → IsPolymatroid n h → MeetsDependences ds h → (s : ℕ) → s < 2 ^ n → h (closure n ds s) ≡ h s
 

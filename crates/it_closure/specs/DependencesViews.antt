@@ -10,13 +10,13 @@ pub record DependencesView : Type 0 where
   pub space : Space
   pub list : List Dependence
 
--- a set of the space's variables determines a greater one
+-- d says that a set of the space's variables determines a greater one
 pub record IsDependenceOf (s : Space) (d : Dependence) : Type 0 where
   pub inside : IsInside d.from d.to
   pub more : d.from ≢ d.to
   pub below : d.to < 2 ^ s.variables
 
--- all of them are dependences of their space
+-- all of the list are dependences of the space
 pub record AreOfSpace (d : DependencesView) : Type 0 where
   pub space : IsSpace d.space
   pub each : All (IsDependenceOf d.space) d.list

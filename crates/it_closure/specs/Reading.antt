@@ -1,4 +1,4 @@
--- The dependences that equations are: given equations whose row is h(to) - h(from), or the negation, where from is strictly inside to.
+-- The dependences that given equations state: their row is h(to) - h(from), or the negation, where from is strictly inside to.
 use Rattle.std.specs.Prelude.{◌≡◌, ℕ, zero, suc, ◌+◌, ◌^◌, ℤ, pos, negsuc, List, [], ◌∷◌, ◌++◌, length, Option, Some, None, Bool, true, false, ◌&&◌, not, nat_eq, nat_lt, if◌then◌else◌}
 use Rattle.it_space.specs.declared.spaces.Space.{Space}
 use Rattle.it_space.specs.declared.problems.Kind.TheVariants.{Equation}
@@ -24,7 +24,7 @@ abbrev pub is_given : Origin → Bool
 is_given (Given line part parts) = true
 is_given (Rate line) = false
 
--- the constraint is a given equation that says the dependence
+-- the constraint is a given equation that states the dependence
 pub record SaysDependence (s : Space) (c : Constraint) (d : Dependence) : Type 0 where
   pub given : is_given c.origin ≡ true
   pub equation : c.kind ≡ Equation
@@ -36,7 +36,7 @@ abbrev pub is_one : ℤ → Bool
 is_one (pos (suc zero)) = true
 is_one x = false
 
--- whether it is -1
+-- whether a coefficient is -1
 abbrev pub is_minus_one : ℤ → Bool
 is_minus_one (negsuc zero) = true
 is_minus_one x = false
@@ -52,16 +52,16 @@ ends_of (t ∷ u ∷ []) =
     if is_one t.1 && is_minus_one u.1 then Some (record { from = t.0; to = u.0; negated = true }) else None
 ends_of (t ∷ u ∷ v ∷ ts) = None
 
--- whether they are sets of the n variables, the first strictly inside the second
+-- whether the two are sets of the n variables, the first strictly inside the second
 abbrev pub are_ends : ℕ → SetPair → Bool
 are_ends n e = nat_lt e.to (2 ^ n) && (is_inside e.from e.to && not (nat_eq e.from e.to))
 
--- the dependence of such sets, of the generator g
+-- the dependence of such sets, with the number g of its generator
 abbrev pub with_number : ℕ → ℕ → Option SetPair → Option Dependence
 with_number n g None = None
 with_number n g (Some e) = if are_ends n e then Some (record { from = e.from; to = e.to; generator = g; negated = e.negated }) else None
 
--- the dependence that a constraint is, if it is one, the constraint being generator g
+-- the dependence that a constraint states, if it states one, where the constraint is generator g
 abbrev pub read_one : ℕ → ℕ → Constraint → Option Dependence
 read_one n g c = if is_given c.origin && is_equation c.kind then with_number n g (ends_of c.row) else None
 

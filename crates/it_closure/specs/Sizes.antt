@@ -1,4 +1,4 @@
--- How large the table is with which the run about a problem begins.
+-- The size of the table with which the run about a problem begins.
 use Rattle.std.specs.Prelude.{ℕ, ◌+◌, ◌*◌, List, [], ◌∷◌, length}
 use Rattle.it_space.specs.declared.problems.Kind.{Kind}
 use Rattle.it_space.specs.declared.problems.Kind.TheVariants.{Inequality, Equation}
@@ -8,24 +8,24 @@ use Rattle.it_polymatroid.specs.Elementals.{elementals}
 use Rattle.it_closure.specs.Coordinates.{closed_coordinates}
 use Rattle.it_closure.specs.Reading.{dependences_of}
 
--- how many columns a constraint of this kind has: an equation has two, one for each sign of its weight
+-- the number of columns of a constraint of this kind: an equation has two, one for each sign of its weight
 abbrev pub column_count : Kind → ℕ
 column_count Inequality = 1
 column_count Equation = 2
 
--- how many columns constraints have
+-- the number of columns of constraints
 abbrev pub constraint_columns : List Constraint → ℕ
 constraint_columns [] = 0
 constraint_columns (c ∷ cs) = column_count c.kind + constraint_columns cs
 
--- a row for each closed set but the closure of the empty set, and for each rate
+-- the number of rows: one for each closed set but the closure of the empty set, and one for each rate
 abbrev pub table_rows : ProblemView → ℕ
 table_rows q = length (closed_coordinates q.space.variables q.space.rates (dependences_of q))
 
--- a column for each elemental inequality, those of the constraints, and an artificial one for each row
+-- the number of columns: one for each elemental inequality, those of the constraints, and an artificial one for each row
 abbrev pub table_columns : ProblemView → ℕ
 table_columns q = length (elementals q.space.variables) + constraint_columns q.constraints + table_rows q
 
--- how many entries the table has: rows times columns
+-- the number of entries of the table: rows times columns
 unfoldable pub table_size : ProblemView → ℕ
 table_size q = table_rows q * table_columns q

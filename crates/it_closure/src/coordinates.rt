@@ -36,7 +36,7 @@ fn closed_sets(alloc: Global, dependences: &Dependences) -> Result<Vec<u32>, All
     Ok(sets)
 }
 
-/// Whether a set is closed, and not the closure of the empty set.
+/// Whether `set` is closed, and isn't the closure of the empty set.
 fn has_row(dependences: &Dependences, set: VarSet) -> bool
     requires { set < 2 ^ dependences.now.space.variables }
     ensures { result ≡ has_row dependences.now.space.variables dependences.now.list set }
@@ -48,7 +48,7 @@ fn has_row(dependences: &Dependences, set: VarSet) -> bool
     }
 }
 
-/// Puts an item after the others, if it is wanted.
+/// Appends `item`, if `wanted`.
 fn push_if(list: &mut Vec<u32>, wanted: bool, item: u32) -> Result<(), AllocError>
     ensures { OnOk result (list.new.items ≡ list.old.items ++ cond wanted (item ∷ []) []) }
 {
@@ -58,7 +58,7 @@ fn push_if(list: &mut Vec<u32>, wanted: bool, item: u32) -> Result<(), AllocErro
     Ok(())
 }
 
-/// Puts the coordinates of the rates after the others, in order.
+/// Appends the coordinates of the rates, in order.
 fn push_rates(list: &mut Vec<u32>, space: Space) -> Result<(), AllocError>
     requires { IsSpace space }
     ensures { OnOk result (list.new.items ≡ list.old.items ++ span (2 ^ space.variables) space.rates) }

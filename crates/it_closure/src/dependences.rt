@@ -1,7 +1,6 @@
 //! The functional dependences among given equations, and the closure of a set under them.
 ghost use Rattle.std.specs.Prelude.{IfOk, ◌≡◌, ◌<◌, ◌^◌, All};
 ghost use Rattle.it_closure.specs.Closures.{closure, first_open, is_open};
-ghost use Rattle.it_space.specs.Problems.{IsProblem, problem_view};
 ghost use Rattle.it_closure.specs.DependencesViews.{AreOfSpace};
 ghost use Rattle.it_closure.specs.Reading.{dependences_of};
 
@@ -11,7 +10,7 @@ use it_space::{Problem, Space, VarSet};
 use std::alloc::{AllocError, Global};
 use std::marker::Model;
 
-/// What a given equation says: that the variables of one set determine those of a greater one.
+/// The functional dependence that a given equation states: the variables of `from` determine those of the greater set `to`.
 #[derive(Clone, Copy, Debug, PartialEq, Eq)]
 pub struct Dependence {
     pub from: VarSet,
@@ -40,21 +39,21 @@ impl Model for Dependences {
 }
 
 impl Dependences {
-    /// The dependences among a problem's given equations.
+    /// The dependences among the given equations of `problem`.
     pub fn read(alloc: Global, problem: &Problem) -> Result<Dependences, AllocError>
-        requires { IsProblem (problem_view problem.now) }
         ensures space { IfOk result (λ d. d.space ≡ problem.now.space) }
-        ensures list { IfOk result (λ d. d.list ≡ dependences_of (problem_view problem.now)) }
+        ensures list { IfOk result (λ d. d.list ≡ dependences_of problem.now) }
     {
-        let n = problem.space.variables;
-        let list = read_all(alloc, n, count(n), problem.constraints.as_slice())?;
+        problem.facts();
+        let n = problem.space().variables;
+        let list = read_all(alloc, n, count(n), problem.constraints())?;
         Ok(Dependences {
-            space: problem.space,
+            space: problem.space(),
             list,
         })
     }
 
-    /// The space of the problem that they were read from.
+    /// The space of the problem that the dependences were read from.
     pub fn space(&self) -> Space
         ensures value { result ≡ self.now.space }
         ensures shape { AreOfSpace self.now }
@@ -69,7 +68,7 @@ impl Dependences {
         self.list.as_slice()
     }
 
-    /// The least set that holds this one, and all that it determines with it.
+    /// The closure of `set`: the least closed set that contains it.
     pub fn close(&self, set: VarSet) -> VarSet
         ensures all { result ≡ closure 16 self.now.list set }
         ensures own { set < 2 ^ self.now.space.variables → result ≡ closure self.now.space.variables self.now.list set }
@@ -78,13 +77,13 @@ impl Dependences {
     }
 }
 
-/// The least set that holds this one and what its subsets determine.
+/// The closure of `set` under the dependences of `list`: the least closed set that contains it.
 fn closure(list: &[Dependence], set: VarSet) -> VarSet
     requires below { All (λ d. d.to < 2 ^ 16) list.now }
     ensures { result ≡ closure 16 list.now set }
 {
     let mut all = set;
-    // a `loop` with `match`, since the proof takes the equation of `None` at the return
+    // a `loop` with `match`, since the proof uses the equation of `None` at the return
     loop {
         match first_open(list, all) {
             Some(open) => all = all.union(open.to),
@@ -93,7 +92,7 @@ fn closure(list: &[Dependence], set: VarSet) -> VarSet
     }
 }
 
-/// The first dependence that the set doesn't keep.
+/// The first dependence of `list` that `set` violates: it contains `from`, but not `to`.
 pub fn first_open(list: &[Dependence], set: VarSet) -> Option<Dependence>
     ensures { result ≡ first_open list.now set }
 {
@@ -105,7 +104,7 @@ pub fn first_open(list: &[Dependence], set: VarSet) -> Option<Dependence>
     None
 }
 
-/// Whether the set doesn't keep a dependence.
+/// Whether `set` violates `dependence`.
 fn is_open(dependence: Dependence, set: VarSet) -> bool
     ensures { result ≡ is_open dependence set }
 {

@@ -1,10 +1,10 @@
-//! Theorems on the definitions, each as the contract of a function.
+//! Theorems about the definitions, each as the contract of a function.
 ghost use Rattle.it_closure.specs.Closures.{ClosureIsLeast};
 ghost use Rattle.it_closure.specs.Collapse.{ClosuresKeep, CollapseKeeps, SpreadOutHolds};
 ghost use Rattle.it_closure.specs.Coordinates.{CoordinatesServe};
 ghost use Rattle.it_closure.specs.ReadLaws.{ReadsExactly};
 
-/// The closure of a set is the least closed set that holds it.
+/// The closure of a set is the least closed set that contains it.
 pub fn closure_is_least()
     ensures { ClosureIsLeast }
 {}
@@ -19,17 +19,17 @@ pub fn collapse_keeps()
     ensures { CollapseKeeps }
 {}
 
-/// What meets the elemental inequalities over closed sets is a polymatroid over all sets, and meets the dependences.
+/// A map that meets the elemental inequalities over closed sets gives a polymatroid over all sets, which meets the dependences.
 pub fn spread_out_holds()
     ensures { SpreadOutHolds }
 {}
 
-/// A constraint is read as a dependence exactly where it is one.
+/// A constraint is read as a dependence exactly if it is one.
 pub fn reads_exactly()
     ensures { ReadsExactly }
 {}
 
-/// The coordinates over closed sets ascend, and hold all places but 0.
+/// The coordinates over closed sets ascend, and include all places but 0.
 pub fn coordinates_serve()
     ensures { CoordinatesServe }
 {}

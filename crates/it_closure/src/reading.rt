@@ -16,7 +16,7 @@ pub struct SetPair {
     negated: bool,
 }
 
-/// All dependences among constraints, the first of which is the generator of this number.
+/// All dependences among `constraints`, the first of which is generator number `first`.
 pub fn read_all(
     alloc: Global,
     n: u8,
@@ -28,7 +28,7 @@ pub fn read_all(
     ensures { IfOk result (λ v. v.items ≡ read_from n first constraints.now) }
 {
     let mut list = Vec::new(alloc);
-    // by index, since it counts the generators, and the invariant speaks of the constraints from i on
+    // by index, since it counts the generators, and the invariant is about the constraints from i on
     for i in 0..constraints.len() {
         if let Some(dependence) = read_one(n, first + i as u32, &constraints[i]) {
             list.push(dependence)?;
@@ -37,7 +37,7 @@ pub fn read_all(
     Ok(list)
 }
 
-/// The dependence that a constraint is, if it is one.
+/// The dependence that `constraint`, generator number `generator`, states, if it states one.
 fn read_one(n: u8, generator: u32, constraint: &Constraint) -> Option<Dependence>
     requires few { n ≤ 10 }
     ensures { result ≡ read_one n generator constraint.now }
@@ -70,7 +70,8 @@ fn is_equation(kind: Kind) -> bool
     }
 }
 
-/// The dependence of two sets, with its generator's number, if they are sets of the variables and the first lies in the second.
+/// The dependence of two sets, with its generator's number, if they are sets of the `n` variables and the first is strictly inside the
+/// second.
 fn with_number(n: u8, generator: u32, ends: Option<SetPair>) -> Option<Dependence>
     requires few { n ≤ 10 }
     ensures { result ≡ with_number n generator ends }
@@ -92,7 +93,7 @@ fn with_number(n: u8, generator: u32, ends: Option<SetPair>) -> Option<Dependenc
     }
 }
 
-/// Whether they are sets of the n variables, one strictly inside the other.
+/// Whether the two are sets of the `n` variables, the first strictly inside the second.
 fn are_ends(n: u8, ends: SetPair) -> bool
     requires few { n ≤ 10 }
     ensures { result ≡ are_ends n ends }
@@ -108,7 +109,7 @@ fn are_ends(n: u8, ends: SetPair) -> bool
     }
 }
 
-/// The two sets that a row of one or two terms tells of, None for any other row.
+/// The two sets of a row h(to) - h(from) or its negation, which has one or two terms; `None` for any other row.
 fn ends_of(terms: &[(u32, i128)]) -> Option<SetPair>
     ensures { result ≡ ends_of terms.now }
 {
@@ -155,7 +156,7 @@ fn ends_of(terms: &[(u32, i128)]) -> Option<SetPair>
 fn is_one(term: &(u32, i128)) -> bool
     ensures { result ≡ is_one term.now.1 }
 {
-    // written out, so that the prover has each case with its test
+    // written out, so that the prover sees each case with its test
     if term.1 == 1 { true } else { false }
 }
 
@@ -163,6 +164,6 @@ fn is_one(term: &(u32, i128)) -> bool
 fn is_minus_one(term: &(u32, i128)) -> bool
     ensures { result ≡ is_minus_one term.now.1 }
 {
-    // written out, so that the prover has each case with its test
+    // written out, so that the prover sees each case with its test
     if term.1 == -1 { true } else { false }
 }

@@ -13,7 +13,7 @@ use it_space::{Row, RowFault, Sums, VarSet};
 use std::alloc::Global;
 
 impl Dependences {
-    /// The coordinate of a set's closure, or 0 where that is the closure of the empty set; a rate keeps its coordinate.
+    /// The place of `coordinate`: for a set its closure, or 0 if that is the closure of the empty set; a rate keeps its coordinate.
     pub fn place(&self, coordinate: u32) -> u32
         ensures { result ≡ place self.now.space.variables self.now.list coordinate }
     {
@@ -29,8 +29,8 @@ impl Dependences {
         }
     }
 
-    /// The row over closed sets: each set replaced by its closure, and sets with the closure of the empty set left out. `Wide`
-    /// exactly where a partial sum, by ascending coordinate, is.
+    /// The row over closed sets: each set is replaced by its closure, and sets with the closure of the empty set are left out. `Wide`
+    /// exactly if a partial sum at one place, by ascending coordinate, is.
     pub fn collapse(&self, alloc: Global, row: &Row) -> Result<Row, RowFault>
         requires { IsOver (size_of self.now.space) row.now }
         ensures row { IfOk result (IsCollapseOf self.now.space.variables self.now.list row.now) }
@@ -44,7 +44,7 @@ impl Dependences {
     }
 }
 
-/// The coefficients of a row summed at their places; the sum at 0 is left out.
+/// The coefficients of `row` summed at their places; the sum at 0 is left out.
 fn placed_sums(alloc: Global, dependences: &Dependences, row: &Row) -> Result<Sums, RowFault>
     requires { IsOver (size_of dependences.now.space) row.now }
     ensures placed { IfOk result (ArePlaced dependences.now.space.variables dependences.now.list row.now (size_of dependences.now.space + 1)) }
@@ -58,7 +58,7 @@ fn placed_sums(alloc: Global, dependences: &Dependences, row: &Row) -> Result<Su
     Ok(sums)
 }
 
-/// Adds at a place, unless that is 0.
+/// Adds `amount` at `place`, unless that is 0.
 fn put(sums: &mut Sums, place: u32, amount: i128) -> Result<(), Wide>
     requires { place < length sums.old }
     ensures put { OnOk result (IsPutAtPlace sums.old sums.new place amount) }

@@ -1,6 +1,5 @@
-//! How large the table is with which the run about a problem begins.
+//! The size of the table with which the run about a problem begins.
 ghost use Rattle.std.specs.Prelude.{◌≡◌, ◌≤◌, ◌*◌, length, IfOk};
-ghost use Rattle.it_space.specs.Problems.{IsProblem, problem_view};
 ghost use Rattle.it_closure.specs.Sizes.{column_count, constraint_columns, table_size};
 
 use crate::dependences::Dependences;
@@ -8,23 +7,23 @@ use it_elemental::count;
 use it_space::{Constraint, Kind, Problem};
 use std::alloc::{AllocError, Global};
 
-/// How many entries the table has with which the run about a problem begins, rows times columns. A row is a closed set other than
-/// the closure of the empty set, or a rate. Each elemental inequality has a column, each inequality among the constraints one and
-/// each equation two, and each row an artificial one.
+/// The number of entries, rows times columns, of the table with which the run about `problem` begins. Each closed set other than the
+/// closure of the empty set and each rate has a row. Each elemental inequality has a column, each inequality among the constraints one
+/// and each equation two, and each row an artificial one.
 #[tactic(auto, unfolding(crate::specs::Sizes::table_size))]
 pub fn size(alloc: Global, problem: &Problem) -> Result<u64, AllocError>
-    requires { IsProblem (problem_view problem.now) }
-    ensures { IfOk result (λ k. k ≡ table_size (problem_view problem.now)) }
+    ensures { IfOk result (λ k. k ≡ table_size problem.now) }
 {
+    problem.facts();
     let dependences = Dependences::read(alloc, problem)?;
-    let coordinates = dependences.closed(alloc, problem.space)?;
+    let coordinates = dependences.closed(alloc, problem.space())?;
     let rows = coordinates.len() as u64;
-    let constraints = constraint_columns(problem.constraints.as_slice());
-    let columns = count(problem.space.variables) as u64 + constraints + rows;
+    let constraints = constraint_columns(problem.constraints());
+    let columns = count(problem.space().variables) as u64 + constraints + rows;
     Ok(rows * columns)
 }
 
-/// How many columns constraints have.
+/// The number of columns of `constraints`.
 fn constraint_columns(constraints: &[Constraint]) -> u64
     requires few { length constraints.now ≤ 1048576 }
     ensures value { result ≡ constraint_columns constraints.now }
@@ -37,7 +36,7 @@ fn constraint_columns(constraints: &[Constraint]) -> u64
     columns
 }
 
-/// How many columns a constraint, or a generator, of this kind has.
+/// The number of columns of a constraint, or a generator, of this kind.
 pub fn column_count(kind: Kind) -> u32
     ensures value { result ≡ column_count kind }
     ensures few { result ≤ 2 }

@@ -10,7 +10,7 @@ use Rattle.it_codes.specs.Codes.{IsCode, code_view, functions_of, is_zero_at, va
 use Rattle.it_codes.specs.declared.codes.LinearCode.{LinearCode}
 use Rattle.it_codes.specs.declared.codes.Variable.{Variable}
 
--- one coefficient more was added to a sum, which was then reduced
+-- a further coefficient was added to a sum, which was then reduced
 pub value_step : (q : ℕ) (function : List ℕ) (i sum left total : ℕ) → i < length function
     → (sum + value_at q (drop i function) left) % q ≡ total
     → ((sum + get_or function i 0 * (left % q)) % q + value_at q (drop (i + 1) function) (left / q)) % q ≡ total
@@ -39,7 +39,7 @@ value_end q function i sum left total le below inv =
 pub all_vanish : (q m : ℕ) (v : Variable) → list_all (λ f. is_zero_at q m f.items) v.functions.items ≡ vanishes q m (functions_of v)
 all_vanish q m v = sym (list_all-map (is_zero_at q m) (λ f. f.items) v.functions.items)
 
--- one variable more was looked at
+-- a further variable was visited
 pub set_step : (q m : ℕ) (variables : List (List (List ℕ))) (i : ℕ) (v : List (List ℕ)) (set place total : ℕ) → i < length variables → v ≡ get_or variables i v
     → set + place * zero_set q m (drop i variables) ≡ total
     → set + place * cond (vanishes q m v) 1 0 + place * 2 * zero_set q m (drop (i + 1) variables) ≡ total

@@ -1,4 +1,4 @@
--- Powers of a base, each so many times: which one is a total.
+-- Multiples of powers of a base: the exponent for which one is a given total.
 use Rattle.std.proofs.Common.{◌≡◌, ◌≤◌, ◌<◌, ◌⊎◌, inl, inr, ◌+◌, ◌*◌, ◌^◌, ◌∙◌, ℕ, zero, suc, ℤ, pos, List, [], ◌∷◌, ◌++◌, length, ap, sym, subst, arith}
 use Rattle.std.proofs.Math.Nat.{mul_assoc, mul-le-mul_left, pow-le-pow_right, pow-suc, one-le-pow, one-mul}
 use Rattle.std.proofs.Math.Numerals.{suc-eq-add-one}
@@ -89,7 +89,7 @@ one_more_set P n before here s from below = by_order (cases_order s n)
     by_order (inr (inl less)) = before s from less
     by_order (inr (inr more)) = absurd (omega arith)
 
--- the entropy of one set more is pushed behind those before it
+-- the entropy of a further set is appended
 pub more_entropies : (code : CodeView) (values : List ℤ) (n h : ℕ) → length values + 1 ≡ n → ((s : ℕ) → 1 ≤ s → s < n → HasEntropy code 1 values s) → IsEntropy code n h
     → (s : ℕ) → 1 ≤ s → s < n + 1 → HasEntropy code 1 (values ++ pos h ∷ []) s
 more_entropies code values n h len before is = one_more_set (HasEntropy code 1 (values ++ pos h ∷ [])) n (λ s from below. kept s from below (before s from below)) (here n len is)

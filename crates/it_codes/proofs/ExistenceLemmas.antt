@@ -1,4 +1,4 @@
--- A point has a first set whose value isn't so many times the entropy by a code, or it has none, and one alone.
+-- A point has exactly one first set whose value isn't the given multiple of its entropy by a code, or it has none.
 use Rattle.std.proofs.Common.{◌≡◌, ◌⊎◌, inl, inr, ◌-◌, ◌*◌, ◌^◌, ◌<◌, ◌≤◌, ◌∙◌, ℕ, zero, suc, ℤ, pos, negsuc, List, Option, Some, None, refl, ap, sym, subst, arith}
 use Rattle.std.proofs.Math.Nat.{mul-le-mul_left, mul_comm, one-le-pow, pow-suc, zero-mul}
 use Rattle.std.proofs.lemmas.Bool.{cases_order}

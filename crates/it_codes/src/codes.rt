@@ -10,7 +10,7 @@ pub enum Field {
 }
 
 impl Field {
-    /// How many elements it has.
+    /// The number of elements.
     pub fn size(self) -> u32
         ensures { result ≡ size self }
     {
@@ -21,14 +21,14 @@ impl Field {
     }
 }
 
-/// A variable: linear functions of the message, each by the coefficients of its symbols in order. Coefficients count by
-/// their remainders; those that are missing are 0, and those behind the last symbol count nothing.
+/// A variable: linear functions of the message, each given by its coefficients at the message's symbols, in order. Coefficients are
+/// taken modulo the field's size; missing ones are 0, and those past the last symbol are ignored.
 #[derive(Debug, Drop)]
 pub struct Variable {
     pub functions: Vec<Vec<u8>>,
 }
 
-/// Variables that are functions of one message, which has so many symbols of the field and is uniform.
+/// Variables that are functions of one uniform message of `symbols` symbols of the field.
 #[derive(Debug, Drop)]
 pub struct LinearCode {
     pub field: Field,

@@ -1,4 +1,4 @@
-//! The messages at which functions are 0, by counting.
+//! Counts of the messages at which functions are 0.
 ghost use Rattle.std.specs.Prelude.{◌≡◌, ◌+◌, ◌*◌, ◌≤◌, ◌^◌, ◌<◌, cond, length, map, IfOk};
 ghost use Rattle.std.specs.List.{list_all, range_with_len};
 ghost use Rattle.it_codes.specs.Codes.{IsCode, code_sets, code_view, count_around, functions_of, is_zero_at, size, vanishes, zero_set};
@@ -6,7 +6,7 @@ ghost use Rattle.it_codes.specs.Codes.{IsCode, code_sets, code_view, count_aroun
 use crate::codes::{LinearCode, Variable};
 use std::alloc::{AllocError, Global};
 
-/// Whether a linear function is 0 at a message.
+/// Whether the linear function with the coefficients `function` is 0 at `message`, over the field of `size` elements.
 fn is_zero_at(size: u32, message: u32, function: &[u8]) -> bool
     requires some { 1 ≤ size }
     requires few { size ≤ 3 }
@@ -21,7 +21,7 @@ fn is_zero_at(size: u32, message: u32, function: &[u8]) -> bool
     sum == 0
 }
 
-/// Whether all of some functions are 0 at a message.
+/// Whether all of `functions` are 0 at `message`.
 fn are_zero_at(size: u32, message: u32, functions: &[Vec<u8>]) -> bool
     requires some { 1 ≤ size }
     requires few { size ≤ 3 }
@@ -32,7 +32,7 @@ fn are_zero_at(size: u32, message: u32, functions: &[Vec<u8>]) -> bool
         .all(|function| is_zero_at(size, message, function.as_slice()))
 }
 
-/// Whether all functions of a variable are 0 at a message.
+/// Whether all functions of `variable` are 0 at `message`.
 fn vanishes(size: u32, message: u32, variable: &Variable) -> bool
     requires some { 1 ≤ size }
     requires few { size ≤ 3 }
@@ -41,7 +41,7 @@ fn vanishes(size: u32, message: u32, variable: &Variable) -> bool
     are_zero_at(size, message, variable.functions.as_slice())
 }
 
-/// A number with a place added, or without.
+/// `set` with the variable of place value `place` added if `is_member`.
 fn with_place(set: u16, place: u16, is_member: bool) -> u16
     requires set { set < place }
     requires place { place ≤ 512 }
@@ -51,7 +51,7 @@ fn with_place(set: u16, place: u16, is_member: bool) -> u16
     if is_member { set + place } else { set }
 }
 
-/// The set of those variables that are 0 at a message.
+/// The set of the variables all of whose functions are 0 at `message`.
 fn zero_set(size: u32, message: u32, variables: &[Variable]) -> u16
     requires some { 1 ≤ size }
     requires few { size ≤ 3 }
@@ -67,7 +67,7 @@ fn zero_set(size: u32, message: u32, variables: &[Variable]) -> u16
     set
 }
 
-/// How many messages there are.
+/// The number of messages of `code`.
 pub fn message_count(code: &LinearCode) -> u32
     requires { IsCode (code_view code.now) }
     ensures { result ≡ size code.now.field ^ code.now.symbols }
@@ -75,7 +75,7 @@ pub fn message_count(code: &LinearCode) -> u32
     code.field.size().pow(code.symbols as u32)
 }
 
-/// The sets of variables that are 0, at each of so many messages.
+/// The set of the variables that are 0 at each of the first `count` messages.
 fn sets_at(
     alloc: Global,
     size: u32,
@@ -92,7 +92,7 @@ fn sets_at(
         .collect(alloc)
 }
 
-/// The sets of variables that are 0, at each message.
+/// The set of the variables that are 0 at each message of `code`.
 #[tactic(auto, using(crate::proofs::CountingLemmas::few_items))]
 pub fn zero_sets(alloc: Global, code: &LinearCode) -> Result<Vec<u16>, AllocError>
     requires { IsCode (code_view code.now) }
@@ -106,7 +106,7 @@ pub fn zero_sets(alloc: Global, code: &LinearCode) -> Result<Vec<u16>, AllocErro
     )
 }
 
-/// How many of some sets hold all members of a set.
+/// The number of `sets` that contain `set`.
 pub fn count_around(set: u16, sets: &[u16]) -> u32
     requires { length sets.now ≤ 4096 }
     ensures { result ≡ count_around set sets.now }

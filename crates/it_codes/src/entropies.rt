@@ -8,7 +8,7 @@ use crate::counting::{count_around, message_count, zero_sets};
 use it_space::{Point, Space};
 use std::alloc::{AllocError, Global};
 
-/// Which power of a size, so many times, is a total.
+/// The exponent of `size` for which `count` times the power is `total`; `None` if there is none.
 fn exponent(count: u32, size: u32, total: u32) -> Option<u32>
     requires some { 2 ≤ size }
     requires few { size ≤ 3 }
@@ -30,7 +30,8 @@ fn exponent(count: u32, size: u32, total: u32) -> Option<u32>
     if reached == total { Some(h) } else { None }
 }
 
-/// The entropy of a set of variables. The sets are those of the variables that are 0, at each message.
+/// The entropy of `set`, in units of one symbol, given by `sets` the set of the variables that are 0 at each message. `None` if it
+/// isn't a whole number.
 #[tactic(auto, using(crate::proofs::EntropyLemmas::zero_set_count, crate::proofs::EntropyLemmas::some_message, crate::proofs::EntropyLemmas::two_elements, crate::proofs::EntropyLemmas::three_elements))]
 fn entropy(code: &LinearCode, sets: &[u16], set: u16) -> Option<u32>
     requires code { IsCode (code_view code.now) }
@@ -46,7 +47,7 @@ fn entropy(code: &LinearCode, sets: &[u16], set: u16) -> Option<u32>
     )
 }
 
-/// Whether a value is so many times an entropy.
+/// Whether `value` is `times` times `entropy`.
 fn is_product(value: i128, times: u64, entropy: u32) -> bool
     requires { entropy ≤ 4096 }
     ensures yes { OnTrue result (value ≡ pos (times * entropy)) }
@@ -59,7 +60,7 @@ fn is_product(value: i128, times: u64, entropy: u32) -> bool
     }
 }
 
-/// Whether the value of a set at a point is so many times its entropy.
+/// Whether the value of `set` at `point` is `times` times its entropy. `sets` are as for `entropy`.
 #[tactic(auto, using(crate::proofs::EntropyLemmas::one_entropy))]
 fn has_entropy(code: &LinearCode, sets: &[u16], times: u64, point: &Point, set: u16) -> bool
     requires code { IsCode (code_view code.now) }
@@ -75,7 +76,7 @@ fn has_entropy(code: &LinearCode, sets: &[u16], times: u64, point: &Point, set: 
     }
 }
 
-/// The first set whose value isn't.
+/// The first set whose value at `point` isn't `times` times its entropy. `sets` are as for `entropy`.
 fn first_other_of(code: &LinearCode, sets: &[u16], times: u64, point: &Point) -> Option<u16>
     requires code { IsCode (code_view code.now) }
     requires sets { sets.now ≡ code_sets (code_view code.now) }
@@ -90,8 +91,8 @@ fn first_other_of(code: &LinearCode, sets: &[u16], times: u64, point: &Point) ->
     None
 }
 
-/// The first set of a code's variables whose value at a point isn't so many times its entropy; none where all values are. Sets are in
-/// the order of their numbers. Rates count nothing.
+/// The first set, by number, of the code's variables whose value at `point` isn't `times` times its entropy; `None` if all values are.
+/// Rates are ignored. `Err` if allocation fails.
 pub fn first_other(
     alloc: Global,
     code: &LinearCode,
@@ -107,7 +108,7 @@ pub fn first_other(
     Ok(other)
 }
 
-/// The entropies of all sets of a code's variables, by number, in units of one symbol; none where one has none.
+/// The entropies of all nonempty sets of the code's variables, by number, in units of one symbol; `None` if one has none.
 pub fn entropies_of(alloc: Global, code: &LinearCode) -> Result<Option<Point>, AllocError>
     requires { IsCode (code_view code.now) }
     ensures complete { IfOk result (λ o. IfSome o (λ p. length p ≡ 2 ^ variables_of (code_view code.now) - 1)) }

@@ -1,4 +1,4 @@
-//! Linear codes over the fields of two and three elements, and where a point's values are other than their entropies.
+//! Linear codes over the fields of two and three elements: their entropies, and the first value of a point that differs from them.
 #![tactic(auto)]
 
 mod codes;

@@ -16,7 +16,7 @@ pub record IsScale (qs : List Rational) (i scale : ℕ) : Type 0 where
   pub some : 0 < scale
   pub within : scale < 2 ^ 127
 
--- so many of the numbers are scaled
+-- the first i numbers are scaled
 pub record AreScaled (l : ℕ) (qs : List Rational) (i : ℕ) (out : List ℤ) : Type 0 where
   pub fits : Every (λ q. IsWithin (scaled_number l q)) (drop i qs) ↔ Every (λ q. IsWithin (scaled_number l q)) qs
   pub same : out ++ map (scaled_number l) (drop i qs) ≡ map (scaled_number l) qs

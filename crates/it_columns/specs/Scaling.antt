@@ -9,7 +9,7 @@ use Rattle.it_rational.specs.Rational.{Rational}
 unfoldable pub scale_of : List Rational → ℕ
 scale_of qs = fold lcm 1 (map (λ q. q.den) qs)
 
--- L times q, for a multiple L of the denominator
+-- l times q, for a multiple l of the denominator
 unfoldable pub scaled_number : ℕ → Rational → ℤ
 scaled_number l q = q.num *ℤ pos (l / q.den)
 
@@ -18,6 +18,6 @@ pub record NumbersFit (qs : List Rational) : Type 0 where
   pub scale : IsWithin (pos (scale_of qs))
   pub numbers : Every (λ q. IsWithin (scaled_number (scale_of qs) q)) qs
 
--- numbers made whole, as the values of a point are
+-- the numbers times their scale, as the values of a point
 abbrev pub scaled_point : List Rational → List ℤ
 scaled_point qs = map (scaled_number (scale_of qs)) qs

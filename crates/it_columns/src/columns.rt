@@ -6,7 +6,7 @@ use crate::rows::opposite_row;
 use it_space::{Kind, Row};
 use std::alloc::{AllocError, Global};
 
-/// Puts the columns that a row makes after the others: an equation's second one is its row turned.
+/// Appends the columns of a generator of this kind with `row`: for an inequality the row, for an equation also the negated row.
 pub fn push_row(
     columns: &mut Vec<Row>,
     alloc: Global,

@@ -1,5 +1,5 @@
-//! What proofs of targets and of factors are made with: the columns that the generators of a problem have in a run of the simplex
-//! method, and rational numbers made whole by the least common multiple of their denominators.
+//! Tools for proofs of targets and of factors: the columns of a problem's generators in a run of the simplex method, and rational
+//! numbers made whole by the least common multiple of their denominators.
 #![tactic(auto)]
 
 mod columns;

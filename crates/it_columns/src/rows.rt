@@ -1,7 +1,6 @@
-//! Rows turned, and by the number of their generator.
+//! Negated rows, and the rows of generators by number.
 ghost use Rattle.std.specs.Prelude.{◌≡◌, ◌<◌, neg_ℤ, length, IfOk};
 ghost use Rattle.it_number.specs.Limit.{IsWithin};
-ghost use Rattle.it_space.specs.Problems.{IsProblem, problem_view};
 ghost use Rattle.it_space.specs.Rows.{IsCanonical, negated_terms};
 ghost use Rattle.it_elemental.specs.Generators.{generators, generator_at};
 
@@ -9,7 +8,7 @@ use it_elemental::{count, row};
 use it_space::{Problem, Row};
 use std::alloc::{AllocError, Global};
 
-/// The term with its sign turned.
+/// The negated term.
 fn opposite_term(term: &(u32, i128)) -> (u32, i128)
     requires { IsWithin term.now.1 }
     ensures { result ≡ (term.now.0, neg_ℤ term.now.1) }
@@ -17,7 +16,7 @@ fn opposite_term(term: &(u32, i128)) -> (u32, i128)
     (term.0, -term.1)
 }
 
-/// Each term with its sign turned, in order.
+/// The negated terms, in order.
 fn opposite_terms(alloc: Global, terms: &[(u32, i128)]) -> Result<Vec<(u32, i128)>, AllocError>
     requires { IsCanonical terms.now }
     ensures { IfOk result (λ v. v.items ≡ negated_terms terms.now) }
@@ -29,7 +28,7 @@ fn opposite_terms(alloc: Global, terms: &[(u32, i128)]) -> Result<Vec<(u32, i128
     Ok(opposites)
 }
 
-/// The row with all signs turned: its value at each point is the negated one.
+/// The negated row: its value at each point is the negated value of `row`.
 pub fn opposite_row(alloc: Global, row: &Row) -> Result<Row, AllocError>
     ensures { IfOk result (λ r. r ≡ negated_terms row.now) }
 {
@@ -37,18 +36,17 @@ pub fn opposite_row(alloc: Global, row: &Row) -> Result<Row, AllocError>
     Ok(Row::new(terms))
 }
 
-/// The row of a generator by its number: below their count an elemental inequality, from there on a constraint.
+/// The row of generator `index`: an elemental inequality below their count, from there on a constraint.
 pub fn generator_row(alloc: Global, problem: &Problem, index: u32) -> Result<Row, AllocError>
-    requires problem { IsProblem (problem_view problem.now) }
-    requires listed { index < length (generators (problem_view problem.now)) }
-    ensures { IfOk result (λ r. r ≡ (generator_at (generators (problem_view problem.now)) index).row) }
+    requires listed { index < length (generators problem.now) }
+    ensures { IfOk result (λ r. r ≡ (generator_at (generators problem.now) index).row) }
 {
-    let n = problem.space.variables;
+    let n = problem.space().variables;
     let elementals = count(n);
     if index < elementals {
         return row(alloc, n, index);
     }
-    problem.constraints[(index - elementals) as usize]
+    problem.constraints()[(index - elementals) as usize]
         .row
         .copy(alloc)
 }

@@ -9,7 +9,7 @@ use it_fraction::{Fraction, Wide, lcm, signed_product};
 use it_space::RowFault;
 use std::alloc::Global;
 
-/// The least common multiple of the scale and a number's denominator.
+/// The least common multiple of `scale` and the denominator of `number`; `Wide` if it passes the limit.
 fn with_denominator(scale: u128, number: &Fraction) -> Result<u128, Wide>
     requires some { 0 < scale }
     requires within { scale < 2 ^ 127 }
@@ -19,7 +19,7 @@ fn with_denominator(scale: u128, number: &Fraction) -> Result<u128, Wide>
     Ok(multiple as u128)
 }
 
-/// The least common multiple of the denominators. `Wide` where it passes the limit.
+/// The least common multiple of the denominators of `numbers`. `Wide` if it passes the limit.
 pub fn common_scale(numbers: &[Fraction]) -> Result<u128, Wide>
     ensures value { OkIff result (IsWithin (pos (scale_of numbers.now))) (scale_of numbers.now) }
     ensures some { IfOk result (λ l. 0 < l) }
@@ -32,7 +32,7 @@ pub fn common_scale(numbers: &[Fraction]) -> Result<u128, Wide>
     Ok(scale)
 }
 
-/// The scale times a number whose denominator divides it.
+/// `scale` times `number`, whose denominator divides it. `Wide` if the product passes the limit.
 #[tactic(auto, unfolding(crate::specs::Scaling::scaled_number))]
 pub fn scaled_number(number: &Fraction, scale: u128) -> Result<i128, Wide>
     requires { scale < 2 ^ 127 }
@@ -42,7 +42,7 @@ pub fn scaled_number(number: &Fraction, scale: u128) -> Result<i128, Wide>
     signed_product(number.num(), times as i128)
 }
 
-/// Puts the scale times a number after the others.
+/// Appends `scale` times `number` to `values`. `Wide` if the product passes the limit.
 fn put_value(values: &mut Vec<i128>, number: &Fraction, scale: u128) -> Result<(), RowFault>
     requires { scale < 2 ^ 127 }
     ensures value { OnOk result (values.new.items ≡ values.old.items ++ scaled_number scale number.now ∷ []) }
@@ -54,7 +54,7 @@ fn put_value(values: &mut Vec<i128>, number: &Fraction, scale: u128) -> Result<(
     Ok(())
 }
 
-/// The scale times each number, in order. `Wide` where one of these passes the limit.
+/// `scale` times each of `numbers`, in order. `Wide` if one of the products passes the limit.
 pub fn scaled_values(
     alloc: Global,
     numbers: &[Fraction],

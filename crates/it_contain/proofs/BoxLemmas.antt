@@ -30,7 +30,7 @@ begun_more pending plan f xs ps i b d lt is at set_to begun =
 pub later_kept : {B L : Type 0} (pending : B → L) (xs : List B) (i : ℕ) (b : B) → drop (i + 1) (map pending (set xs i b)) ≡ drop (i + 1) (map pending xs)
 later_kept pending xs i b = ap (drop (i + 1)) (map-set pending xs i b) ∙ drop-set-lt (i + 1) (map pending xs) i (pending b) (omega arith)
 
--- what is left of two lists is one: their members there are one
+-- two lists that are equal from i on have the same member there
 pub member_same : {A : Type 0} (xs ys : List A) (i : ℕ) (d : A) → drop i xs ≡ drop i ys → get_or xs i d ≡ get_or ys i d
 member_same xs ys i d same =
     let zero_on : i + 0 ≡ i = omega arith in
@@ -50,7 +50,7 @@ learned_more plan f xs ps i b d lt enough at learns rest so_far =
     ap (take (i + 1)) (map-set plan xs i b) ∙ take_more_set (map plan xs) i (plan b) long
     ∙ ap (λ zs. zs ++ plan b ∷ []) so_far ∙ ap (λ z. take i (map f ps) ++ z ∷ []) (sym its_new) ∙ sym (take_more (map f ps) i (plan b) far)
 
--- what is left of one list is left of another, one step on
+-- two lists that are equal from i on are equal from i + 1 on
 pub rest_more : {A : Type 0} (xs ys : List A) (i : ℕ) → drop i xs ≡ drop i ys → drop (i + 1) xs ≡ drop (i + 1) ys
 rest_more xs ys i same = sym (drop-drop 1 i xs) ∙ ap (drop 1) same ∙ drop-drop 1 i ys
 

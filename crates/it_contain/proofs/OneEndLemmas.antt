@@ -28,7 +28,7 @@ proof_of_one ends (x ∷ ts) [] t m a = absurd a
 proof_of_one ends (x ∷ ts) (w ∷ ws) t (zero, l, e) a = (w, subst (λ y. ends y (Yes w)) e a.0)
 proof_of_one ends (x ∷ ts) (w ∷ ws) t (suc k, l, e) a = proof_of_one ends ts ws t (k, omega arith, e) a.1
 
--- so it is where a target has one outcome
+-- a candidate isn't both proved and unproved where each target has one outcome
 pub decides_by_one : (goal : Goal) → ((t : Terms) (o p : ProofView) → goal.ends t o → goal.ends t p → o ≡ p) → Decides goal
 unfolding IsProved
 decides_by_one goal one c unproved (ws, proof) =

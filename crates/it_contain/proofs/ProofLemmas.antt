@@ -7,7 +7,7 @@ use Rattle.it_space.specs.declared.answers.Cause.{Cause}
 use Rattle.it_space.specs.declared.answers.Certificate.{Certificate}
 use Rattle.it_space.specs.Answers.{CertificateView, certificate_view}
 use Rattle.it_space.proofs.ListLemmas.{drop_item}
-use Rattle.it_space.specs.Problems.{ProblemView, problem_view}
+use Rattle.it_space.specs.Problems.{ProblemView}
 use Rattle.it_space.specs.Rows.{Terms}
 use Rattle.it_space.specs.Spaces.{size_of}
 use Rattle.it_demand.specs.RowsOfForms.{terms_of_form}
@@ -59,10 +59,10 @@ module _ (p : Pair) (effort : Effort) (c : Candidate) where
   pub not_fitting : (FitsPair p c → ⊥) → Judges (pair_goal p effort) c None
   not_fitting n fits = absurd (n fits)
 
-  pub proofs_judge : (rows : List Terms) (o : Option Proofs) → FitsPair p c → ArePulledRows p.first.space (pair_obligations p c) rows → ProvesAll (problem_view p.first) effort rows o → Judges (pair_goal p effort) c o
+  pub proofs_judge : (rows : List Terms) (o : Option Proofs) → FitsPair p c → ArePulledRows p.first.space (pair_obligations p c) rows → ProvesAll p.first effort rows o → Judges (pair_goal p effort) c o
   unfolding IsProof
-  proofs_judge rows o f a proves = by_option o (subst (λ (ts : List Terms). ProvesAll (problem_view p.first) effort ts o) (pulled_rows_are p.first.space (pair_obligations p c) rows a) proves)
+  proofs_judge rows o f a proves = by_option o (subst (λ (ts : List Terms). ProvesAll p.first effort ts o) (pulled_rows_are p.first.space (pair_obligations p c) rows a) proves)
     where
-      by_option : (o : Option Proofs) → ProvesAll (problem_view p.first) effort (map (terms_of_form (size_of p.first.space)) (pair_obligations p c)) o → Judges (pair_goal p effort) c o
+      by_option : (o : Option Proofs) → ProvesAll p.first effort (map (terms_of_form (size_of p.first.space)) (pair_obligations p c)) o → Judges (pair_goal p effort) c o
       by_option (Some w) h = record { fits = f; proofs = h }
       by_option None n = λ fits. n

@@ -2,16 +2,16 @@
 use Rattle.std.specs.Prelude.{ℕ, suc, zero, ◌≤◌, ◌<◌, ◌/◌, ◌%◌, List, [], ◌∷◌, ◌++◌, map, length, get_or}
 use Rattle.it_contain.specs.declared.types.Shape.{Shape}
 
--- the last digits of a number to base m, so many, the last one at the end
+-- the last `parts` digits of `number` to base m, the last one at the end
 abbrev pub digits : ℕ → ℕ → ℕ → List ℕ
 digits m zero number = []
 digits m (suc parts) number = digits m parts (number / m) ++ number % m ∷ []
 
--- the tuple of a number: the members that its digits count
+-- tuple number `number`: its members are those of xs at the digits
 abbrev pub tuple_at : List ℕ → ℕ → ℕ → List ℕ
 tuple_at xs parts number = map (λ d. get_or xs d 0) (digits (length xs) parts number)
 
--- a shape that a proposer keeps: also that of no variable, before it is begun
+-- a shape that a proposer may keep, also that of no variables, before it is begun
 abbrev pub IsShapeWithin : Shape → Type 0
 IsShapeWithin s = (s.variables ≤ 10) × (s.parts ≤ 4)
 

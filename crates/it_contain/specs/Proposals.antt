@@ -1,9 +1,9 @@
--- What a proposer does with its two meanings.
+-- The two meanings of a proposer, the candidates still to come and the plan, and how its calls change them.
 use Rattle.std.specs.Prelude.{◌≡◌, List, [], ◌∷◌, ◌++◌, Bool, true, false, Option, Some, None}
 use Rattle.it_contain.specs.declared.types.Shape.{Shape}
 use Rattle.it_region.specs.declared.types.Candidate.{Candidate}
 
--- the list that a beginning would set, for a shape and the candidates that are proved from now on
+-- the candidates that a proposer would have to come once begun, for a shape and the candidates that are proved from now on
 abbrev pub Plan : Type 0
 Plan = Shape → List Candidate → List Candidate
 
@@ -15,7 +15,7 @@ plan_after c plan shape proved = plan shape (c ∷ proved)
 abbrev pub plan_after_all : List Candidate → Plan → Plan
 plan_after_all proved plan shape more = plan shape (proved ++ more)
 
--- the first of the list is taken; there is none exactly where the list is empty
+-- `before` is the candidate and then `after`; there is no candidate exactly where `before` is empty
 abbrev pub Takes : List Candidate → Option Candidate → List Candidate → Type 0
 Takes before None after = (before ≡ []) × (after ≡ [])
 Takes before (Some c) after = before ≡ c ∷ after

@@ -4,12 +4,12 @@ use Rattle.std.specs.List.{list_all}
 use Rattle.it_region.specs.declared.types.Candidate.{Candidate}
 use Rattle.it_contain.specs.declared.types.Shape.{Shape}
 
--- the last of the candidates that were proved, or the one kept before where none was
+-- the last of the candidates that were proved, or `kept` where none was
 abbrev pub last_of : Option Candidate → List Candidate → Option Candidate
 last_of kept [] = kept
 last_of kept (c ∷ cs) = last_of (Some c) cs
 
--- as many parts as the shape, each a set of its variables
+-- the candidate has as many parts as the shape, each a set of its variables
 unfoldable pub is_of_shape : Shape → Candidate → Bool
 is_of_shape s c = (c.count == s.parts) && list_all (λ part. nat_lt part (2 ^ s.variables)) (take c.count c.parts)
 

@@ -1,10 +1,9 @@
--- What a search over boxes ends with.
+-- The ends of a search over boxes.
 use Rattle.std.specs.Prelude.{◌≡◌, ℕ, ◌<◌, List, [], ◌∷◌, ◌++◌, map, take, length, min, Vec, All, Contains}
 use Rattle.std.specs.Global.{Global}
 use Rattle.std.specs.List.{AllZip, flat_map}
 use Rattle.it_space.specs.declared.answers.Certificate.{Certificate}
 use Rattle.it_space.specs.Answers.{CertificateView, certificate_view}
-use Rattle.it_space.specs.Problems.{problem_view}
 use Rattle.it_space.specs.Rows.{Terms}
 use Rattle.it_space.specs.Spaces.{size_of}
 use Rattle.it_demand.specs.RowsOfForms.{terms_of_form}
@@ -29,7 +28,7 @@ abbrev pub pair_goal : Pair → Effort → Goal
 pair_goal p effort = record {
   fits = FitsPair p;
   targets = λ c. map (terms_of_form (size_of p.first.space)) (pair_obligations p c);
-  ends = λ t o. EndsWith (problem_view p.first) t effort o;
+  ends = λ t o. EndsWith p.first t effort o;
 }
 
 -- the candidate fits, and its targets end with these certificates, in order
@@ -43,7 +42,7 @@ IsNoProof (Yes w) = ⊥
 IsNoProof (No values) = Unit {0}
 IsNoProof (Undecided cause) = Unit {0}
 
--- some target among these has such an outcome
+-- some target among `ts` has an outcome other than a proof
 abbrev pub LeavesSome : (Terms → ProofView → Type 0) → List Terms → Type 0
 LeavesSome ends ts = (t : Terms) × (o : ProofView) × Contains ts t × ends t o × IsNoProof o
 
@@ -51,7 +50,7 @@ LeavesSome ends ts = (t : Terms) × (o : ProofView) × Contains ts t × ends t o
 abbrev pub Proofs : Type 0
 Proofs = Vec Certificate Global
 
--- what contracts see of them
+-- what contracts see of certificates
 abbrev pub proof_views : Proofs → List CertificateView
 proof_views proofs = map certificate_view proofs.items
 
@@ -59,7 +58,7 @@ proof_views proofs = map certificate_view proofs.items
 unfoldable pub IsProof : Goal → Candidate → Proofs → Type 0
 IsProof goal c proofs = IsProofOf goal c (proof_views proofs)
 
--- some certificates do
+-- some certificates prove the candidate
 unfoldable pub IsProved : Goal → Candidate → Type 0
 IsProved goal c = (ws : List CertificateView) × IsProofOf goal c ws
 
@@ -90,6 +89,6 @@ abbrev pub SearchEnds : Goal → ℕ → List Candidate → List Plan → Contai
 SearchEnds goal tries plan plans (Found c proofs) plans_after = IsFirstProved goal tries plan c × IsProof goal c proofs × (plans_after ≡ map (plan_after c) plans)
 SearchEnds goal tries plan plans (Open tried) plans_after = IsOpen goal tries plan tried × (plans_after ≡ plans)
 
--- That of a search for certificates of a pair: its candidates are those of a list, and then those that the boxes set for a shape.
+-- The end of a search about a pair: its candidates are those of the list `first`, and then those that the boxes set for the shape.
 abbrev pub PairEnds : Pair → Effort → ℕ → List Candidate → Shape → List Plan → Contained → List Plan → Type 0
 PairEnds p effort tries first shape plans end plans_after = SearchEnds (pair_goal p effort) tries (plan_of first plans shape) plans end plans_after

@@ -13,11 +13,11 @@ pub record IsShape (s : Shape) : Type 0 where
   pub few : s.variables ≤ 10
   pub parts : s.parts ≤ 4
 
--- how many variables may be used, for how many auxiliaries
+-- the shape of a pair: the number of the first region's variables, and that of the parts
 abbrev pub shape_of : Pair → Shape
 shape_of p = record { variables = p.first.space.variables; parts = p.parts }
 
--- all lists of so many members out of xs in lexicographic order, the last member changing fastest
+-- all lists of `parts` members of xs, in lexicographic order: the last member changes fastest
 unfoldable pub tuples : List ℕ → ℕ → List (List ℕ)
 tuples xs zero = [] ∷ []
 tuples xs (suc parts) = flat_map (λ x. map (λ t. x ∷ t) (tuples xs parts)) xs

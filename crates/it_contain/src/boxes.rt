@@ -1,4 +1,4 @@
-//! What is done with each box of a list: a box is a proposer whose kind isn't known here.
+//! Operations on a list of boxes: a box is a proposer whose type isn't known here.
 //! The loops go by index, since their invariants speak of the whole list, with the first i boxes done.
 ghost use Rattle.std.specs.Prelude.{◌≡◌, ◌<◌, ◌+◌, [], map, drop, get_or, vec_len};
 ghost use Rattle.it_contain.specs.Shapes.{IsShape};
@@ -29,7 +29,7 @@ pub(crate) fn begin_all(boxes: &mut Vec<Box<dyn Proposer>>, shape: Shape)
     }
 }
 
-/// The next candidate of a box.
+/// The next candidate of a box; None where it has no more.
 fn next_of(one: &mut Box<dyn Proposer>) -> Option<Candidate>
     ensures takes { Takes (pending one.old) result (pending one.new) }
     ensures plan { plan one.new ≡ plan one.old }
@@ -37,7 +37,7 @@ fn next_of(one: &mut Box<dyn Proposer>) -> Option<Candidate>
     one.next()
 }
 
-/// The next candidate of the box at a place.
+/// The next candidate of box number `i`, counted from 0; None where it has no more.
 pub(crate) fn next_at(boxes: &mut Vec<Box<dyn Proposer>>, i: usize) -> Option<Candidate>
     requires { i < vec_len boxes.old }
     ensures takes { Takes (get_or (map pending boxes.old.items) i []) result (get_or (map pending boxes.new.items) i []) }

@@ -1,6 +1,5 @@
 //! Whether a candidate is proved.
 ghost use Rattle.std.specs.Prelude.{All, IfOk, OnOk};
-ghost use Rattle.it_space.specs.Problems.{IsProblem, problem_view};
 ghost use Rattle.it_space.specs.Rows.{IsOver};
 ghost use Rattle.it_space.specs.Spaces.{size_of};
 ghost use Rattle.it_region.specs.Pairs.{IsPair};
@@ -13,7 +12,7 @@ use it_region::{Candidate, Pair, fits, obligations};
 use it_space::{Certificate, Problem, Row};
 use std::alloc::{AllocError, Global};
 
-/// The certificate that a target ends with, if it does; without a run where the target is kept.
+/// The certificate with which the run about `target` ends, if it does. There is no run if its outcome is kept in `outcomes`.
 fn proof_of(
     alloc: Global,
     problem: &Problem,
@@ -21,11 +20,10 @@ fn proof_of(
     effort: Effort,
     outcomes: &mut Outcomes,
 ) -> Result<Option<Certificate>, AllocError>
-    requires problem { IsProblem (problem_view problem.now) }
     requires target { IsOver (size_of problem.now.space) target.now }
-    requires outcomes { AreOutcomes (problem_view problem.now) effort outcomes.old }
-    ensures proves { IfOk result (λ o. ProvesOne (problem_view problem.now) effort target.now o) }
-    ensures outcomes { OnOk result (AreOutcomes (problem_view problem.now) effort outcomes.new) }
+    requires outcomes { AreOutcomes problem.now effort outcomes.old }
+    ensures proves { IfOk result (λ o. ProvesOne problem.now effort target.now o) }
+    ensures outcomes { OnOk result (AreOutcomes problem.now effort outcomes.new) }
 {
     if let Some(outcome) = outcomes.by_row.get(target.terms()) {
         let kept = copy_outcome(alloc, outcome)?;
@@ -36,7 +34,7 @@ fn proof_of(
     Ok(outcome)
 }
 
-/// The certificates of all targets in order, if each ends with one.
+/// The certificates of all targets, in order; None if the run about one of them ends with none.
 fn proofs_of(
     alloc: Global,
     problem: &Problem,
@@ -44,11 +42,10 @@ fn proofs_of(
     effort: Effort,
     outcomes: &mut Outcomes,
 ) -> Result<Option<Vec<Certificate>>, AllocError>
-    requires problem { IsProblem (problem_view problem.now) }
     requires targets { All (IsOver (size_of problem.now.space)) targets.now }
-    requires outcomes { AreOutcomes (problem_view problem.now) effort outcomes.old }
-    ensures proves { IfOk result (λ o. ProvesAll (problem_view problem.now) effort targets.now o) }
-    ensures outcomes { OnOk result (AreOutcomes (problem_view problem.now) effort outcomes.new) }
+    requires outcomes { AreOutcomes problem.now effort outcomes.old }
+    ensures proves { IfOk result (λ o. ProvesAll problem.now effort targets.now o) }
+    ensures outcomes { OnOk result (AreOutcomes problem.now effort outcomes.new) }
 {
     let mut proofs = Vec::new(alloc);
     for target in targets {
@@ -60,7 +57,7 @@ fn proofs_of(
     Ok(Some(proofs))
 }
 
-/// A certificate of each obligation, if the candidate fits and is proved.
+/// The certificates of the obligations of `candidate`, in order; None if it doesn't fit the pair or isn't proved.
 pub(crate) fn proofs_of_candidate(
     alloc: Global,
     pair: &Pair,
@@ -69,9 +66,9 @@ pub(crate) fn proofs_of_candidate(
     outcomes: &mut Outcomes,
 ) -> Result<Option<Vec<Certificate>>, AllocError>
     requires pair { IsPair pair.now }
-    requires outcomes { AreOutcomes (problem_view pair.now.first) effort outcomes.old }
+    requires outcomes { AreOutcomes pair.now.first effort outcomes.old }
     ensures judges { IfOk result (λ o. Judges (pair_goal pair.now effort) candidate.now o) }
-    ensures outcomes { OnOk result (AreOutcomes (problem_view pair.now.first) effort outcomes.new) }
+    ensures outcomes { OnOk result (AreOutcomes pair.now.first effort outcomes.new) }
 {
     if !fits(pair, candidate) {
         return Ok(None);

@@ -2,7 +2,6 @@
 ghost use Rattle.std.specs.Prelude.{◌≡◌, IfOk, OnOk};
 ghost use Rattle.std.specs.Option.{option_map};
 ghost use Rattle.it_space.specs.Answers.{certificate_view};
-ghost use Rattle.it_space.specs.Problems.{IsProblem, problem_view};
 ghost use Rattle.it_space.specs.Rows.{IsOver};
 ghost use Rattle.it_space.specs.Spaces.{size_of};
 ghost use Rattle.it_contain.specs.SearchSteps.{AreOutcomes, IsKept, ProvesOne};
@@ -12,11 +11,11 @@ use it_prove::{ClosedProblem, Effort, Proof};
 use it_space::{Certificate, Problem, Row};
 use std::alloc::{AllocError, Global};
 
-/// How many rows are kept at most.
+/// The most rows that are kept.
 const MOST_ROWS: usize = 4096;
 
-/// Rows that were targets under one problem, each with the certificate that it ended with, if it did. The first
-/// `MOST_ROWS` of them are kept. What is made once of the problem serves all these runs.
+/// Rows that were targets under one problem, each with the certificate with which its run ended, if it did. The first
+/// `MOST_ROWS` of them are kept. `closed` is made once of the problem and serves all these runs.
 pub(crate) struct Outcomes {
     pub(crate) by_row: IndexMap<Vec<(u32, i128)>, Option<Certificate>>,
     pub(crate) closed: ClosedProblem,
@@ -32,14 +31,13 @@ impl Drop for Outcomes {
 }
 
 impl Outcomes {
-    /// Those about a problem before any run.
+    /// No outcomes yet under `problem`.
     pub(crate) fn new(
         alloc: Global,
         problem: &Problem,
         effort: Effort,
     ) -> Result<Outcomes, AllocError>
-        requires { IsProblem (problem_view problem.now) }
-        ensures { IfOk result (AreOutcomes (problem_view problem.now) effort) }
+        ensures { IfOk result (AreOutcomes problem.now effort) }
     {
         let closed = ClosedProblem::read(alloc, problem, effort)?;
         Ok(Outcomes {
@@ -48,7 +46,7 @@ impl Outcomes {
         })
     }
 
-    /// The certificate that a target ends with, if it does.
+    /// The certificate with which the run about `target` ends, if it does.
     pub(crate) fn certificate_of(
         &mut self,
         alloc: Global,
@@ -56,11 +54,10 @@ impl Outcomes {
         target: &Row,
         effort: Effort,
     ) -> Result<Option<Certificate>, AllocError>
-        requires problem { IsProblem (problem_view problem.now) }
         requires target { IsOver (size_of problem.now.space) target.now }
-        requires outcomes { AreOutcomes (problem_view problem.now) effort self.old }
-        ensures proves { IfOk result (λ o. ProvesOne (problem_view problem.now) effort target.now o) }
-        ensures outcomes { OnOk result (AreOutcomes (problem_view problem.now) effort self.new) }
+        requires outcomes { AreOutcomes problem.now effort self.old }
+        ensures proves { IfOk result (λ o. ProvesOne problem.now effort target.now o) }
+        ensures outcomes { OnOk result (AreOutcomes problem.now effort self.new) }
     {
         match self.closed.prove(alloc, problem, target, effort)? {
             Proof::Yes(certificate) => Ok(Some(certificate)),
@@ -69,7 +66,7 @@ impl Outcomes {
         }
     }
 
-    /// Keeps what a row ended with.
+    /// Keeps the outcome of `target`, unless `MOST_ROWS` rows are kept already.
     pub(crate) fn keep(
         &mut self,
         alloc: Global,
@@ -87,7 +84,7 @@ impl Outcomes {
     }
 }
 
-/// Copies an outcome.
+/// A copy of an outcome.
 pub(crate) fn copy_outcome(
     alloc: Global,
     outcome: &Option<Certificate>,

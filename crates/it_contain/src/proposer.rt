@@ -1,4 +1,4 @@
-//! What proposes candidates.
+//! Proposers of candidates.
 ghost use Rattle.std.specs.Prelude.{◌≡◌, List, []};
 ghost use Rattle.it_contain.specs.Shapes.{IsShape};
 ghost use Rattle.it_contain.specs.Proposals.{Plan, Takes, Learns};
@@ -13,16 +13,16 @@ pub trait Proposer: Drop {
     /// The candidates still to come.
     ghost pending: { Self → List Candidate };
 
-    /// What a beginning would set, for a shape and the candidates that are proved from now on.
+    /// The candidates that `begin` would set, for a shape and the candidates that are proved from now on.
     ghost plan: { Self → Plan };
 
-    /// Begins with a question's shape; what was still to come for the one before is forgotten.
+    /// Begins a question of shape `shape`. Candidates that were still to come for the question before are forgotten.
     fn begin(&mut self, shape: Shape)
         requires { IsShape shape }
         ensures pending { pending self.new ≡ plan self.old shape [] }
         ensures plan { plan self.new ≡ plan self.old };
 
-    /// The next candidate; none where there is no more.
+    /// The next candidate; None where there are no more.
     fn next(&mut self) -> Option<Candidate>
         ensures takes { Takes (pending self.old) result (pending self.new) }
         ensures plan { plan self.new ≡ plan self.old };

@@ -21,7 +21,7 @@ fn is_of_shape(shape: Shape, candidate: &Candidate) -> bool
         )
 }
 
-/// The kept candidate, if there is one and it is of the shape.
+/// The kept candidate, if there is one of this shape.
 fn of_shape(shape: Shape, kept: &Option<Candidate>) -> Option<Candidate>
     requires { shape.variables ≤ 10 }
     ensures { option_to_list result ≡ recent_candidates shape kept.now }
@@ -47,7 +47,7 @@ pub struct Recent {
 }
 
 impl Recent {
-    /// With nothing kept, and no candidate to come.
+    /// A proposer that keeps no candidate and has none to come.
     pub fn new() -> Recent
         ensures pending { ⟦<Recent as Proposer>⟧.pending result ≡ [] }
         ensures plan { ⟦<Recent as Proposer>⟧.plan result ≡ (λ shape proved. recent_candidates shape (last_of None proved)) }

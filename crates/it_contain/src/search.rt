@@ -1,6 +1,5 @@
 //! The search for a candidate that is proved.
 ghost use Rattle.std.specs.Prelude.{◌≡◌, ◌<◌, ◌+◌, map, drop, vec_len, IfOk, OnOk};
-ghost use Rattle.it_space.specs.Problems.{problem_view};
 ghost use Rattle.it_region.specs.Pairs.{IsPair};
 ghost use Rattle.it_contain.specs.Shapes.{IsShape, shape_of};
 ghost use Rattle.it_contain.specs.Search.{pair_goal, PairEnds};
@@ -16,17 +15,17 @@ use it_region::{Candidate, Pair};
 use it_space::Certificate;
 use std::alloc::{AllocError, Global};
 
-/// What candidates are to show, and the effort that is spent on each of their targets.
+/// What a candidate has to show: that the first region of `pair` lies in the second; with the effort for each of its targets.
 #[derive(Drop)]
 struct Goal<'a> {
     pair: &'a Pair,
     effort: Effort,
 }
 
-/// Looks for a substitution that shows that the pair's first region lies in the second, with this effort for each target. All
-/// boxes are begun, and at most `tries` candidates are tried: those of `first`, then those of each box in order. A candidate that
-/// doesn't fit counts. What is found the boxes know at later questions; where nothing is, they plan as before. Where memory was
-/// wanted nothing is known of the boxes.
+/// Looks for a substitution that shows that the pair's first region lies in the second, with the effort `effort` for each target.
+/// All boxes are begun, and at most `tries` candidates are tried: those of `first`, then those of each box in order. A candidate that
+/// doesn't fit counts. The boxes learn of the candidate that is found, for later questions; if none is found, their plans stay. If
+/// memory runs out, nothing is known of the boxes.
 pub fn contain(
     alloc: Global,
     pair: &Pair,
@@ -49,7 +48,7 @@ pub fn contain(
     Ok(end)
 }
 
-/// Tries a candidate, and tells all boxes whether it is proved. The answer is its proofs, if it is.
+/// Tries a candidate, and tells all boxes whether it is proved. Gives its certificates, if it is.
 fn try_one(
     alloc: Global,
     goal: &Goal<'_>,
@@ -58,11 +57,11 @@ fn try_one(
     outcomes: &mut Outcomes,
 ) -> Result<Option<Vec<Certificate>>, AllocError>
     requires pair { IsPair goal.now.pair.now }
-    requires outcomes { AreOutcomes (problem_view goal.now.pair.now.first) goal.now.effort outcomes.old }
+    requires outcomes { AreOutcomes goal.now.pair.now.first goal.now.effort outcomes.old }
     ensures judges { IfOk result (λ o. Judges (pair_goal goal.now.pair.now goal.now.effort) candidate.now o) }
     ensures pending { IfOk result (λ o. KeepsPending o (map pending boxes.old.items) (map pending boxes.new.items)) }
     ensures plans { IfOk result (λ o. map plan boxes.new.items ≡ plans_after_try candidate.now o (map plan boxes.old.items)) }
-    ensures outcomes { OnOk result (AreOutcomes (problem_view goal.now.pair.now.first) goal.now.effort outcomes.new) }
+    ensures outcomes { OnOk result (AreOutcomes goal.now.pair.now.first goal.now.effort outcomes.new) }
 {
     match proofs_of_candidate(alloc, goal.pair, candidate, goal.effort, outcomes)? {
         Some(proof) => {
@@ -86,10 +85,10 @@ fn try_list(
     outcomes: &mut Outcomes,
 ) -> Result<Contained, AllocError>
     requires pair { IsPair goal.now.pair.now }
-    requires outcomes { AreOutcomes (problem_view goal.now.pair.now.first) goal.now.effort outcomes.old }
+    requires outcomes { AreOutcomes goal.now.pair.now.first goal.now.effort outcomes.old }
     ensures ends { IfOk result (λ r. ListEnds goal.now tries first.now (map plan boxes.old.items) r (map plan boxes.new.items)) }
     ensures later { IfOk result (λ r. KeepsLater r (map pending boxes.old.items) (map pending boxes.new.items)) }
-    ensures outcomes { OnOk result (AreOutcomes (problem_view goal.now.pair.now.first) goal.now.effort outcomes.new) }
+    ensures outcomes { OnOk result (AreOutcomes goal.now.pair.now.first goal.now.effort outcomes.new) }
 {
     let mut count: u32 = 0;
     for candidate in first {
@@ -104,7 +103,7 @@ fn try_list(
     Ok(Contained::Open { tried: count })
 }
 
-/// Tries the first `tries` candidates of the box at a place.
+/// Tries the first `tries` candidates of box number `i`, counted from 0.
 fn try_box(
     alloc: Global,
     goal: &Goal<'_>,
@@ -114,11 +113,11 @@ fn try_box(
     outcomes: &mut Outcomes,
 ) -> Result<Contained, AllocError>
     requires pair { IsPair goal.now.pair.now }
-    requires outcomes { AreOutcomes (problem_view goal.now.pair.now.first) goal.now.effort outcomes.old }
+    requires outcomes { AreOutcomes goal.now.pair.now.first goal.now.effort outcomes.old }
     requires box_is { i < vec_len boxes.old }
     ensures ends { IfOk result (λ r. BoxEnds goal.now tries (map pending boxes.old.items) i (map plan boxes.old.items) r (map plan boxes.new.items)) }
     ensures later { IfOk result (λ r. KeepsLater r (drop (i + 1) (map pending boxes.old.items)) (drop (i + 1) (map pending boxes.new.items))) }
-    ensures outcomes { OnOk result (AreOutcomes (problem_view goal.now.pair.now.first) goal.now.effort outcomes.new) }
+    ensures outcomes { OnOk result (AreOutcomes goal.now.pair.now.first goal.now.effort outcomes.new) }
 {
     for count in 0..tries {
         let Some(candidate) = next_at(boxes, i) else {
@@ -143,7 +142,7 @@ fn try_all(
     outcomes: &mut Outcomes,
 ) -> Result<Contained, AllocError>
     requires pair { IsPair goal.now.pair.now }
-    requires outcomes { AreOutcomes (problem_view goal.now.pair.now.first) goal.now.effort outcomes.old }
+    requires outcomes { AreOutcomes goal.now.pair.now.first goal.now.effort outcomes.old }
     requires shape { IsShape shape }
     ensures { IfOk result (λ r. PairEnds goal.now.pair.now goal.now.effort tries first.now shape (map plan boxes.old.items) r (map plan boxes.new.items)) }
 {

@@ -31,7 +31,7 @@ impl PartSets for SmallSets {
 pub type Singles = Tuples<SmallSets>;
 
 impl Singles {
-    /// With no candidate to come until it is begun.
+    /// A proposer with no candidate to come until it is begun.
     pub fn new() -> Singles
         ensures pending { ⟦<Singles as Proposer>⟧.pending result ≡ [] }
         ensures plan { ⟦<Singles as Proposer>⟧.plan result ≡ (λ shape proved. tuple_candidates small_sets shape) }

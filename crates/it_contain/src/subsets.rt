@@ -27,7 +27,7 @@ impl PartSets for AllSets {
 pub type Subsets = Tuples<AllSets>;
 
 impl Subsets {
-    /// With no candidate to come until it is begun.
+    /// A proposer with no candidate to come until it is begun.
     pub fn new() -> Subsets
         ensures pending { ⟦<Subsets as Proposer>⟧.pending result ≡ [] }
         ensures plan { ⟦<Subsets as Proposer>⟧.plan result ≡ (λ shape proved. tuple_candidates all_sets shape) }

@@ -11,10 +11,10 @@ use std::marker::PhantomData;
 
 /// A list of the sets that each part of a candidate may be.
 pub trait PartSets {
-    /// The list, for so many variables.
+    /// The list, for a number of variables.
     ghost sets: { ℕ → List ℕ };
 
-    /// How many sets there are.
+    /// The number of sets in the list.
     fn count(variables: u8) -> u64
         requires { variables ≤ 10 }
         ensures value { result ≡ length (sets variables) }
@@ -22,14 +22,14 @@ pub trait PartSets {
         ensures few { result ≤ 1024 }
         ensures empty_first { get_or (sets variables) 0 0 ≡ 0 };
 
-    /// The set of a number, counted from 0.
+    /// Set number `number` of the list, counted from 0.
     fn set_at(variables: u8, number: u64) -> VarSet
         requires few { variables ≤ 10 }
         requires within { number < length (sets variables) }
         ensures { result ≡ get_or (sets variables) number 0 };
 }
 
-/// The last `parts` digits of a number to a base, the last one at the end, and zeros after them.
+/// The last `parts` digits of `number` in base `base`, the last one at the end, and zeros after them.
 fn last_digits(base: u64, parts: u8, number: u64) -> [u64; 4]
     requires some { 0 < base }
     requires parts { parts ≤ 4 }
@@ -51,7 +51,7 @@ fn last_digits(base: u64, parts: u8, number: u64) -> [u64; 4]
     }
 }
 
-/// The candidate of a number.
+/// Candidate number `number` of a shape, counted from 0.
 fn candidate_at<S: PartSets>(shape: Shape, number: u64) -> Candidate
     requires { IsShapeWithin shape }
     ensures { result ≡ candidate_of shape.parts (tuple_at (S.sets shape.variables) shape.parts number) }
@@ -79,7 +79,7 @@ pub struct Tuples<S> {
 }
 
 impl<S: PartSets> Tuples<S> {
-    /// With no candidate to come until it is begun.
+    /// A proposer with no candidate to come until it is begun.
     #[tactic(auto, using(crate::proofs::CandidateLemmas::none_without_parts))]
     pub(crate) fn with_none_to_come() -> Tuples<S>
         ensures { ⟦<Tuples<S> as Proposer>⟧.pending result ≡ [] }

@@ -1,19 +1,19 @@
-//! What a search is about, and what it ends with.
+//! The shape of a search, and its end.
 use it_region::Candidate;
 use it_space::Certificate;
 
-/// How many variables the first region has, and how many auxiliaries of the second region need a set of them.
+/// The number of variables of the first region, and the number of auxiliaries of the second, each of which needs a set of them.
 #[derive(Clone, Copy, Debug, PartialEq, Eq)]
 pub struct Shape {
     pub variables: u8,
     pub parts: u8,
 }
 
-/// What a search ends with.
+/// The end of a search.
 #[derive(Debug, Drop)]
 pub enum Contained {
     /// The first candidate of the plan that is proved, with a certificate for each obligation in order.
     Found(Candidate, Vec<Certificate>),
-    /// So many candidates were tried, and none is proved.
+    /// `tried` candidates were tried, and none is proved.
     Open { tried: u32 },
 }

@@ -18,6 +18,6 @@ items_are_read f items lines start read h e r = sym (ap (forms.read f) (h ∙ ap
 pub begun_stop : {A : Type 0} (f : Form A) (items lines : List Line) (start : List Letter) (stop : Stop) (rest : List Letter) → start ≡ letters_of_lines (map line_view lines) → lines ≡ items → StopsAs stop rest (forms.read f start) → StopsAs stop rest (forms.read f (letters_of_lines (map line_view items)))
 begun_stop f items lines start stop rest h e s = subst (StopsAs stop rest) (sym (items_are_read f items lines start (forms.read f start) h e refl)) s
 
--- what holds of lines holds of the same lines
+-- what holds of lines holds of equal lines
 pub same_lines : (P : List LineView → Type 0) (items lines : List Line) → lines ≡ items → P (map line_view items) → P (map line_view lines)
 same_lines P items lines e h = subst (λ (ls : List Line). P (map line_view ls)) (sym e) h

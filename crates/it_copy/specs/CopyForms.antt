@@ -1,5 +1,5 @@
--- The grammar of files with a head, whose lines ask for copies. `Word` stands against H and I in the place of a name, `Many`
--- against the first letter past a limit.
+-- The grammar of files with a head, whose lines ask for copies. `Word` flags H and I in the place of a name, `Many` the first letter past
+-- a limit.
 use Rattle.std.specs.Prelude.{ℕ, ◌-◌, false, List, [], ◌∷◌, ◌++◌, length, codes}
 use Rattle.it_forms.specs.declared.types.Symbol.TheVariants.{Comma}
 use Rattle.it_syntax.specs.MeasureWords.{is_measure}
@@ -10,11 +10,11 @@ use Rattle.it_copy.specs.CopyLines.{CopyView, most_copies, most_members}
 use Rattle.it_forms.specs.Forms.{Form, Give, Take, If}
 use Rattle.it_forms.specs.Words.{◌>>=◌, ◌>>◌, word, any_word, each_after, each_flagged, to_end, zero_alone, limit_flag}
 
--- a name, of which n are allowed
+-- a name, where n more are allowed
 unfoldable pub member : ℕ → Form (List ℕ)
 member n = Take (any_word (λ w. (new_flag (is_measure w) false n, w)))
 
--- further names, each after a comma
+-- the names `names` and further ones, each after a comma, at most 4 in all
 unfoldable pub more_members : List (List ℕ) → Form (List (List ℕ))
 more_members names = each_after Comma (λ names. member (most_members - length names)) (λ names w. names ++ w ∷ []) names
 
@@ -26,7 +26,7 @@ members = member most_members >>= λ w. more_members (w ∷ [])
 unfoldable pub over : Form (List (List ℕ))
 over = If zero_alone (λ u. Give []) members
 
--- after `copy`
+-- a copy, after `copy`
 unfoldable pub copy : Form CopyView
 copy = do
   fresh ← member 1
@@ -36,7 +36,7 @@ copy = do
   set ← over
   Give (record { fresh = fresh; old = old; over = set })
 
--- lines that ask for copies, after others
+-- the copies `cs` and further lines that ask for copies, at most 4 in all
 unfoldable pub more_copies : List CopyView → Form (List CopyView)
 more_copies cs = each_flagged (codes "copy") (λ cs. limit_flag (most_copies - length cs)) (λ cs. to_end copy) (λ cs c. cs ++ c ∷ []) cs
 

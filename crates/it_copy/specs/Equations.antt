@@ -17,7 +17,7 @@ term_of (Entropy of given) = record { negative = false; number = 1; denominator 
 term_of (Mutual left right given) = record { negative = false; number = 1; denominator = 1; atom = Mutual left right given }
 term_of (Rate r) = record { negative = false; number = 1; denominator = 1; atom = Rate r }
 
--- that two atoms are equal
+-- the given that two atoms are equal
 abbrev pub equal_atoms : Atom → Atom → GivenView
 equal_atoms left right = Relation (record { left = term_of left ∷ []; sign = Equal; right = term_of right ∷ [] })
 
@@ -25,7 +25,7 @@ equal_atoms left right = Relation (record { left = term_of left ∷ []; sign = E
 abbrev pub inside_equation : ℕ → ℕ → ℕ → GivenView
 inside_equation fresh old s = equal_atoms (Entropy (bit_or (2 ^ fresh) s) 0) (Entropy (bit_or (2 ^ old) s) 0)
 
--- such an equation for each of these sets that is inside another one
+-- such an equation for each of `sets` that is inside `over`
 abbrev pub inside_equations : ℕ → ℕ → ℕ → List ℕ → List GivenView
 inside_equations fresh old over sets = map (inside_equation fresh old) (filter (λ s. is_inside s over) sets)
 

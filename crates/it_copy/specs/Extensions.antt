@@ -1,4 +1,4 @@
--- A question with copies of variables added, and why it can't have them.
+-- A question with copies of variables added, and the reasons why it can't have them.
 use Rattle.std.specs.Prelude.{◌≡◌, ℕ, ◌+◌, ◌<◌, ◌≤◌, ◌^◌, ◌||◌, nat_le, List, [], ◌∷◌, ◌++◌, length, Option, Some, None, is_some, if◌then◌else◌, option_and_then, bit_or}
 use Rattle.std.specs.List.{fold}
 use Rattle.std.specs.Option.{option_map_or}
@@ -14,42 +14,42 @@ use Rattle.it_copy.specs.declared.types.CopyFault.TheVariants as faults
 use Rattle.it_copy.specs.CopyLines.{CopyView}
 use Rattle.it_copy.specs.Equations.{copy_equations}
 
--- the set of these names of variables with one that is there, if each is one
+-- the set s with the variables of these names; none if a name isn't that of a variable
 abbrev pub set_with : List (List ℕ) → ℕ → List (List ℕ) → Option ℕ
 set_with variables s [] = Some s
 set_with variables s (w ∷ ws) = option_and_then (λ i. set_with variables (bit_or s (2 ^ i)) ws) (index_of variables w)
 
--- the variable and the set, unless the variable is in the set
+-- the variable a and the set s; none if a is in s
 abbrev pub unless_member : ℕ → ℕ → Option (ℕ × ℕ)
 unless_member a s = if has_member s a then None else Some (a, s)
 
--- the variable and the set that a copy names, if they are there and apart
+-- the variable and the set that a copy names; none if a name isn't that of a variable, or if the variable is in the set
 unfoldable pub named_parts : NamesView → CopyView → Option (ℕ × ℕ)
 named_parts v c = option_and_then (λ a. option_and_then (unless_member a) (set_with v.variables 0 c.over)) (index_of v.variables c.old)
 
 -- The variable that a copy is of and the set that it is over, by their numbers; none where the copy can't be made: its name is taken, a
--- name isn't that of a variable, the variable is in the set, or there are as many variables as there may be.
+-- name isn't that of a variable, the variable is in the set, or there are as many variables as are allowed.
 unfoldable pub placed : NamesView → CopyView → Option (ℕ × ℕ)
 placed v c = if is_taken v c.fresh || nat_le most_variables (length v.variables) then None else named_parts v c
 
--- the names with that of a copy, which is a variable
+-- the names with that of a copy as the next variable
 abbrev pub with_copy : NamesView → CopyView → NamesView
 with_copy v c = with_name Variable v c.fresh
 
--- the names with those of copies, in order
+-- the names with those of the copies as the next variables, in order
 abbrev pub with_copies : NamesView → List CopyView → NamesView
 with_copies v cs = fold with_copy v cs
 
--- the equations of a copy that stands after these names, of its place
+-- the equations of a copy that is the next variable after v, with its variable and its set in `place`
 abbrev pub equations_at : NamesView → ℕ × ℕ → List GivenView
 equations_at v place = copy_equations (length v.variables) place.0 place.1
 
--- the equations of copies, in order
+-- the equations of copies, in order, which are the next variables after v
 abbrev pub equations_of : NamesView → List CopyView → List GivenView
 equations_of v [] = []
 equations_of v (c ∷ cs) = option_map_or (λ (x : ℕ × ℕ). equations_at v x) (placed v c) [] ++ equations_of (with_copy v c) cs
 
--- the number of the first copy that can't be made, the first being number k
+-- the number of the first copy that can't be made, where the first one of the list is number k
 abbrev pub first_unplaced : ℕ → NamesView → List CopyView → Option ℕ
 first_unplaced k v [] = None
 first_unplaced k v (c ∷ cs) = if is_some (placed v c) then first_unplaced (k + 1) (with_copy v c) cs else Some k
@@ -62,25 +62,25 @@ extended q cs = record {
   verb = q.verb;
 }
 
--- the question is about a relation
+-- the verb is `prove`
 abbrev pub IsProof : VerbView → Type 0
 IsProof (Prove r) = Unit {0}
 IsProof (Eliminate rates) = ⊥
 IsProof (Contain first second tries) = ⊥
 
--- each copy can be made
+-- the question asks for a proof, and each copy can be made
 pub record CanBeMade (q : BodyView) (cs : List CopyView) : Type 0 where
   pub proof : IsProof q.verb
   pub placed : first_unplaced 1 q.names cs ≡ None
 
--- the question with these copies, which it can have
+-- e is the question q with these copies, and is within the limits
 pub record IsExtension (q : BodyView) (cs : List CopyView) (e : BodyView) : Type 0 where
   pub made : CanBeMade q cs
   pub few : length e.lines.givens ≤ most_lines
   pub small : HasSmallTable e
   pub is : e ≡ extended q cs
 
--- why it can't have them: the first of these reasons, in their order; or memory ran out
+-- the reason why a question can't have copies: the first of these, in their order; or memory ran out
 abbrev pub IsMisfit : BodyView → List CopyView → CopyFault → Type 0
 IsMisfit q cs faults.Memory = Unit {0}
 IsMisfit q cs faults.Verb = IsProof q.verb → ⊥

@@ -1,4 +1,4 @@
--- What the reader of a whole file gives. No public clause cites it.
+-- The result of the reader of a whole file. No public clause cites it.
 use Rattle.std.specs.Prelude.{List, map}
 use Rattle.it_question.specs.declared.bodies.Body.{Body}
 use Rattle.it_question.specs.Bodies.{body_view}

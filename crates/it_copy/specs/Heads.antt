@@ -15,13 +15,13 @@ abbrev pub begins_questions : List Letter → Bool
 begins_questions [] = false
 begins_questions (l ∷ ls) = is_among (Keyword (codes "vars") ∷ FileEnd ∷ []) l
 
--- how many lines stand before the first of these
+-- the number of lines of the file before the first of these
 abbrev pub lines_before : List LineView → ℕ
 lines_before [] = 0
 lines_before (l ∷ lines) = l.number - 1
 
--- The bytes have this head, of so many lines, and the file after it begins at this byte: the first of the lines that have tokens say
--- these copies, one a line, and the next begins the questions.
+-- The bytes have this head, of `skipped` lines, and the question file after it begins at byte `from`: the first of the lines that have
+-- tokens say these copies, one a line, and the next begins the questions.
 pub record IsHead (bytes : List ℕ) (copies : List CopyView) (from skipped : ℕ) : Type 0 where
   pub lines : List LineView
   pub cut : AreLinesOf bytes lines
@@ -37,7 +37,7 @@ pub record IsHead (bytes : List ℕ) (copies : List CopyView) (from skipped : �
 abbrev pub HasNoHead : List ℕ → Type 0
 HasNoHead bytes = (copies : List CopyView) (from skipped : ℕ) → IsHead bytes copies from skipped → ⊥
 
--- the first fault of the head is this one: the file's first fault, where the bytes have no head
+-- the first fault of the head is `code`, at this place: it is the file's first fault, and the bytes have no head
 abbrev pub HeadFaultAt : List ℕ → ℕ → ℕ → Code → Type 0
 HeadFaultAt bytes line column code = HasNoHead bytes × CopyFileFaultAt bytes line column code
 

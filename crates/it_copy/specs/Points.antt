@@ -1,4 +1,4 @@
--- Points that extend to copies, and what an extended question says of them.
+-- Points that extend to copies, and what a yes to an extended question says of them.
 use Rattle.std.specs.Prelude.{◌≡◌, ℕ, ℤ, List, length}
 use Rattle.it_polymatroid.specs.Polymatroid.{IsPolymatroid}
 use Rattle.it_syntax.specs.Meaning.{RelationView, Holds}
@@ -26,14 +26,14 @@ YesByCopies = (q e : BodyView) (cs : List CopyView) (r : RelationView) → IsQue
     → ((image : ℕ → ℤ) → IsPolymatroid (length e.names.variables) image → AreTrueAt (length e.names.variables) image e.lines → Holds (length e.names.variables) image r)
     → (p : ℕ → ℤ) → HasCopies q e p → Holds (length q.names.variables) p r
 
--- a question has one extension by some copies
+-- a question has at most one extension by some copies
 abbrev pub OneExtension : Type 0
 OneExtension = (q d e : BodyView) (cs : List CopyView) → IsExtension q cs d → IsExtension q cs e → d ≡ e
 
--- or one reason against them, but for want of memory
+-- a question has at most one reason against copies, apart from memory
 abbrev pub OneMisfit : Type 0
 OneMisfit = (q : BodyView) (cs : List CopyView) (f g : CopyFault) → (f ≡ Memory → ⊥) → (g ≡ Memory → ⊥) → IsMisfit q cs f → IsMisfit q cs g → f ≡ g
 
--- and not both
+-- no question has both an extension by some copies and a reason against them, apart from memory
 abbrev pub ExtensionOrMisfit : Type 0
 ExtensionOrMisfit = (q e : BodyView) (cs : List CopyView) (f : CopyFault) → (f ≡ Memory → ⊥) → IsExtension q cs e → IsMisfit q cs f → ⊥

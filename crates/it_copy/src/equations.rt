@@ -10,7 +10,7 @@ use it_space::VarSet;
 use it_syntax::types::{Atom, Expr, Given, Relation, Sign, Term};
 use std::alloc::{AllocError, Global};
 
-/// The sum of one term that stands once, or of 0.
+/// The sum of `atom` alone; 0 for `Nothing`.
 fn single(alloc: Global, atom: Atom) -> Result<Expr, AllocError>
     ensures { IfOk result (λ s. s.terms.items ≡ term_of atom ∷ []) }
 {
@@ -28,7 +28,7 @@ fn single(alloc: Global, atom: Atom) -> Result<Expr, AllocError>
     Ok(Expr { terms })
 }
 
-/// That two things are equal.
+/// The given that `left` and `right` are equal.
 fn equation(alloc: Global, left: Atom, right: Atom) -> Result<Given, AllocError>
     ensures { IfOk result (λ g. given_view g ≡ equal_atoms left right) }
 {
@@ -41,7 +41,7 @@ fn equation(alloc: Global, left: Atom, right: Atom) -> Result<Given, AllocError>
     }))
 }
 
-/// The joint entropy of a set.
+/// The joint entropy of the set `of`.
 fn joint(of: VarSet) -> Atom
     ensures { result ≡ Entropy of 0 }
 {
@@ -51,7 +51,7 @@ fn joint(of: VarSet) -> Atom
     }
 }
 
-/// Puts the equation of the copy's entropy with a set after the others, if the set is a part of `over`.
+/// Appends the equation of the copy's entropy with `set`, if `set` lies in `over`.
 fn add_part(
     alloc: Global,
     givens: &mut Vec<Given>,
@@ -73,14 +73,14 @@ fn add_part(
     Ok(())
 }
 
-/// Whether each member of a set is in `over`.
+/// Whether each member of `set` is in `over`.
 fn is_part(over: VarSet, set: VarSet) -> bool
     ensures { result ≡ is_inside set over }
 {
     set.meet(over) == set
 }
 
-/// Puts the equations of the copy's entropies after the others: for each set inside `over`, by number.
+/// Appends the equations of the copy's entropies: one for each set inside `over`, by number.
 fn add_inside(
     alloc: Global,
     givens: &mut Vec<Given>,
@@ -102,7 +102,7 @@ fn add_inside(
     Ok(())
 }
 
-/// That the copy is independent, given the set, of the variables before it that aren't in the set.
+/// The equation that the copy is independent, given `over`, of the variables before it that aren't in `over`.
 fn apart(alloc: Global, fresh: u8, over: VarSet) -> Result<Given, AllocError>
     requires fresh { fresh ≤ 10 }
     requires inside { over < 2 ^ fresh }
@@ -116,7 +116,7 @@ fn apart(alloc: Global, fresh: u8, over: VarSet) -> Result<Given, AllocError>
     equation(alloc, link, Atom::Nothing)
 }
 
-/// The variables before one that aren't in a set.
+/// The variables before `fresh` that aren't in `over`.
 fn others(fresh: u8, over: VarSet) -> VarSet
     requires fresh { fresh ≤ 10 }
     requires inside { over < 2 ^ fresh }
@@ -125,7 +125,7 @@ fn others(fresh: u8, over: VarSet) -> VarSet
     before(fresh).minus(over)
 }
 
-/// The set of the variables before one.
+/// The set of the variables before `fresh`.
 fn before(fresh: u8) -> VarSet
     requires { fresh ≤ 10 }
     ensures { result ≡ 2 ^ fresh - 1 }
@@ -133,7 +133,7 @@ fn before(fresh: u8) -> VarSet
     VarSet::from_number((1u16 << fresh) - 1)
 }
 
-/// Puts the equations of a copy after the others.
+/// Appends the equations of the variable `fresh`, a copy of the variable `old` over the set `over`.
 #[tactic(auto, unfolding(crate::specs::Equations::copy_equations))]
 pub fn add_equations(
     alloc: Global,

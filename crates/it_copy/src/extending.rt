@@ -1,6 +1,5 @@
 //! Questions with copies of variables added.
 ghost use Rattle.std.specs.Prelude.{◌≡◌, ◌≤◌, ◌<◌, ◌^◌, ◌++◌, None, [], false, IfOk, IfErr, OnOk, bit_or, length, map, nat_le, nat_lt};
-ghost use Rattle.it_space.specs.Problems.{IsProblem, problem_view};
 ghost use Rattle.it_closure.specs.Sizes.{table_size};
 ghost use Rattle.it_syntax.specs.Givens.{given_view};
 ghost use Rattle.it_syntax.specs.Meaning.{relation_view};
@@ -24,7 +23,7 @@ use it_syntax::types::{Given, Relation};
 use it_syntax::{Names, copies};
 use std::alloc::{AllocError, Global};
 
-/// Whether a variable or a rate has this name.
+/// Whether a variable or a rate is named `name`.
 #[tactic(auto, unfolding(it_question::specs::NewNames::is_taken))]
 fn is_taken(names: &Names, name: &[u8]) -> bool
     ensures { result ≡ is_taken names.now name.now }
@@ -32,14 +31,14 @@ fn is_taken(names: &Names, name: &[u8]) -> bool
     names.variable(name).is_some() || names.rate(name).is_some()
 }
 
-/// Whether there are as many variables as there may be.
+/// Whether there are as many variables as are allowed.
 fn is_full(names: &Names) -> bool
     ensures { result ≡ nat_le most_variables (length names.now.variables) }
 {
     MOST_VARIABLES <= usize::from(names.space().variables)
 }
 
-/// The set with one more variable.
+/// `set` with the variable `i`.
 fn with_variable(set: VarSet, i: u8) -> VarSet
     requires { i < 16 }
     ensures { result ≡ bit_or set (2 ^ i) }
@@ -47,7 +46,7 @@ fn with_variable(set: VarSet, i: u8) -> VarSet
     set.union(VarSet::single(i))
 }
 
-/// The set of these names of variables, if each is one.
+/// The set of the variables named in `over`; None if a name isn't that of a variable.
 fn set_of(names: &Names, over: &[Vec<u8>]) -> Option<VarSet>
     ensures { result ≡ set_with names.now.variables 0 (map (λ v. v.items) over.now) }
 {
@@ -59,7 +58,7 @@ fn set_of(names: &Names, over: &[Vec<u8>]) -> Option<VarSet>
     Some(set)
 }
 
-/// The variable and the set, unless the variable is in the set.
+/// `old` and `over`; None if the variable `old` is in the set `over`.
 fn unless_member(old: u8, over: VarSet) -> Option<(u8, VarSet)>
     ensures { result ≡ unless_member old over }
 {
@@ -70,7 +69,8 @@ fn unless_member(old: u8, over: VarSet) -> Option<(u8, VarSet)>
     }
 }
 
-/// The variable and the set of these names, if they are apart.
+/// The variable and the set that `line` names, by their numbers; None if a name isn't that of a variable, or if the variable is in
+/// the set.
 #[tactic(auto, unfolding(crate::specs::Extensions::named_parts))]
 fn named_parts(names: &Names, line: &CopyLine) -> Option<(u8, VarSet)>
     ensures { result ≡ named_parts names.now (copy_view line.now) }
@@ -80,7 +80,7 @@ fn named_parts(names: &Names, line: &CopyLine) -> Option<(u8, VarSet)>
     unless_member(old, over)
 }
 
-/// The variable and the set that a copy is of and over, by their numbers; none where it can't be made.
+/// The variable and the set of `named_parts`; None where the copy can't be made.
 #[tactic(auto, unfolding(crate::specs::Extensions::placed))]
 fn placed(names: &Names, line: &CopyLine) -> Option<(u8, VarSet)>
     ensures { result ≡ placed names.now (copy_view line.now) }
@@ -92,7 +92,7 @@ fn placed(names: &Names, line: &CopyLine) -> Option<(u8, VarSet)>
     }
 }
 
-/// Adds a copy in its place to names and constraints.
+/// Adds a copy named `fresh` to `names`, and its equations to `givens`. `place` is its variable and its set.
 fn add_copy(
     alloc: Global,
     names: &mut Names,
@@ -114,7 +114,7 @@ fn add_copy(
     names.add_variable(fresh)
 }
 
-/// Adds copies to names and constraints, in order, or tells the first copy that can't be made.
+/// Adds the copies of `lines` to names and constraints, in order; the error is the first copy that can't be made.
 fn add_copies(
     alloc: Global,
     names: &mut Names,
@@ -142,8 +142,7 @@ fn add_copies(
 
 /// Whether the table of a problem is too large.
 fn is_large(alloc: Global, problem: &Problem) -> Result<bool, AllocError>
-    requires { IsProblem (problem_view problem.now) }
-    ensures { IfOk result (λ large. large ≡ nat_lt most_entries (table_size (problem_view problem.now))) }
+    ensures { IfOk result (λ large. large ≡ nat_lt most_entries (table_size problem.now)) }
 {
     let size = size(alloc, problem)?;
     Ok(MOST_ENTRIES < size)
@@ -159,7 +158,7 @@ fn has_large_table(alloc: Global, question: &Question) -> Result<bool, AllocErro
     Ok(large)
 }
 
-/// Judges the size of a question's table.
+/// The error `Large` if the table of the question is too large.
 fn judge_size(alloc: Global, question: &Question) -> Result<(), CopyFault>
     requires { IsQuestion (question_body question.now) }
     ensures small { OnOk result (IsLargeBy (question_body question.now) false) }
@@ -169,7 +168,8 @@ fn judge_size(alloc: Global, question: &Question) -> Result<(), CopyFault>
     if large { Err(CopyFault::Large) } else { Ok(()) }
 }
 
-/// The question about a relation with copies of variables added, whatever comes of its size, or the first copy that can't be made.
+/// The question about a relation with copies of variables added, without a test of its size; the error is the first copy that can't
+/// be made.
 fn copied(
     alloc: Global,
     question: &Question,
@@ -200,7 +200,7 @@ fn copied(
     })
 }
 
-/// Judges how many constraints a question has, and then the size of its table.
+/// The error `Many` if the question has too many constraints, else `Large` if its table is too large.
 fn judge_limits(alloc: Global, question: &Question) -> Result<(), CopyFault>
     requires { length question.now.lines.givens.items ≤ most_lines → IsQuestion (question_body question.now) }
     ensures few { OnOk result (length question.now.lines.givens.items ≤ most_lines) }

@@ -17,7 +17,7 @@ use it_question::types::FileFault;
 use it_syntax::rest::Stop;
 use std::alloc::{AllocError, Global};
 
-/// What is read of a file with a head: its copies, and its questions without their texts.
+/// A file with a head as it is read: its copies, and its questions without their texts.
 #[derive(Drop)]
 struct Reading {
     copies: Vec<CopyLine>,
@@ -37,7 +37,7 @@ fn whole(alloc: Global, cursor: &mut Cursor<'_>) -> Result<Reading, Stop>
     Ok(Reading { copies, bodies })
 }
 
-/// The lines without the first n.
+/// `lines` without the first `n`.
 #[tactic(auto, using(std::proofs::lemmas::List::drop_min))]
 fn without_first(lines: Vec<Line>, n: usize) -> Result<Vec<Line>, AllocError>
     ensures { IfOk result (λ after. after.items ≡ drop n lines.items) }

@@ -49,14 +49,14 @@ fn copies_of_head(alloc: Global, cursor: &mut Cursor<'_>) -> Result<Vec<CopyLine
     }
 }
 
-/// The lines after the first n.
+/// `lines` without the first `n`.
 fn lines_after(lines: &[Line], n: usize) -> &[Line]
     ensures { map line_view result.now ≡ drop n (map line_view lines.now) }
 {
     lines.split_at(n.min(lines.len())).1
 }
 
-/// How many lines of the file stand before the first of these.
+/// The number of lines of the file before the first of `lines`.
 fn lines_before(lines: &[Line]) -> u32
     ensures { result ≡ lines_before (map line_view lines.now) }
 {
@@ -66,7 +66,7 @@ fn lines_before(lines: &[Line]) -> u32
     }
 }
 
-/// The byte at which the line after the first `skipped` ones begins.
+/// The position of the byte with which the line after the first `skipped` ones begins.
 fn start_after(bytes: &[u8], skipped: u32) -> usize
     ensures within { result ≤ length bytes.now }
     ensures after { split_lines (drop result bytes.now) ≡ drop skipped (split_lines bytes.now) }
@@ -84,8 +84,8 @@ fn start_after(bytes: &[u8], skipped: u32) -> usize
 }
 
 /// The head of a file: all lines before the first whose first token is the word `vars`, or all lines where there is none. Each
-/// line that has tokens asks for a copy; there are at most four. The fault is the first one of the first of these lines that
-/// isn't so.
+/// line that has tokens asks for a copy; there are at most four. The fault is the first one of the first of these lines that doesn't
+/// ask for a copy, or asks for a fifth one.
 pub fn head(alloc: Global, bytes: &[u8]) -> Result<Head, FileFault>
     requires { length bytes.now ≤ 1048577 }
     ensures read { IfOk result (λ h. IsHead bytes.now (map copy_view h.lines.items) h.from h.skipped) }

@@ -26,7 +26,7 @@ pub fn heads_have_one()
     ensures { CopyFileHasOne }
 {}
 
-/// The questions of a file with a head are within the limits: what holds of such questions with copies holds of what a file asks.
+/// The questions of a file with a head are within the limits, so what holds of all such questions with copies holds of these.
 pub fn copied_questions_are_within()
     ensures { CopiedQuestionsAreWithin }
 {}

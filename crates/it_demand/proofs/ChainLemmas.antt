@@ -68,7 +68,7 @@ chained-more space line parts sets past i here next old new c h is was low state
       (u.all (c ∷ more) (subst (λ (ls : List Atom). ArePartsFrom i space line parts (equations space.variables ls) (c ∷ more)) (sym (links-more past sets i here next h is was)) (record { placed = (comes, m.placed); stated = (states, m.stated) })));
 }
 
--- and after the last one
+-- after the last link
 pub chained-end : (space : Space) (line parts : ℕ) (sets : List ℕ) (past i : ℕ) (constraints : List Constraint) → length sets ≤ i + 1 → parts ≡ length sets - 2
     → IsChained space line parts sets past i constraints → AreParts space line (equations space.variables (links sets)) constraints
 chained-end space line parts sets past i constraints h e u =

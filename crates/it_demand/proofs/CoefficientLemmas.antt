@@ -73,7 +73,7 @@ added-trans xs ys zs m n f g a b = record {
   sum = λ p. omega (arith, ints, a.sum p, b.sum p);
 }
 
--- the same form by another name
+-- a form with the same values, and a greater bound
 pub added-same : (xs ys : List ℤ) (m n : ℕ) (f g : Form) → m ≤ n → ((p : ℕ → ℤ) → f p ≡ g p) → IsFormAdded xs ys m f → IsFormAdded xs ys n g
 added-same xs ys m n f g h same a = record {
   complete = a.complete;
@@ -81,7 +81,7 @@ added-same xs ys m n f g h same a = record {
   sum = λ p. a.sum p ∙ ap (λ z. dense_form xs p +ℤ z) (same p);
 }
 
--- taken off
+-- a subtracted value
 pub added_negated : (xs ys : List ℤ) (t : ℤ) (a : ℕ) → IsFormAdded xs ys (unsigned_abs (neg_ℤ t)) (λ p. neg_ℤ t *ℤ p a) → IsFormAdded xs ys (unsigned_abs t) (λ p. neg_ℤ t *ℤ p a)
 added_negated xs ys t a f = added-same xs ys (unsigned_abs (neg_ℤ t)) (unsigned_abs t) (λ p. neg_ℤ t *ℤ p a) (λ p. neg_ℤ t *ℤ p a) (omega (arith, ints)) (λ p. refl) f
 

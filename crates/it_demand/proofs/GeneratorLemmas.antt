@@ -18,22 +18,22 @@ use Rattle.it_demand.proofs.ZipLemmas.{AreMatched, matched-more, matched-end, zi
 
 -- ---- loops over lines
 
--- what `given` lines from place i on demand
+-- the demands of the `given` lines from place i on
 abbrev pub givens_wanted : ℕ → ℕ → List Given → List Demand
 givens_wanted n i givens = flat_map (demands n) (map given_view givens)
 
--- and its origins, the first line of all having a number
+-- their origins, where the first line of all has the number `first`
 abbrev pub given_origins_wanted : ℕ → ℕ → ℕ → List Given → List Origin
 given_origins_wanted n first i givens = given_origins n (first + i) (map given_view givens)
 
--- and of `row` lines
+-- the demands of the `row` lines from place i on
 abbrev pub rows_wanted : ℕ → ℕ → List Relation → List Demand
 rows_wanted n i rows = map (demand_of n) (map relation_view rows)
 
 abbrev pub row_origins_wanted : ℕ → ℕ → List Relation → List Origin
 row_origins_wanted first i rows = row_origins (first + i) (map relation_view rows)
 
--- the forms of relations, which have no places
+-- the forms of the relations from place i on, which have no origins
 abbrev pub forms_wanted : ℕ → ℕ → List Relation → List Form
 forms_wanted n i relations = system_forms n (map relation_view relations)
 
@@ -51,7 +51,7 @@ stated-more s places wanted xs i x own_places own_demands old new own below is p
   stated = matched-more (States s) wanted xs i x own_demands old new own below is stated a.stated e u.stated;
 }
 
--- and after the last one
+-- after the last line
 pub stated-end : {X : Type 0} (s : Space) (places : ℕ → List X → List Origin) (wanted : ℕ → List X → List Demand) (xs : List X) (i : ℕ) (found : List Constraint) → length xs ≤ i → places i [] ≡ [] → wanted i [] ≡ []
     → AreStatedSoFar s places wanted xs i found → AreStated s (places 0 xs) (wanted 0 xs) found
 stated-end s places wanted xs i found h none nothing u = record {

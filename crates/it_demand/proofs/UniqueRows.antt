@@ -1,4 +1,4 @@
--- Rows and constraints are told by what they state.
+-- Rows and constraints are determined by what they state.
 use Rattle.std.proofs.Common.{◌≡◌, ℕ, zero, suc, ◌≤◌, ℤ, pos, [], ◌∷◌, List, refl, sym, ap, ap₂, ◌∙◌, arith}
 use Rattle.std.specs.List.{AllZip, zip, AllByRecursion as Every}
 use Rattle.it_space.specs.declared.problems.Kind.{Kind}
@@ -34,7 +34,7 @@ told_by_values size r t up up_also canonical also_canonical values = rows_by_coe
 pub one_row : OneRow
 one_row s form r t a b = told_by_values (size_of s) r t a.coordinates b.coordinates a.canonical b.canonical (λ p z. a.same p z ∙ sym (b.same p z))
 
--- lists of which each item is told
+-- lists are determined if each item is
 pub zip-told : {A B : Type 0} (R : A → B → Type 0) → ((x : A) (y z : B) → R x y → R x z → y ≡ z) → (xs : List A) (ys zs : List B) → AllZip R xs ys → AllZip R xs zs → ys ≡ zs
 zip-told R f [] [] [] a b = refl
 zip-told R f [] [] (z ∷ zs) a b = absurd b
@@ -46,7 +46,7 @@ zip-told R f (x ∷ xs) (y ∷ ys) (z ∷ zs) a b = ap₂ (λ c cs. c ∷ cs) (f
 pub one_row_list : OneRowList
 one_row_list s forms rs ts a b = zip-told (IsRowOf s) (one_row s) forms rs ts a b
 
--- a constraint is told by its row, its kind and its origin
+-- a constraint is determined by its row, its kind and its origin
 abbrev constraint : Terms → Kind → Origin → Constraint
 constraint row kind origin = record { row = row; kind = kind; origin = origin }
 

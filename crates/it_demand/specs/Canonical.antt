@@ -23,6 +23,6 @@ signed_difference AtLeast x = x
 signed_difference AtMost x = neg_ℤ x
 signed_difference Equal x = x
 
--- what a relation says to be at least 0, or to be 0: the left side less the right one, turned for `<=`
+-- the form that a relation says to be at least 0, or to be 0: the left side less the right one, negated for `<=`
 abbrev pub form_of : ℕ → RelationView → Form
 form_of n r p = signed_difference r.sign (difference_at n p r)

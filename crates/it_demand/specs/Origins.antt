@@ -11,30 +11,30 @@ use Rattle.it_syntax.specs.Givens.{GivenView}
 use Rattle.it_demand.specs.Canonical.{IsRowOf}
 use Rattle.it_demand.specs.Demands.{Demand, demands}
 
--- the origins of `count` parts, from number `part` on, of a `given` line that has so many parts
+-- the origins of `count` parts, from number `part` on, of `given` line number `line`, which has `parts` parts
 abbrev pub part_origins : ℕ → ℕ → ℕ → ℕ → List Origin
 part_origins line parts part count = map (λ k. origins.Given line k parts) (span part count)
 
--- of a whole line that demands so much, counted from 1
+-- the origins of all demands `ds` of `given` line number `line`, numbered from 1 on
 abbrev pub line_parts : ℕ → List Demand → List Origin
 line_parts line ds = part_origins line (length ds) 1 (length ds)
 
--- of what `given` lines demand, from line number `line` on
+-- the origins of the demands of `given` lines, which are numbered from `line` on
 abbrev pub given_origins : ℕ → ℕ → List GivenView → List Origin
 given_origins n line [] = []
 given_origins n line (c ∷ cs) = line_parts line (demands n c) ++ given_origins n (line + 1) cs
 
--- of what `row` lines demand, from line number `line` on
+-- the origins of the demands of `row` lines, which are numbered from `line` on
 abbrev pub row_origins : ℕ → List RelationView → List Origin
 row_origins line [] = []
 row_origins line (r ∷ rs) = origins.Rate line ∷ row_origins (line + 1) rs
 
--- the constraint states a demand
+-- the constraint states the demand d
 pub record States (s : Space) (d : Demand) (c : Constraint) : Type 0 where
   pub row : IsRowOf s d.form c.row
   pub kind : c.kind ≡ d.kind
 
--- it comes from there
+-- the constraint has the origin `place`
 abbrev pub ComesFrom : Origin → Constraint → Type 0
 ComesFrom place c = c.origin ≡ place
 

@@ -16,10 +16,10 @@ system_forms n rows = flat_map (targets n) rows
 abbrev pub AreRowsOf : Space → List Form → List Terms → Type 0
 AreRowsOf s forms rows = AllZip (IsRowOf s) forms rows
 
--- the rows are at least 0 at the map
+-- each of the rows is at least 0 at p
 abbrev pub AreAtLeastZero : (ℕ → ℤ) → List Terms → Type 0
 AreAtLeastZero p rows = All (λ row. pos 0 ≤ℤ value row p) rows
 
--- it is so at each map that is 0 at the empty set
+-- P holds at each map that is 0 at the empty set
 abbrev pub AtMaps : ((ℕ → ℤ) → Type 0) → Type 0
 AtMaps P = (p : ℕ → ℤ) → p 0 ≡ pos 0 → P p

@@ -7,11 +7,11 @@ use Rattle.it_syntax.specs.Meaning.{RelationView}
 use Rattle.it_demand.specs.Canonical.{form_of}
 use Rattle.it_demand.specs.Demands.{kind_of}
 
--- the form with its sign turned
+-- the negated form
 abbrev pub negation : Form → Form
 negation form p = neg_ℤ (form p)
 
--- the forms that a demand says to be at least 0: its own, and after it the negation of an equation's
+-- the forms that a demand says to be at least 0: its own, and for an equation also the negated one, after it
 abbrev pub inequalities_of : Kind → Form → List Form
 inequalities_of Inequality form = form ∷ []
 inequalities_of Equation form = form ∷ negation form ∷ []

@@ -39,7 +39,7 @@ impl Coefficients {
         Ok(Coefficients { sums })
     }
 
-    /// Adds a coordinate so many times.
+    /// Adds `times` times the value at `coordinate`.
     pub fn add(&mut self, coordinate: usize, times: i128)
         requires within { coordinate < length self.old }
         requires room { largest self.old + unsigned_abs times < 2 ^ 127 }
@@ -51,7 +51,7 @@ impl Coefficients {
         };
     }
 
-    /// Adds the entropy of a set so many times.
+    /// Adds `times` times the entropy of `set`.
     fn add_set(&mut self, set: VarSet, times: i128)
         requires within { set < length self.old }
         requires room { largest self.old + unsigned_abs times < 2 ^ 127 }
@@ -60,7 +60,7 @@ impl Coefficients {
         self.add(set.number() as usize, times);
     }
 
-    /// Takes the entropy of a set off so many times.
+    /// Subtracts `times` times the entropy of `set`.
     fn take_set(&mut self, set: VarSet, times: i128)
         requires within { set < length self.old }
         requires room { largest self.old + unsigned_abs times < 2 ^ 127 }
@@ -69,7 +69,7 @@ impl Coefficients {
         self.add_set(set, -times);
     }
 
-    /// Adds an entropy, a mutual information or a rate, so many times.
+    /// Adds `times` times an entropy, a mutual information or a rate.
     pub fn add_atom(&mut self, space: Space, atom: Atom, times: i128)
         requires space { IsSpace space }
         requires atom { IsAtomOf space.variables space.rates atom }
@@ -85,7 +85,7 @@ impl Coefficients {
         }
     }
 
-    /// Adds H(A|B) so many times.
+    /// Adds `times` times H(`of`|`given`).
     fn add_entropy(&mut self, of: VarSet, given: VarSet, times: i128)
         requires of { bit_or of given < length self.old }
         requires given { given < length self.old }
@@ -96,7 +96,7 @@ impl Coefficients {
         self.take_set(given, times);
     }
 
-    /// Adds I(A;B|C) so many times.
+    /// Adds `times` times I(`left`;`right`|`given`).
     fn add_mutual(&mut self, left: VarSet, right: VarSet, given: VarSet, times: i128)
         requires left { bit_or left given < length self.old }
         requires right { bit_or right given < length self.old }
@@ -111,7 +111,7 @@ impl Coefficients {
         self.take_set(given, times);
     }
 
-    /// Adds a side of a relation times a multiple of its denominators, or takes it off.
+    /// Adds `multiple` times the sum of `terms`, or subtracts it if `negative`; `multiple` is a multiple of their denominators.
     pub fn add_side(&mut self, space: Space, terms: &[Term], multiple: u64, negative: bool)
         requires space { IsSpace space }
         requires atoms { All (λ t. IsAtomOf space.variables space.rates t.atom) terms.now }
@@ -126,7 +126,7 @@ impl Coefficients {
         }
     }
 
-    /// The row that has these coefficients.
+    /// The row with these coefficients. The one of the empty set is left out.
     pub fn into_row(self, alloc: Global) -> Result<Row, AllocError>
         requires complete { length self ≤ 1040 }
         requires small { largest self < 2 ^ 127 }
@@ -139,7 +139,7 @@ impl Coefficients {
     }
 }
 
-/// A number so many times.
+/// `number` times `parts`.
 fn whole_times(number: u64, parts: u64) -> u128
     requires small { parts ≤ 2 ^ 32 }
     ensures value { result ≡ number * parts }
@@ -148,7 +148,7 @@ fn whole_times(number: u64, parts: u64) -> u128
     number as u128 * parts as u128
 }
 
-/// How often a term counts its atom, with its sign, on a side that is added so many times, or taken off.
+/// The coefficient of the term's atom in `multiple` times the term, negated if `negative`.
 fn multiplicity(term: Term, multiple: u64, negative: bool) -> i128
     requires some { 1 ≤ term.denominator }
     requires small { multiple ≤ 2 ^ 32 }

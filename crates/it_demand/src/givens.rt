@@ -15,7 +15,7 @@ use it_space::{Constraint, Kind, Origin, Row, Space, VarSet};
 use it_syntax::types::{Atom, Given, Sign};
 use std::alloc::{AllocError, Global};
 
-/// The constraints that state a given, which is on the `given` line of this number: one for each link of a chain from
+/// The constraints that state a given, which stands on `given` line number `line`: one for each link of a chain from
 /// its second member on, and one for any other given.
 pub fn canon_given(
     alloc: Global,
@@ -64,7 +64,7 @@ fn constraints_of(
     }
 }
 
-/// Whether a relation of this sign is an equation.
+/// The kind of a relation of this sign: an equation for `=`, else an inequality.
 pub(crate) fn kind_of(sign: Sign) -> Kind
     ensures { result ≡ kind_of sign }
 {
@@ -137,7 +137,7 @@ fn chain(
     Ok(equations)
 }
 
-/// The sum of the entropies of the members less their joint entropy, each given a set.
+/// The row of the sum of the entropies of the members less their joint entropy, all given `given`.
 fn independence(
     alloc: Global,
     members: &[VarSet],
@@ -159,7 +159,7 @@ fn independence(
     sums.into_row(alloc)
 }
 
-/// Adds the entropy of each member given a set.
+/// Adds the entropy of each member, given `given`.
 fn add_members(sums: &mut Coefficients, space: Space, members: &[VarSet], given: VarSet)
     requires space { IsSpace space }
     requires within { AreSetsOf space.variables 2 16 members.now }

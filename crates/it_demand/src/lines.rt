@@ -12,7 +12,7 @@ use it_space::{Constraint, Origin, Space};
 use it_syntax::types::{Given, Relation};
 use std::alloc::{AllocError, Global};
 
-/// The constraints of `given` lines, the first of which has this number.
+/// The constraints of `given` lines, which are numbered from `first` on.
 pub fn given_constraints(
     alloc: Global,
     givens: &[Given],
@@ -32,7 +32,7 @@ pub fn given_constraints(
     Ok(constraints)
 }
 
-/// The constraints of `row` lines, the first of which has this number.
+/// The constraints of `row` lines, which are numbered from `first` on.
 pub fn row_constraints(
     alloc: Global,
     rows: &[Relation],

@@ -12,8 +12,8 @@ use it_syntax::common_denominator;
 use it_syntax::types::{Relation, Sign};
 use std::alloc::{AllocError, Global};
 
-/// The row of a relation: of its left side less its right one, and the other way round for `<=`, times the least common
-/// multiple of its denominators. So an inequality says that its row is at least 0, and an equation that its row is 0.
+/// The row of a relation: of its left side less its right one, or of the right side less the left one for `<=`, times the least
+/// common multiple of its denominators. An inequality says that its row is at least 0, an equation that its row is 0.
 pub fn canon(alloc: Global, relation: &Relation, space: Space) -> Result<Row, AllocError>
     requires space { IsSpace space }
     requires within { IsRelationOf space.variables space.rates (relation_view relation.now) }
@@ -23,7 +23,7 @@ pub fn canon(alloc: Global, relation: &Relation, space: Space) -> Result<Row, Al
     difference(alloc, relation, turned, space)
 }
 
-/// The row of the left side less the right one, or the other way round, times the least common multiple of the denominators.
+/// The row of the left side less the right one, negated if `turned`, times the least common multiple of the denominators.
 pub fn difference(
     alloc: Global,
     relation: &Relation,

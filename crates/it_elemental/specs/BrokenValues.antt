@@ -1,4 +1,4 @@
--- No public clause cites this module: what one elemental inequality says to be at least 0.
+-- No public clause cites this module: the value of one elemental inequality.
 use Rattle.std.specs.Prelude.{ℕ, ℤ, Result, OkIff}
 use Rattle.it_fraction.specs.declared.fraction.Wide.{Wide}
 use Rattle.it_space.specs.Rows.{ValueFits}

@@ -1,4 +1,4 @@
--- The generators of a problem: the elemental inequalities, then the constraints, numbered from 0. What a row says is to be at least 0, or to be 0.
+-- The generators of a problem: the elemental inequalities, then the constraints, numbered from 0.
 use Rattle.std.specs.Prelude.{ℕ, List, [], ◌++◌, length, map, slice_index_or, Bool, true, false}
 use Rattle.it_space.specs.declared.problems.Kind.{Kind}
 use Rattle.it_space.specs.declared.problems.Kind.TheVariants.{Inequality, Equation}
@@ -9,7 +9,7 @@ use Rattle.it_polymatroid.specs.Certificates.{Generators}
 use Rattle.it_polymatroid.specs.Elementals.{Elemental, elementals}
 use Rattle.it_elemental.specs.Rows.{elemental_row}
 
--- a row that is to be at least 0, or to be 0
+-- a row that must be at least 0, or must be 0, by its kind
 pub record Generator : Type 0 where
   pub kind : Kind
   pub row : Terms
@@ -30,16 +30,16 @@ generator_list n cs = map (of_elemental n) (elementals n) ++ map of_constraint c
 abbrev pub generators : ProblemView → List Generator
 generators q = generator_list q.space.variables q.constraints
 
--- the generator of a number
+-- generator i of a list
 abbrev pub generator_at : List Generator → ℕ → Generator
 generator_at gs i = slice_index_or gs i (record { kind = Inequality; row = [] })
 
--- whether a row of this kind is to be 0
+-- whether a row of this kind must be 0
 abbrev pub is_equation : Kind → Bool
 is_equation Inequality = false
 is_equation Equation = true
 
--- generators as what certificates are built from
+-- generators as the forms that certificates weigh
 abbrev pub forms_of : List Generator → Generators
 forms_of gs = record {
   count = length gs;
@@ -47,6 +47,6 @@ forms_of gs = record {
   is_equation = λ i. is_equation (generator_at gs i).kind;
 }
 
--- the generators of a problem as what its certificates are built from
+-- the generators of a problem as the forms that its certificates weigh
 abbrev pub generators_of : ProblemView → Generators
 generators_of q = forms_of (generators q)

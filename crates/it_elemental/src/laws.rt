@@ -1,4 +1,4 @@
-//! Theorems on the list, each as the contract of a function.
+//! Theorems about the list, each as the contract of a function.
 ghost use Rattle.it_elemental.specs.Indexes.{IndexesAreTold, InequalitiesAreListedOnce};
 
 /// The formula gives the one number that an elemental inequality has in the list.
@@ -6,7 +6,7 @@ pub fn indexes_are_told()
     ensures { IndexesAreTold }
 {}
 
-/// No elemental inequality stands in the list twice.
+/// No elemental inequality is in the list twice.
 pub fn inequalities_are_listed_once()
     ensures { InequalitiesAreListedOnce }
 {}

@@ -12,8 +12,8 @@ use crate::sets::{all_but, all_variables, with_variable};
 use it_fraction::{Wide, difference, sum};
 use it_space::{Point, VarSet};
 
-/// What an inequality says to be at least 0, at a point whose first values are those of the nonempty sets: summed in order
-/// of the sets, and wide exactly where a partial sum is.
+/// The value of inequality `index` at `point`, whose first values are those of the nonempty sets: summed in order of the sets, and
+/// `Wide` exactly if a partial sum is.
 pub fn value_at(n: u8, index: u32, point: &Point) -> Result<i128, Wide>
     requires some { 1 ≤ n }
     requires few { n ≤ 10 }
@@ -29,7 +29,7 @@ pub fn value_at(n: u8, index: u32, point: &Point) -> Result<i128, Wide>
     }
 }
 
-/// The value at a set, 0 at the empty set.
+/// The value of `point` at `set`, 0 at the empty set.
 fn at_set(point: &Point, set: VarSet) -> i128
     requires { set ≤ length point.now }
     ensures value { result ≡ point_of point.now set }
@@ -43,7 +43,7 @@ fn at_set(point: &Point, set: VarSet) -> i128
     }
 }
 
-/// - a + b + c - d, from left to right.
+/// - a + b + c - d, from left to right; `Wide` if a partial sum passes the limit.
 pub fn alternating_sum(a: i128, b: i128, c: i128, d: i128) -> Result<i128, Wide>
     ensures { OkIff result (AlternatingFits a b c d) (((b -ℤ a) +ℤ c) -ℤ d) }
 {
@@ -51,7 +51,7 @@ pub fn alternating_sum(a: i128, b: i128, c: i128, d: i128) -> Result<i128, Wide>
     difference(three, d)
 }
 
-/// The entropy of a variable given all others.
+/// The entropy of variable `of` given all others.
 fn conditional_entropy(point: &Point, n: u8, of: u8) -> Result<i128, Wide>
     requires few { n ≤ 10 }
     requires shape { of < n }
@@ -64,7 +64,7 @@ fn conditional_entropy(point: &Point, n: u8, of: u8) -> Result<i128, Wide>
     )
 }
 
-/// The mutual information of two variables given a set.
+/// The mutual information of variables `left` and `right` given `given`.
 fn mutual_information(
     point: &Point,
     n: u8,

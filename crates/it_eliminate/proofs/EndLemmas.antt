@@ -4,7 +4,7 @@ use Rattle.std.proofs.lemmas.List.{drop_more, drop_all}
 use Rattle.it_space.specs.Rows.{Terms}
 use Rattle.it_eliminate.specs.Elimination.{EliminatedView, Region, Rows, Wide, next_list, PairsFit, EliminationEnds}
 
--- what the rates still to come end with is what all end with
+-- the end of the remaining rates is that of all
 abbrev pub LeadsTo : ℕ → ℕ → List Terms → List Terms → List ℕ → ℕ → Type 0
 LeadsTo base most start now rates i = (end : EliminatedView) → EliminationEnds base most now (drop i rates) end → EliminationEnds base most start rates end
 

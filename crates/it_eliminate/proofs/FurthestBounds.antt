@@ -52,7 +52,7 @@ furthest_bound (r ∷ rs) = by_lt_z (pos 0) r.0 (λ up. with_positive_row up (fu
         row_bounds_other : (r.1 *ℤ b.0 -ℤ b.1 *ℤ r.0) <ℤ pos 0 → Bounds r b
         row_bounds_other h = omega (arith, zring)
 
--- the same from above: turn the sign of each coefficient
+-- the same from above: negate each coefficient
 abbrev negated_row : ℤ × ℤ → ℤ × ℤ
 negated_row t = (neg_ℤ t.0, t.1)
 

@@ -1,4 +1,4 @@
--- The keys of an index set of rows: what inserting a row makes of them.
+-- The keys of an index set of rows after a row is inserted.
 use Rattle.std.proofs.Common.{◌≡◌, ◌≢◌, ℕ, ℤ, refl, sym, ap, ap₂, ◌∙◌, List, [], ◌∷◌, ◌++◌, Bool, true, false, ◌&&◌, ◌||◌, nat_eq, Vec, Global, if◌then◌else◌}
 use Rattle.std.specs.List.{list_any}
 use Rattle.std.specs.Ordering.{int_eq}
@@ -21,7 +21,7 @@ any_by : (eq : ℕ × ℤ → ℕ × ℤ → Bool) → ComparesTerms eq → (row
 any_by eq h row [] = refl
 any_by eq h row (v ∷ vs) = ap₂ (λ a b. a || b) (same_by eq h row v.items) (any_by eq h row vs)
 
--- what inserting a row that isn't zero makes of the keys
+-- the keys after a row that isn't zero is inserted
 pub keys_with_row : (eq : ℕ × ℤ → ℕ × ℤ → Bool) → ComparesTerms eq → (old new : List (Vec (ℕ × ℤ) Global)) (v : Vec (ℕ × ℤ) Global) → v.items ≢ []
     → new ≡ (if list_any (λ w. pointwise eq v.items w.items) old then old else old ++ v ∷ []) → rows_of new ≡ with_row (rows_of old) v.items
 keys_with_row eq h old new v n e = ap rows_of e ∙ ap (λ b. rows_of (if b then old else old ++ v ∷ [])) (any_by eq h v.items old) ∙ by_list v.items n refl

@@ -1,4 +1,4 @@
--- Elimination ends in one way, and a region that it ends with is the projection.
+-- Elimination has one end, and a region that it ends with is the projection.
 use Rattle.std.proofs.Common.{◌≡◌, inl, inr, ◌↔◌, ℕ, ◌+◌, ◌^◌, sym, ap, subst, ◌∙◌, arith, List, [], ◌∷◌, map, All}
 use Rattle.it_space.specs.declared.problems.System.{System}
 use Rattle.it_space.specs.declared.spaces.Space.{Space}

@@ -6,7 +6,7 @@ use Rattle.std.proofs.lemmas.Bool.{false≢true}
 use Rattle.std.proofs.lemmas.List.Elements.{All-contains, Contains-get_or}
 use Rattle.it_space.proofs.EveryLemmas.{every_of, all_of, every_front, every_back}
 
--- x stands in a list, by recursion
+-- x is in a list, by recursion
 abbrev pub Member : {X : Type 0} → X → List X → Type 0
 Member x [] = ⊥
 Member x (y ∷ ys) = (x ≡ y) ⊎ Member x ys

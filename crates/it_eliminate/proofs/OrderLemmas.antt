@@ -1,4 +1,4 @@
--- A list put in order says the same of every point.
+-- A list put in order holds at the same points.
 use Rattle.std.proofs.Common.{◌≡◌, ◌⊎◌, inl, inr, ◌↔◌, ℕ, zero, suc, ℤ, pos, negsuc, ◌*ℤ◌, ◌≤ℤ◌, unsigned_abs, refl, sym, ap, ap₂, ◌∙◌, arith, List, [], ◌∷◌, ◌++◌, Bool, true, false, ◌&&◌, ◌||◌, nat_eq, if◌then◌else◌}
 use Rattle.std.specs.List.{list_any, AllByRecursion as Every}
 use Rattle.std.specs.Ordering.{int_eq}
@@ -45,7 +45,7 @@ lowest_signs ts p = for_each (content 0 ts) (content_divides 0 ts).1
         record { positive = (λ _. omega (arith, ints, e), λ _. omega (arith, ints, f)); negative = (λ _. omega (arith, ints, e), λ _. omega (arith, ints, f)) }
     for_each (suc k) d = one_sign (suc k) (value ts p) (value (divided_terms (suc k) ts) p) (omega arith) (divided_value (suc k) ts p d)
 
--- ---- rows without doubles
+-- ---- rows without duplicates
 
 pub every-with_row : (P : Terms → Type 0) (rows : List Terms) (row : Terms) → P row → Every P rows → Every P (with_row rows row)
 every-with_row P rows [] h a = a

@@ -99,7 +99,7 @@ member_number c (a ∷ ats) = by_test (nat_eq c a) refl (member_number c ats)
 split_extension : (at : ℕ) (ats : List ℕ) (rows : List Terms) (p : ℕ → ℤ) → Extends (at ∷ ats) rows p → Parts at ats rows p
 split_extension at ats rows p x = by_cases (member_number at ats)
   where
-    -- the rate is eliminated later once more: the point itself serves
+    -- the rate is eliminated again later: the point itself serves
     by_cases : Member at ats ⊎ ¬ (Member at ats) → Parts at ats rows p
     by_cases (inl m) = record {
       factor = x.factor;

@@ -1,4 +1,4 @@
--- What a step leaves that ends with a region.
+-- The result of a step that ends with a region.
 use Rattle.std.proofs.Common.{◌≡◌, inl, inr, ℕ, ◌+◌, ◌≤◌, List, [], ◌∷◌, length, sym, subst, All}
 use Rattle.it_space.specs.Rows.{Terms, IsOver}
 use Rattle.it_eliminate.specs.Elimination.{EliminationEnds, Region, Rows, Wide, ordered_rows, next_list}

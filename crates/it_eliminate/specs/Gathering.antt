@@ -1,4 +1,4 @@
--- No public clause cites this module: the list after one rate gathered row by row, and what one rate ends with.
+-- No public clause cites this module: the list after one rate gathered row by row, and the result of the elimination of one rate.
 use Rattle.std.specs.Prelude.{◌≡◌, ◌⊎◌, ℕ, ℤ, pos, ◌<◌, ◌≤◌, ◌<ℤ◌, List, [], ◌∷◌, length, map, if◌then◌else◌}
 use Rattle.std.specs.Global.{Vec}
 use Rattle.std.specs.List.{flat_map, AllByRecursion as Every}
@@ -8,19 +8,19 @@ use Rattle.it_eliminate.specs.declared.types.RateEnd.{RateEnd}
 use Rattle.it_eliminate.specs.declared.types.RateEnd.TheVariants as ends
 use Rattle.it_eliminate.specs.Elimination.{with_lowest_rows, is_positive_at, is_negative_at, is_zero_at, next_list, PairsFit}
 
--- the terms of each of some vectors, in order
+-- the items of each of some vectors of terms, in order
 abbrev pub rows_of : List (Vec (ℕ × ℤ)) → List Terms
 rows_of vs = map (λ v. v.items) vs
 
--- a row that lacks the coordinate
+-- a row if it lacks the coordinate, else none
 abbrev pub flat_of : ℕ → Terms → List Terms
 flat_of at row = if is_zero_at at row then row ∷ [] else []
 
--- what cancels of two rows
+-- the row that cancels the coordinate between up and down, if down is negative there
 abbrev pub pair_of : ℕ → Terms → Terms → List Terms
 pair_of at up down = if is_negative_at at down then cancelled_row at up down ∷ [] else []
 
--- what cancels of one row and all
+-- the rows that cancel the coordinate between up, if it is positive there, and each negative row
 abbrev pub up_pairs : ℕ → List Terms → Terms → List Terms
 up_pairs at rows up = if is_positive_at at up then flat_map (pair_of at up) rows else []
 
@@ -32,16 +32,16 @@ DownFits at up down = coefficient down at <ℤ pos 0 → CancelFits at up down
 abbrev pub UpFits : ℕ → List Terms → Terms → Type 0
 UpFits at rows up = pos 0 <ℤ coefficient up at → Every (DownFits at up) rows
 
--- the rows are the exact list, or both are more than `most`
+-- kept is the exact list, or both have more than `most` rows
 pub record IsKeptList (most : ℕ) (exact kept : List Terms) : Type 0 where
   pub is : (kept ≡ exact) ⊎ ((most < length kept) × (most < length exact))
   pub canonical : Every IsCanonical kept
 
--- rows were put in order after what is kept
+-- if old is the kept list of an exact one, new is the kept list of that with the rows more appended in order
 pub record Gathers (most : ℕ) (more old new : List Terms) : Type 0 where
   pub keeps : (exact : List Terms) → IsKeptList most exact old → IsKeptList most (with_lowest_rows exact more) new
 
--- the list after the rate at a coordinate, or what keeps from it
+-- the end of the elimination of the rate at a coordinate: the list after it, or that there are too many rows or a pair is wide
 abbrev pub IsRateEnd : ℕ → ℕ → List Terms → RateEnd → Type 0
 IsRateEnd at most rows (ends.List next) = PairsFit at rows × (length (next_list at rows) ≤ most) × (next.items ≡ next_list at rows)
 IsRateEnd at most rows ends.Rows = PairsFit at rows × (most < length (next_list at rows))

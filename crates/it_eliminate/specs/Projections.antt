@@ -14,7 +14,7 @@ IsPointOf rows p = All (λ row. pos 0 ≤ℤ value row p) rows
 abbrev pub LacksCoordinate : ℕ → List Terms → Type 0
 LacksCoordinate at rows = All (λ row. coefficient row at ≡ pos 0) rows
 
--- some whole multiple of the point, with other values at the eliminated coordinates, is one at which every row is at least 0
+-- some whole multiple of p, with other values at the eliminated coordinates, is a point at which every row is at least 0
 pub record Extends (gone : List ℕ) (rows : List Terms) (p : ℕ → ℤ) : Type 0 where
   pub factor : ℕ
   pub some : 1 ≤ factor
@@ -22,14 +22,14 @@ pub record Extends (gone : List ℕ) (rows : List Terms) (p : ℕ → ℤ) : Typ
   pub kept : (c : ℕ) → ¬ (Contains gone c) → point c ≡ pos factor *ℤ p c
   pub meets : IsPointOf rows point
 
--- a system of the same space, without the rates, that holds exactly the points that extend to them
+-- new is a system of the same space, without the rates, whose points are exactly those that extend to the rates in old
 pub record IsProjection (old : System) (rates : List ℕ) (new : System) : Type 0 where
   pub space : new.space ≡ old.space
   pub system : IsSystem new
   pub free : (r : ℕ) → Contains rates r → LacksCoordinate (2 ^ old.space.variables + r) new.rows.items
   pub exact : (p : ℕ → ℤ) → IsPointOf new.rows.items p ↔ Extends (map (λ r. 2 ^ old.space.variables + r) rates) old.rows.items p
 
--- where elimination ends with a region, that is the projection
+-- if elimination ends with a region, that is the projection
 abbrev pub RegionIsProjection : System → List ℕ → Eliminated → Type 0
 RegionIsProjection system rates (elimination_ends.Region region) = IsProjection system rates region
 RegionIsProjection system rates (elimination_ends.Rows rate) = Unit {0}

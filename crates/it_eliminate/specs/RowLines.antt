@@ -1,4 +1,4 @@
--- Rows as constraints: each as that of a `row` line, after some givens.
+-- Rows as constraints of `row` lines, appended to a problem.
 use Rattle.std.specs.Prelude.{ℕ, ◌+◌, List, [], ◌∷◌, ◌++◌}
 use Rattle.it_space.specs.declared.problems.Constraint.{Constraint}
 use Rattle.it_space.specs.declared.problems.Kind.TheVariants.{Inequality}
@@ -11,6 +11,6 @@ abbrev pub row_constraints : ℕ → List Terms → List Constraint
 row_constraints line [] = []
 row_constraints line (row ∷ rows) = record { row = row; kind = Inequality; origin = Rate line } ∷ row_constraints (line + 1) rows
 
--- the givens, and rows after them
+-- the problem givens with rows appended
 abbrev pub with_rows : ProblemView → List Terms → ProblemView
 with_rows givens rows = record { space = givens.space; constraints = givens.constraints ++ row_constraints 1 rows }

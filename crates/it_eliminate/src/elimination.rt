@@ -12,8 +12,8 @@ use crate::types::{Eliminated, RateEnd};
 use it_space::{Row, RowFault, Space, System};
 use std::alloc::{AllocError, Global};
 
-/// Eliminates rates, counted from 0, in the order of their list: their projection, or the first rate at which two rows can't be
-/// cancelled, or after which there are more than `rows` rows. At one rate `Wide` comes before `Rows`.
+/// Eliminates `rates`, counted from 0, in the order of the list. Returns the projection, or the first rate at which two rows can't be
+/// cancelled within the limit, or after which there are more than `rows` rows. At one rate `Wide` comes before `Rows`.
 pub fn eliminate(
     alloc: Global,
     system: &System,
@@ -45,7 +45,7 @@ pub fn eliminate(
     }))
 }
 
-/// Eliminates one rate.
+/// Eliminates `rate`, with results like those of `eliminate`.
 pub fn step(alloc: Global, system: &System, rate: u8, rows: usize) -> Result<Eliminated, AllocError>
     requires system { IsSystem system.now }
     requires rate { rate < system.now.space.rates }
@@ -55,7 +55,7 @@ pub fn step(alloc: Global, system: &System, rate: u8, rows: usize) -> Result<Eli
     eliminate(alloc, system, [rate].as_slice(), rows)
 }
 
-/// The coordinate of a rate.
+/// The coordinate of `rate`.
 fn coordinate(space: Space, rate: u8) -> u32
     requires { IsSpace space }
     ensures { result ≡ 2 ^ space.variables + rate }
@@ -63,7 +63,7 @@ fn coordinate(space: Space, rate: u8) -> u32
     (1u32 << space.variables) + rate as u32
 }
 
-/// The rows in order after the rate at a coordinate, if they are at most `most`.
+/// The rows after the elimination of the rate at coordinate `at`, in order, if they are at most `most`.
 fn after_rate(alloc: Global, rows: &[Row], at: u32, most: usize) -> Result<RateEnd, AllocError>
     ensures { IfOk result (IsRateEnd at most rows.now) }
 {

@@ -1,4 +1,4 @@
-//! What elimination ends with, as the contract of a function.
+//! Elimination has one end, as the contract of a function.
 ghost use Rattle.it_eliminate.specs.Laws.{OneEnd};
 
 /// Elimination of one list of rates from one system has one end.

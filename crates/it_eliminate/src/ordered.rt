@@ -1,5 +1,5 @@
-//! Rows in order: each in lowest terms, without zero rows and doubles. Once more of them are there than are allowed, no further
-//! one is kept.
+//! Rows in order: each in lowest terms, without zero rows and duplicates. Once there are more than allowed, no further ones are
+//! kept.
 ghost use Rattle.std.specs.Prelude.{◌≡◌, [], ◌∷◌, OnOk, IfOk};
 ghost use Rattle.it_space.specs.Divisors.{lowest_terms};
 ghost use Rattle.it_space.specs.Rows.{IsCanonical};
@@ -11,7 +11,7 @@ use indexmap::IndexSet;
 use it_space::{Row, normal};
 use std::alloc::{AllocError, Global};
 
-/// Puts a row after the others, unless it is zero or one of them.
+/// Appends the row with `terms`, unless it is zero or one of the others.
 fn put(rows: &mut IndexSet<Vec<(u32, i128)>>, terms: Vec<(u32, i128)>) -> Result<(), AllocError>
     ensures { OnOk result (rows_of rows.new.keys ≡ with_row (rows_of rows.old.keys) terms.items) }
 {
@@ -21,17 +21,17 @@ fn put(rows: &mut IndexSet<Vec<(u32, i128)>>, terms: Vec<(u32, i128)>) -> Result
     Ok(())
 }
 
-/// Puts a row in lowest terms after the others, unless it is zero or one of them.
+/// Appends `row` in lowest terms, unless it is zero or one of the others.
 fn put_lowest(rows: &mut IndexSet<Vec<(u32, i128)>>, row: Row) -> Result<(), AllocError>
     ensures rows { OnOk result (rows_of rows.new.keys ≡ with_row (rows_of rows.old.keys) (lowest_terms row)) }
     ensures canonical { OnOk result (Every IsCanonical (rows_of rows.old.keys) → Every IsCanonical (rows_of rows.new.keys)) }
 {
-    // with `?`, so that the contract of the call stands at the answer
+    // with `?`, so that the contract of the call is available at the return
     put(rows, normal(row).into_terms())?;
     Ok(())
 }
 
-/// The same, as long as the others are at most `most`.
+/// Like `put_lowest`, as long as the others are at most `most`; then does nothing.
 pub fn gather(
     rows: &mut IndexSet<Vec<(u32, i128)>>,
     row: Row,
@@ -53,7 +53,7 @@ pub fn row_list(alloc: Global, rows: &IndexSet<Vec<(u32, i128)>>) -> Result<Vec<
     rows_from(alloc, rows.as_slice())
 }
 
-/// The rows of lists of terms, in order.
+/// The rows whose terms are in `lists`, in order.
 fn rows_from(alloc: Global, lists: &[Vec<(u32, i128)>]) -> Result<Vec<Row>, AllocError>
     requires { Every IsCanonical (rows_of lists.now) }
     ensures { IfOk result (λ v. v.items ≡ rows_of lists.now) }
@@ -66,7 +66,7 @@ fn rows_from(alloc: Global, lists: &[Vec<(u32, i128)>]) -> Result<Vec<Row>, Allo
     Ok(rows)
 }
 
-/// The rows in order, in lowest terms, without zero rows and doubles.
+/// `rows` in order, in lowest terms, without zero rows and duplicates.
 pub fn ordered_rows(alloc: Global, rows: &[Row]) -> Result<IndexSet<Vec<(u32, i128)>>, AllocError>
     ensures rows { IfOk result (λ s. rows_of s.keys ≡ ordered_rows rows.now) }
     ensures canonical { IfOk result (λ s. Every IsCanonical (rows_of s.keys)) }

@@ -1,4 +1,5 @@
-//! The list of rows after one rate.
+//! The list of rows after the elimination of one rate. To gather a row is to append it in lowest terms, unless it is zero or there
+//! already, as long as there are at most `most` rows.
 ghost use Rattle.std.specs.Prelude.{◌≡◌, pos, ◌<ℤ◌, OnOk, IfOk, IfErr};
 ghost use Rattle.it_space.specs.Rows.{coefficient};
 ghost use Rattle.it_space.specs.declared.faults.RowFault.TheVariants.{Wide as IsTooWide};
@@ -11,7 +12,7 @@ use indexmap::IndexSet;
 use it_space::{Row, RowFault, cancel};
 use std::alloc::{AllocError, Global};
 
-/// Puts a row into the list if it lacks the coordinate.
+/// Gathers `row` if it lacks coordinate `at`.
 fn gather_flat(
     alloc: Global,
     list: &mut IndexSet<Vec<(u32, i128)>>,
@@ -27,7 +28,7 @@ fn gather_flat(
     Ok(())
 }
 
-/// Gathers the rows without the coordinate, in order.
+/// Gathers the rows without coordinate `at`, in order.
 fn gather_flats(
     alloc: Global,
     list: &mut IndexSet<Vec<(u32, i128)>>,
@@ -43,7 +44,7 @@ fn gather_flats(
     Ok(())
 }
 
-/// Puts what cancels of a row that is positive at the coordinate and another one into the list, if that is negative there.
+/// Gathers the row that cancels coordinate `at` between `up`, which is positive there, and `down`, if that is negative there.
 fn gather_pair(
     alloc: Global,
     list: &mut IndexSet<Vec<(u32, i128)>>,
@@ -64,7 +65,7 @@ fn gather_pair(
     Ok(())
 }
 
-/// Gathers what one positive row gives with each negative one, in order.
+/// Gathers the rows that cancel coordinate `at` between `up`, which is positive there, and each row that is negative there, in order.
 fn gather_pairs(
     alloc: Global,
     list: &mut IndexSet<Vec<(u32, i128)>>,
@@ -84,7 +85,7 @@ fn gather_pairs(
     Ok(())
 }
 
-/// Gathers what a row gives with each negative one, if it is positive.
+/// Like `gather_pairs`, if `up` is positive at coordinate `at`; else gathers nothing.
 fn gather_up(
     alloc: Global,
     list: &mut IndexSet<Vec<(u32, i128)>>,
@@ -103,7 +104,7 @@ fn gather_up(
     Ok(())
 }
 
-/// Gathers what each positive row gives with each negative one, in order.
+/// Gathers the rows that cancel coordinate `at` between each row that is positive there and each that is negative there, in order.
 fn gather_ups(
     alloc: Global,
     list: &mut IndexSet<Vec<(u32, i128)>>,
@@ -121,7 +122,8 @@ fn gather_ups(
     Ok(())
 }
 
-/// The list of rows after the rate at a coordinate, as far as it has at most `most` rows.
+/// The list of rows after the elimination of the rate at coordinate `at`. If there are more than `most` rows, the list has more than
+/// `most` too, but may lack some of them.
 pub fn next_list(
     alloc: Global,
     rows: &[Row],

@@ -1,12 +1,13 @@
-//! Rows as constraints after some givens: each as that of a `row` line.
-ghost use Rattle.std.specs.Prelude.{◌≡◌, [], ◌∷◌, ◌++◌, ◌≤◌, length, OnOk, IfOk};
-ghost use Rattle.it_space.specs.Problems.{problem_view};
+//! Rows as constraints of `row` lines, appended to a problem.
+ghost use Rattle.std.specs.Prelude.{◌≡◌, [], ◌∷◌, ◌++◌, ◌≤◌, length, All, OnOk, IfOk};
+ghost use Rattle.it_space.specs.Rows.{IsOver};
+ghost use Rattle.it_space.specs.Spaces.{size_of};
 ghost use Rattle.it_eliminate.specs.RowLines.{row_constraints, with_rows};
 
 use it_space::{Constraint, Kind, Origin, Problem, Row};
 use std::alloc::{AllocError, Global};
 
-/// The constraint of a `row` line, counted from 1.
+/// `row` as the constraint of the `row` line number `line`, counted from 1.
 pub fn row_constraint(alloc: Global, line: usize, row: &Row) -> Result<Constraint, AllocError>
     requires { line ≤ 65535 }
     ensures { IfOk result (λ c. c ∷ [] ≡ row_constraints line (row.now ∷ [])) }
@@ -18,7 +19,7 @@ pub fn row_constraint(alloc: Global, line: usize, row: &Row) -> Result<Constrain
     })
 }
 
-/// The same constraints once more.
+/// Copies of `constraints`.
 fn copies(alloc: Global, constraints: &[Constraint]) -> Result<Vec<Constraint>, AllocError>
     ensures { IfOk result (λ v. v.items ≡ constraints.now) }
 {
@@ -29,7 +30,7 @@ fn copies(alloc: Global, constraints: &[Constraint]) -> Result<Vec<Constraint>, 
     Ok(copies)
 }
 
-/// Puts rows after the constraints, from line 1 on.
+/// Appends `rows` to `constraints`, as those of `row` lines counted from 1.
 fn push_rows(
     alloc: Global,
     constraints: &mut Vec<Constraint>,
@@ -44,15 +45,18 @@ fn push_rows(
     Ok(())
 }
 
-/// The givens, and rows after them, as `row` lines counted from 1.
+/// The problem `givens`, with `rows` appended as constraints of `row` lines counted from 1.
 pub fn problem_with(alloc: Global, givens: &Problem, rows: &[Row]) -> Result<Problem, AllocError>
-    requires { length rows.now ≤ 65535 }
-    ensures { IfOk result (λ p. problem_view p ≡ with_rows (problem_view givens.now) rows.now) }
+    requires few_givens { length givens.now.constraints ≤ 65535 }
+    requires few_rows { length rows.now ≤ 65535 }
+    requires rows { All (IsOver (size_of givens.now.space)) rows.now }
+    ensures { IfOk result (λ p. p ≡ with_rows givens.now rows.now) }
 {
-    let mut constraints = copies(alloc, givens.constraints.as_slice())?;
+    givens.facts();
+    let mut constraints = copies(alloc, givens.constraints())?;
     push_rows(alloc, &mut constraints, rows)?;
     Ok(Problem {
-        space: givens.space,
+        space: givens.space(),
         constraints,
     })
 }

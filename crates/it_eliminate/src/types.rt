@@ -1,7 +1,7 @@
-//! What elimination ends with.
+//! The results of elimination.
 use it_space::{Row, System};
 
-/// What elimination ends with.
+/// The result of elimination.
 #[derive(Debug, Drop)]
 pub enum Eliminated {
     /// The rows that are left after all rates.
@@ -12,7 +12,7 @@ pub enum Eliminated {
     Wide { rate: u8 },
 }
 
-/// What one rate ends with.
+/// The result of the elimination of one rate.
 #[derive(Debug, Drop)]
 pub enum RateEnd {
     /// The rows after the rate, in order.

@@ -68,7 +68,7 @@ moved_shares norm rows moved share q bound most next f m g h = λ y k.
     (let b = h y (λ j l. k j (omega (arith, l))) in
     let w = mul-le (unsigned_abs (y q)) (share q) (norm * most) (share q) (k q (omega arith) f most m) (omega arith) in omega (arith, b, w, g)))
 
--- the share in a multiple of a multiple is so many times the share in this
+-- the share in a multiple new of multiple is the share in multiple, times new / multiple
 share_grows : (multiple new bottom : ℕ) → bottom ∣ multiple → multiple ∣ new → new / bottom ≡ new / multiple * (multiple / bottom)
 share_grows multiple new bottom d e = sym (ap (λ x. x / bottom) (div-mul_cancel multiple e)) ∙ mul-div_assoc bottom (new / multiple) d
 

@@ -1,4 +1,5 @@
--- A row that stayed behind is brought up to date row by row: of each that moved as much is taken off as makes the entry at its basic column 0.
+-- A row that stayed behind is brought up to date row by row: of each row that moved, the multiple is subtracted that makes the entry at
+-- its basic column 0.
 use Rattle.std.proofs.Common.{◌≡◌, ℕ, zero, suc, ◌+◌, ◌*◌, ◌<◌, ◌≤◌, Bool, true, false, cond, ℤ, pos, ◌*ℤ◌, List, [], ◌∷◌, length, slice_index_or, refl, sym, ap, ap₂, subst, ◌∙◌, arith}
 use Rattle.std.proofs.lemmas.Bool.{ne_eqb}
 use Rattle.std.proofs.lemmas.Int.{ints}
@@ -31,7 +32,7 @@ module _ (p : FeasibilityProblem Rational) (b t : SimplexTable Rational) (column
   abbrev n : ℕ
   n = length columns
 
-  -- what the first q rows take off at column j
+  -- the amount that the first q rows subtract at column j
   abbrev taken_off : ℕ → ℕ → Rational
   taken_off q j = sum_to ring_ℚ q (λ k. cond (moved k) (Q.times (b.entry r (t.basis k)) (t.entry k j)) (Q.integer (pos 0)))
 

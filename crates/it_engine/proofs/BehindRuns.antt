@@ -30,7 +30,7 @@ module _ (columns : List Terms) (limit : ℕ) (rows : List WholeRowView) (basis 
       (R.moved_taken p b t columns limit whole basis (has_moved moved) s r l e q now new k g (h whole r a l e f p b t s)
       (subst (λ (own : WholeRowView). IsWholeRowReduced (length basis + 1) limit now own (value (slice_index_or columns (slice_index_or basis q 0) []) (number_at now.numbers)) (pos own.bottom) new) (sym (a q g)) m))
 
-  -- a row that didn't move takes nothing off
+  -- a row that didn't move subtracts nothing
   pub still_off : (old now : WholeRowView) (q : ℕ) → has_moved moved q ≡ false → IsTakenOff columns limit rows basis moved old q now → IsTakenOff columns limit rows basis moved old (q + 1) now
   still_off old now q f u whole r a l e w p b t s =
       let j : suc q ≡ q + 1 = omega arith in

@@ -36,7 +36,7 @@ module _ (p : FeasibilityProblem Rational) (b t : SimplexTable Rational) (column
   abbrev n : ℕ
   n = length columns
 
-  -- what is said of the row and the column is said of the step's
+  -- the claims about the row and the column hold for those of the step
   to_step : (P : ℕ → ℕ → Type 0) → P r c → P (leaving_row rationals m n t (entering_column rationals m n t)) (entering_column rationals m n t)
   to_step P x = subst (λ (y : ℕ). P (leaving_row rationals m n t y) y) (sym column_is) (subst (λ (x : ℕ). P x c) (sym row_is) x)
 

@@ -1,4 +1,4 @@
--- A table of which the engine has some rows as they were in an earlier table: what its numbers say of it.
+-- A table of which the engine has some rows as they were in an earlier table, by its numbers.
 use Rattle.std.proofs.Common.{◌≡◌, ◌⊎◌, inl, inr, ℕ, ◌+◌, ◌*◌, ◌-◌, ◌<◌, ◌≤◌, ◌^◌, Bool, true, false, cond, not, ℤ, pos, ◌+ℤ◌, ◌*ℤ◌, neg_ℤ, unsigned_abs, List, [], length, slice_index_or, refl, sym, ap, subst, ◌∙◌, arith, mul-pos}
 use Rattle.std.proofs.lemmas.Bool.{true≢false, cases_eq, cases_lt, lt-ltb, le-ltb, not-true}
 use Rattle.std.proofs.lemmas.Int.{ints, unsigned_abs-mul}

@@ -32,7 +32,7 @@ divided_row width limit old new (pos p) h k e d = λ g w r ew.
     (subst (λ (b : ℕ). IsRow width limit (λ k. Q.times (g k) (Q.inverse w)) old.numbers b) (sym d)
     (row_divided width limit g old.numbers old.bottom w p r ew (omega (arith, ints, h)) k))
 
--- as much of the leaving row as makes an entry 0 may be taken from that row when it is divided by its entry, where it has 1
+-- the multiple of the leaving row that makes an entry 0 may also be formed with that row divided by its entry, where it has 1
 pub less_divided : (width limit : ℕ) (old own mid new : WholeRowView) (z p : ℤ) → IsWholeRowDivided width limit own p mid → IsWholeRowReduced width limit old mid z (pos mid.bottom) new → IsWholeRowReduced width limit old own z p new
 less_divided width limit old own mid new z p d l = λ f g x w rf rg ex ew.
     same_row (λ k. Q.plus (f k) (Q.minus (Q.times (Q.times (g k) (Q.inverse w)) (Q.times x (Q.inverse (Q.integer (pos 1))))))) (λ k. Q.plus (f k) (Q.minus (Q.times (g k) (Q.times x (Q.inverse w)))))

@@ -27,7 +27,7 @@ use Rattle.it_engine.specs.Tables.{whole_row_at}
 use Rattle.it_engine.proofs.BehindTables as T
 use Rattle.it_whole.proofs.Names.{number_null}
 
--- what the run does after so many steps it does from before them
+-- the end of the run after k steps is its end from before them
 pub steps_lead_on : (m n k left made : ℕ) (t s : SimplexTable Rational) (e : RunEndView (SimplexTable Rational) (SimplexTable Rational)) → k ≤ left → StepsLead m n k t s → Reaches m n (left - k) (made + k) s e → Reaches m n left made t e
 steps_lead_on m n zero left made t s e h l q = subst (λ (x : SimplexTable Rational). Reaches m n left made x e) l
     (let a : left - 0 ≡ left = omega arith in let b : made + 0 ≡ made = omega arith in

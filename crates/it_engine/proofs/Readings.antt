@@ -1,4 +1,4 @@
--- What is read off the engine is what is read off the table that it shows.
+-- The weights and the point read off the engine are those read off the table that it shows.
 use Rattle.std.proofs.Common.{◌≡◌, ◌≢◌, ℕ, zero, suc, Some, subst, ◌+◌, ◌-◌, ◌<◌, ◌≤◌, ◌++◌, ℤ, pos, List, [], ◌∷◌, length, slice_index_or, refl, sym, ap, ◌∙◌, arith}
 use Rattle.std.proofs.lemmas.List.{append_assoc, append-nil}
 use Rattle.it_rational.specs.Rational.{Rational, quotient, integer, times, IsRatio}
@@ -28,7 +28,7 @@ module _ (p : FeasibilityProblem Rational) (t : SimplexTable Rational) (columns 
       quotient_named (t.entry i.row (length columns + length basis)) (right_side_of (length basis) rows i.row) (whole_row_at rows i.row).bottom r.some (r.named (length basis) (omega arith)))
       ∙ sym (weight_found field_ℚ (length basis) (length columns) p t s.holds i.row j i.within (s.shows.basis_is i.row i.within ∙ i.basic))
 
--- the weights so far, for whichever table the engine shows
+-- the weights so far, for any table that the engine shows
 abbrev pub WeightsSoFar : List Terms → List WholeRowView → List ℕ → List (ℕ × Rational) → ℕ → Type 0
 WeightsSoFar columns rows basis out j = (p : FeasibilityProblem Rational) (t : SimplexTable Rational) (limit : ℕ) → Represents p t columns limit rows basis → AreWeightsSoFar (length basis) (length columns) t out j
 

@@ -47,7 +47,7 @@ module _ (p : FeasibilityProblem Rational) (t : SimplexTable Rational) (columns 
 
 module _ (columns : List Terms) (limit : ℕ) (old : List WholeRowView) (basis : List ℕ) (budget : ℕ) (now : List WholeRowView) (now_basis : List ℕ) (k : ℕ)
     (w : IsRunUnderWay columns limit old basis budget now now_basis k) where
-  -- what is said of the height now is said of the height at first
+  -- the claims about the present height hold for the first height
   by_same_height : (P : ℕ → Type 0) → P (length now_basis) → P (length basis)
   by_same_height P x = subst P w.height x
 

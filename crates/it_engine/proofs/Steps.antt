@@ -90,7 +90,7 @@ module _ (p : FeasibilityProblem Rational) (t : SimplexTable Rational) (columns 
     row_leaves : (leaving_row rationals (length basis) (length columns) t c ≡ r) × (r < length basis) × (is_candidate rationals t c r ≡ true)
     row_leaves = leaving_same c r hc er
 
-    -- what is said of the row and the column is said of the step's
+    -- the claims about the row and the column hold for those of the step
     to_step : (P : ℕ → ℕ → Type 0) → P r c → P (leaving_row rationals (length basis) (length columns) t (entering_column rationals (length basis) (length columns) t)) (entering_column rationals (length basis) (length columns) t)
     to_step P x = subst (λ (y : ℕ). P (leaving_row rationals (length basis) (length columns) t y) y) (sym column_enters) (subst (λ (x : ℕ). P x c) (sym row_leaves.0) x)
 

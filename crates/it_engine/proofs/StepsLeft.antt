@@ -28,7 +28,7 @@ shown_table columns rows basis = record {
 unfoldable pub steps_left_to : List Terms → List WholeRowView → List ℕ → ℕ
 steps_left_to columns rows basis = steps_left field_ℚ (length basis) (length columns) (shown_table columns rows basis)
 
--- any table that it shows agrees with it
+-- any table that the engine shows agrees with the chosen one
 shown_table_agrees : (p : FeasibilityProblem Rational) (t : SimplexTable Rational) (columns : List Terms) (limit : ℕ) (rows : List WholeRowView) (basis : List ℕ) → Represents p t columns limit rows basis
     → Agree field_ℚ (length basis) (length columns) t (shown_table columns rows basis)
 shown_table_agrees p t columns limit rows basis s = record {

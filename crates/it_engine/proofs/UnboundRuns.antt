@@ -19,7 +19,7 @@ use Rattle.it_engine.proofs.StepsLeft.{steps_left_to, steps_left_falls, several_
 use Rattle.it_engine.proofs.ManySteps.{steps_lead_on}
 use Rattle.it_engine.proofs.Runs.{done_here, not_done_here}
 
--- what the run from s does after so many steps it does from t, with some budget
+-- an end of the run from s, after made steps, is an end of the run from t, with some budget
 abbrev RunsOnFrom : ℕ → ℕ → SimplexTable Rational → ℕ → SimplexTable Rational → Type 0
 RunsOnFrom m n t made s = (left : ℕ) (e : RunEndView (SimplexTable Rational) (SimplexTable Rational)) → Reaches m n left made s e → (budget : ℕ) × Reaches m n budget 0 t e
 
@@ -41,7 +41,7 @@ pub run_begins : (columns : List Terms) (limit : ℕ) (old : List WholeRowView) 
 run_begins columns limit old basis h i = record { engine = h; height = refl; some = i; runs = λ p t s. record { last = t; stands = s; made = 0; serves = λ left e r. (left, r) } }
 
 module _ (columns : List Terms) (limit : ℕ) (old : List WholeRowView) (basis : List ℕ) (now : List WholeRowView) (now_basis : List ℕ) (w : IsRunUnderWay columns limit old basis now now_basis) where
-  -- what is said of the height now is said of the height at first
+  -- the claims about the present height hold for the first height
   by_same_height : (P : ℕ → Type 0) → P (length now_basis) → P (length basis)
   by_same_height P x = subst P w.height x
 

@@ -15,11 +15,11 @@ is_above_zero z = not (sign_least (neg_ℤ z))
 abbrev pub first_negative_cost : List Terms → List ℤ → ℕ
 first_negative_cost columns cost = first_false (λ j. sign_least (value (slice_index_or columns j []) (number_at cost))) 0 (length columns)
 
--- left comes before right, and of equal ones d before f
+-- left is below right, or equal to it with d below f
 abbrev pub is_earlier : ℤ → ℤ → ℕ → ℕ → Bool
 is_earlier left right d f = cond (sign_least (left +ℤ neg_ℤ right)) (sign_least (right +ℤ neg_ℤ left) && ltb d f) true
 
--- b / x with the basic column d comes before e / y with f, where x and y are above 0
+-- the ratio b / x with basic column d comes before e / y with basic column f, where x and y are above 0
 abbrev pub comes_first : ℤ → ℤ → ℕ → ℤ → ℤ → ℕ → Bool
 comes_first b x d e y f = is_earlier (b *ℤ y) (e *ℤ x) d f
 
@@ -29,21 +29,21 @@ module _ (entry right : ℕ → ℤ) (basis : ℕ → ℕ) where
   best_after_row i None = cond (is_above_zero (entry i)) (Some i) None
   best_after_row i (Some k) = cond (is_above_zero (entry i)) (cond (comes_first (right i) (entry i) (basis i) (right k) (entry k) (basis k)) (Some i) (Some k)) (Some k)
 
-  -- the best of the rows below a number
+  -- the best of the rows whose numbers are below the argument
   abbrev pub best_row_below : ℕ → Option ℕ
   best_row_below zero = None
   best_row_below (suc i) = best_after_row i (best_row_below i)
 
--- the entry of row i at a column, over the row's denominator
+-- the entry of row i at a column, as a numerator over the row's denominator
 abbrev pub entry_of : Terms → List WholeRowView → ℕ → ℤ
 entry_of terms rows i = value terms (number_at (whole_row_at rows i).numbers)
 
--- a list of the entries of all rows at a column
+-- entries are those of all rows at the column of terms
 pub record AreEntries (terms : Terms) (rows : List WholeRowView) (entries : List ℤ) : Type 0 where
   pub length_is : length entries ≡ length rows
   pub each : (i : ℕ) → i < length rows → number_at entries i ≡ entry_of terms rows i
 
--- the right side of row i, which stands at place m
+-- the right side of row i, which is at place m
 abbrev pub right_side_of : ℕ → List WholeRowView → ℕ → ℤ
 right_side_of m rows i = number_at (whole_row_at rows i).numbers m
 
@@ -51,6 +51,6 @@ right_side_of m rows i = number_at (whole_row_at rows i).numbers m
 abbrev pub basic_column_at : List ℕ → ℕ → ℕ
 basic_column_at basis i = slice_index_or basis i 0
 
--- the best of the rows below i for a column that enters
+-- the best of the rows below i for the entering column of terms
 abbrev pub best_row : Terms → List WholeRowView → List ℕ → ℕ → Option ℕ
 best_row terms rows basis i = best_row_below (entry_of terms rows) (right_side_of (length basis) rows) (basic_column_at basis) i

@@ -1,4 +1,4 @@
--- No public clause cites this module: what is read off the engine at the end of a run.
+-- No public clause cites this module: the answer, read off the engine at the end of a run.
 use Rattle.std.specs.Prelude.{◌≡◌, ℕ, ◌<◌, ◌≤◌, List, length, slice_index_or, Option, None, Some}
 use Rattle.it_rational.specs.Rational.{Rational, quotient}
 use Rattle.it_space.specs.Rows.{Terms}
@@ -16,35 +16,35 @@ use Rattle.it_engine.specs.Engine.{EngineView, IsSafe, Represents}
 use Rattle.it_engine.specs.Tables.{whole_row_at}
 use Rattle.it_whole.specs.WholeRows.{WholeRowView}
 
--- the right side of a row whose basic column is j
+-- w is the right side of a row whose basic column is j
 pub record IsWeightOf (rows : List WholeRowView) (basis : List ℕ) (j : ℕ) (w : Rational) : Type 0 where
   pub row : ℕ
   pub within : row < length basis
   pub basic : slice_index_or basis row 0 ≡ j
   pub value_is : w ≡ quotient (right_side_of (length basis) rows row) (whole_row_at rows row).bottom
 
--- of the first k rows the one with the least basic column from one on up to another
+-- of the first k rows the one with the least basic column in the range from `from` up to `to`, `to` excluded; None if there is none
 abbrev pub IsNextBasic : List ℕ → ℕ → ℕ → ℕ → Option ℕ → Type 0
 IsNextBasic basis from to k None = (i : ℕ) → i < k → from ≤ slice_index_or basis i 0 → slice_index_or basis i 0 < to → ⊥
 IsNextBasic basis from to k (Some r) = (r < length basis) × (from ≤ slice_index_or basis r 0) × (slice_index_or basis r 0 < to)
     × ((i : ℕ) → i < k → from ≤ slice_index_or basis i 0 → slice_index_or basis i 0 < to → slice_index_or basis r 0 ≤ slice_index_or basis i 0)
 
--- the weights of whichever table the engine shows
+-- ws are the weights of any table that the engine shows
 abbrev pub AreWeightsOf : List Terms → List WholeRowView → List ℕ → List (ℕ × Rational) → Type 0
 AreWeightsOf columns rows basis ws = (p : FeasibilityProblem Rational) (t : SimplexTable Rational) (limit : ℕ) → Represents p t columns limit rows basis → ws ≡ weights rationals (length basis) (length columns) t
 
--- and its point, whichever columns the table has besides the artificial ones
+-- q is the point of any table that the engine shows, whatever columns it has besides the artificial ones
 abbrev pub IsPointOf : List ℕ → Terms → List WholeRowView → List ℕ → List Rational → Type 0
 IsPointOf coordinates target rows basis q = (generators : List Terms) (t : SimplexTable Rational) (columns : List Terms) (limit : ℕ)
     → Represents (feasibility_problem coordinates generators target) t columns limit rows basis → q ≡ point rationals (length basis) (length columns) (feasibility_problem coordinates generators target) t
 
--- the answer to the question whose start the engine shows
+-- answer is the end of the run from any start of a question that the engine shows
 abbrev pub AnswersQuestion : List ℕ → Terms → List Terms → ℕ → List WholeRowView → List ℕ → Option ℕ → Solved → Type 0
 AnswersQuestion coordinates target columns limit rows basis budget answer = (generators : List Terms) (t : SimplexTable Rational)
     → Represents (feasibility_problem coordinates generators target) t columns limit rows basis
     → RunsTo (length basis) (length columns) (feasibility_problem coordinates generators target) budget t (end_of_answer answer)
 
--- the answer to the question whose start this engine shows
+-- the answer is the end of the run from any start of a question that this engine shows
 abbrev pub AnswersFrom : List ℕ → Terms → List Terms → ℕ → EngineView → Option ℕ → Solved → Type 0
 AnswersFrom coordinates target columns limit engine = AnswersQuestion coordinates target columns limit engine.rows engine.basis
 

@@ -1,4 +1,4 @@
--- No public clause cites this module: what the engine keeps of a table, and a step on it.
+-- No public clause cites this module: the parts of a table that the engine keeps, and a step on them.
 -- The engine represents a table of the run: it keeps no table, and its contracts range over all tables that it may represent.
 use Rattle.std.specs.Prelude.{◌≡◌, ℕ, ◌+◌, ◌*◌, ◌<◌, ◌≤◌, ◌^◌, Bool, true, false, List, length, Option}
 use Rattle.it_rational.specs.Rational.{Rational}
@@ -18,26 +18,26 @@ use Rattle.it_engine.specs.PivotedRows.{AreFitting, AreUsable}
 use Rattle.it_whole.specs.WholeRows.{WholeRowView}
 use Rattle.it_engine.specs.Tables.{AreStartColumns, ShowsTable}
 
--- what contracts see of the engine
+-- the contracts' view of the engine
 pub record EngineView : Type 0 where
   pub rows : List WholeRowView
   pub basis : List ℕ
 
--- beside so many basic columns there is room for a pivot's notes on the leaving row, for a row, and for an entry and a note of each row
+-- for height basic columns there is room for a pivot's notes on the leaving row, for a row, and for an entry and a mark of each row
 pub record HasRoom (height : ℕ) (notes : Notes) : Type 0 where
   pub next_is : length notes.next.items ≡ height + 2
   pub room_is : length notes.room.items ≡ height + 1
   pub entries_are : length notes.entries.items ≡ height + 1
   pub moved_is : length notes.moved.items ≡ height + 1
 
--- the parts agree, and all numbers that are formed are short
+-- the numbers of rows, columns and basic columns agree, and all numbers that are formed are short
 pub record IsSafe (columns : List Terms) (limit : ℕ) (rows : List WholeRowView) (basis : List ℕ) : Type 0 where
   pub rows_are : length rows ≡ length basis + 1
   pub usable : AreUsable (length rows) limit rows
   pub fitting : AreFitting (length rows) limit columns
   pub limit_is : limit < 2 ^ 63
 
--- the engine shows a table of the problem that has the invariants, and no column weighs more than a norm that keeps all prices short
+-- the engine shows t, a table of p that has the invariants, and no column weighs more than a norm that keeps all prices short
 pub record Represents (p : FeasibilityProblem Rational) (t : SimplexTable Rational) (columns : List Terms) (limit : ℕ) (rows : List WholeRowView) (basis : List ℕ) : Type 0 where
   pub norm : ℕ
   pub some : 1 ≤ norm
@@ -46,13 +46,13 @@ pub record Represents (p : FeasibilityProblem Rational) (t : SimplexTable Ration
   pub shows : ShowsTable (length basis) (length columns) limit t rows basis
   pub columns_are : AreStartColumns (length basis) (length columns) norm p columns
 
--- the step of the run that is made on the table, whichever it shows
+-- the step of the run from t is made: it isn't stuck or wide, and the new engine shows the next table
 pub record IsStepMade (p : FeasibilityProblem Rational) (t : SimplexTable Rational) (columns : List Terms) (limit : ℕ) (basis : List ℕ) (new : List WholeRowView) (new_basis : List ℕ) : Type 0 where
   pub moves : ¬ (IsStuck rationals (length basis) (length columns) t)
   pub fits : StepFits (length basis) (length columns) t
   pub stands : Represents p (next rationals (length basis) (length columns) t) columns limit new new_basis
 
--- a step was made, whichever table the engine showed
+-- a step was made, for any table that the engine showed
 pub record IsEngineStep (columns : List Terms) (limit : ℕ) (old : List WholeRowView) (basis : List ℕ) (new : List WholeRowView) (new_basis : List ℕ) : Type 0 where
   pub engine : IsSafe columns limit new new_basis
   pub height : length new_basis ≡ length basis
@@ -62,19 +62,19 @@ pub record IsEngineStep (columns : List Terms) (limit : ℕ) (old : List WholeRo
 abbrev pub RepresentsSome : List Terms → ℕ → List WholeRowView → List ℕ → Type 0
 RepresentsSome columns limit rows basis = (p : FeasibilityProblem Rational) × (t : SimplexTable Rational) × Represents p t columns limit rows basis
 
--- no step is left to make, or one is made
+-- false: nothing changed, since the run is stuck; true: a step was made
 abbrev pub IsEngineStepOrStuck : List Terms → ℕ → List WholeRowView → List ℕ → List WholeRowView → List ℕ → Bool → Type 0
 IsEngineStepOrStuck columns limit old basis new new_basis false = (new ≡ old) × (new_basis ≡ basis)
     × ((p : FeasibilityProblem Rational) (t : SimplexTable Rational) → Represents p t columns limit old basis → IsStuck rationals (length basis) (length columns) t)
 IsEngineStepOrStuck columns limit old basis new new_basis true = IsEngineStep columns limit old basis new new_basis
 
--- the end of the run that it tells
+-- the end of the run, with t as its last table
 abbrev pub engine_end_view : EngineEnd → SimplexTable Rational → RunEndView (SimplexTable Rational) (SimplexTable Rational)
 engine_end_view engine_ends.Weights t = Weights t
 engine_end_view engine_ends.Point t = Point t
 engine_end_view (engine_ends.Pivots k) t = Pivots k
 
--- whichever table the engine showed, the run from it ends so, and at an end by weights or by a point the engine shows its last table
+-- for any table that the engine showed, the run from it has the end finish, and the new engine shows the run's last table
 pub record IsFinished (columns : List Terms) (limit : ℕ) (old : List WholeRowView) (basis : List ℕ) (budget : Option ℕ) (new : List WholeRowView) (new_basis : List ℕ) (finish : EngineEnd) : Type 0 where
   pub engine : IsSafe columns limit new new_basis
   pub height : length new_basis ≡ length basis

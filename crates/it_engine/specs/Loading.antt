@@ -1,4 +1,4 @@
--- No public clause cites this module: what the engine reads off the rows of a question.
+-- No public clause cites this module: the start of the engine, read off the rows of a question.
 use Rattle.std.specs.Prelude.{◌≡◌, ◌≢◌, ◌⊎◌, ℕ, zero, suc, ◌+◌, ◌<◌, ◌≤◌, ◌^◌, ◌++◌, ◌∷◌, Bool, ℤ, neg_ℤ, cond, unsigned_abs, List, [], length, slice_index_or, All}
 use Rattle.it_rational.specs.Rational.{Rational, is_at_least_zero, times, integer}
 use Rattle.it_rational.proofs.RationalLaws.{ring_ℚ}
@@ -14,15 +14,15 @@ use Rattle.it_whole.specs.WholeRows.{WholeRowView}
 abbrev pub keeps_sign : List ℕ → Terms → ℕ → Bool
 keeps_sign coordinates target k = is_at_least_zero (integer (coefficient target (slice_index_or coordinates k 0)))
 
--- a number with the sign of row k
+-- z with the sign of row k: negated unless the row keeps its sign
 abbrev pub signed : List ℕ → Terms → ℕ → ℤ → ℤ
 signed coordinates target k z = cond (keeps_sign coordinates target k) z (neg_ℤ z)
 
--- the entry of row k at the column of these terms
+-- the entry of row k at the column of terms
 abbrev pub signed_coefficient : List ℕ → Terms → Terms → ℕ → ℤ
 signed_coefficient coordinates target terms k = signed coordinates target k (coefficient terms (slice_index_or coordinates k 0))
 
--- the number z at coordinate c is put after a column's terms, in the coordinate's row and with its sign, if it has a row
+-- new is old with z, with its row's sign, appended in the row of coordinate c, if there is such a row
 abbrev pub IsTermPut : List ℕ → Terms → ℕ → ℤ → Terms → Terms → Type 0
 IsTermPut coordinates target c z old new =
     ((k : ℕ) × (k < length coordinates) × (slice_index_or coordinates k 0 ≡ c) × (new ≡ old ++ (k, signed coordinates target k z) ∷ []))
@@ -42,13 +42,13 @@ abbrev pub AreReadColumns : List ℕ → List Terms → Terms → List Terms →
 AreReadColumns coordinates generators target columns = (length columns ≡ length generators)
     × ((j : ℕ) → j < length generators → IsColumnOf coordinates target (slice_index_or generators j []) (slice_index_or columns j []))
 
--- no column weighs more
+-- norm is at least 1, and no column weighs more
 pub record IsNorm (columns : List Terms) (norm : ℕ) : Type 0 where
   pub some : 1 ≤ norm
   pub short : norm < 2 ^ 63
   pub bounds : (j : ℕ) → j < length columns → row_mass (slice_index_or columns j []) ≤ norm
 
--- the right side of row k, without its sign
+-- the right side of row k: the absolute value of the target's coefficient
 abbrev pub right_size : List ℕ → Terms → ℕ → ℕ
 right_size coordinates target k = unsigned_abs (coefficient target (slice_index_or coordinates k 0))
 
@@ -57,12 +57,12 @@ abbrev pub right_sum : List ℕ → Terms → ℕ → ℕ
 right_sum coordinates target zero = 0
 right_sum coordinates target (suc k) = right_size coordinates target k + right_sum coordinates target k
 
--- a whole number within a bound
+-- q is the whole number z, within limit
 pub record IsShortWhole (limit : ℕ) (q : Rational) (z : ℤ) : Type 0 where
   pub value_is : q ≡ integer z
   pub small : unsigned_abs z ≤ limit
 
--- row i of the start at the artificial columns and the right side, whichever the other columns are
+-- row is row i of the start at the artificial columns and the right side, for any other columns
 pub record IsReadRow (coordinates : List ℕ) (target : Terms) (limit i : ℕ) (row : WholeRowView) : Type 0 where
   pub length_is : length row.numbers ≡ length coordinates + 1
   pub each : (generators : List Terms) (k : ℕ) → k < length coordinates + 1

@@ -10,23 +10,23 @@ use Rattle.it_run.specs.RowValues.{rational_value}
 use Rattle.it_vectors.specs.Sizes.{AreAtMost, IsShort}
 use Rattle.it_whole.specs.WholeRows.{IsRow, WholeRowView}
 
--- each number of the table, its right sides and its cost row too, is a whole number over the denominator of its row, and all
--- of these are short
+-- each entry of the table, the right sides and the cost row included, is a whole number over the denominator of its row, and all
+-- these numbers are short
 pub record IsTableOver (m n : ℕ) (t : SimplexTable Rational) (number : ℕ → ℕ → ℤ) (bottom : ℕ → ℕ) : Type 0 where
   pub some : (i : ℕ) → i ≤ m → 0 < bottom i
   pub low : (i : ℕ) → i ≤ m → bottom i < 2 ^ 63
   pub named : (i j : ℕ) → i ≤ m → j ≤ n + m → IsRatio (t.entry i j) (number i j) (bottom i)
   pub short : (i j : ℕ) → i ≤ m → j ≤ n + m → IsShort (number i j)
 
--- row i, one without numbers past the end
+-- row i; past the end a row without numbers
 abbrev pub whole_row_at : List WholeRowView → ℕ → WholeRowView
 whole_row_at rows i = slice_index_or rows i record { numbers = []; bottom = 1 }
 
--- no number of any row is greater
+-- no number of any row is greater in absolute value than most
 abbrev pub AreAllAtMost : ℕ → List WholeRowView → Type 0
 AreAllAtMost most rows = (i : ℕ) → i < length rows → AreAtMost (whole_row_at rows i).numbers most
 
--- the terms of a column of the start whose entries are f
+-- terms are those of a column of the start whose entries are f
 pub record IsStartColumn (m norm : ℕ) (f : ℕ → Rational) (terms : Terms) : Type 0 where
   pub value_is : (g : ℕ → Rational) → sum_to ring_ℚ m (λ k. times (g k) (f k)) ≡ rational_value terms g
   pub within : All (λ t. t.0 < m) terms
@@ -37,7 +37,7 @@ pub record AreStartColumns (m n norm : ℕ) (p : FeasibilityProblem Rational) (c
   pub count : length columns ≡ n
   pub column : (j : ℕ) → j < n → IsStartColumn m norm (λ k. start_row rationals m n p k j) (slice_index_or columns j [])
 
--- what is kept of a table: of each row its entries at the artificial columns and its right side
+-- rows and basis are the parts of t that are kept: of each row its entries at the artificial columns and its right side
 pub record ShowsTable (m n limit : ℕ) (t : SimplexTable Rational) (rows : List WholeRowView) (basis : List ℕ) : Type 0 where
   pub rows_are : length rows ≡ m + 1
   pub basis_are : length basis ≡ m

@@ -1,11 +1,11 @@
 //! Rows that stay as they were in an earlier table, while degenerate steps are made.
 //!
-//! Nearly every step of a run is degenerate: the least ratio is 0, and right sides stay. Such a step looks at few rows. So a block of
-//! degenerate steps keeps up to date only the rows that left in it, and the cost row; all others stay as they were when it began,
-//! and are brought up to date where they leave, or when the block ends. The row of a table of the run is that of any other table
-//! less, for each row whose basic column changed, its entry there times that row. Since right sides stay, the rows with right side 0
-//! are put in the order of their basic columns once, when a block begins: of those that stay behind the first that may leave is the
-//! next to leave.
+//! Nearly every step of a run is degenerate: the least ratio is 0, and right sides don't change. Such a step reads few rows. So a
+//! block of degenerate steps keeps only the rows that left in it and the cost row up to date; all others stay as they were when it
+//! began, and are brought up to date when they leave, or when the block ends. A row of a table of the run is the same row of any
+//! other table less, for each row whose basic column changed, its entry there times that row. Since right sides don't change, the
+//! rows with right side 0 are sorted by basic column once, when a block begins: of those that stay behind, the first that may leave
+//! is the next to leave.
 ghost use Rattle.std.specs.Prelude.{◌≡◌, ◌+◌, ◌<◌, ◌≤◌, [], length, true, slice_index_or, slice_set};
 ghost use Rattle.std.specs.Bool.{OnTrue};
 ghost use Rattle.std.specs.Option.{IfSome};
@@ -22,8 +22,8 @@ use crate::shares::{are_short, shares_of_moved};
 use it_vectors::{is_zero, read};
 use it_whole::{Column, WholeRow};
 
-/// The row that leaves at a degenerate step by this column. None where the step isn't degenerate, or where the numbers of the
-/// rows that stay behind may be too large, or for want of memory.
+/// The row that leaves at a degenerate step in which `column` enters. `None` if the step isn't degenerate, if the numbers of the rows
+/// that stay behind may be too large, or if allocation fails.
 fn still_row(
     block: &Block<'_>,
     run: &Run<'_>,
@@ -70,8 +70,8 @@ fn still_row(
     first_to_leave(block, base.ranked.as_slice(), entries, combined)
 }
 
-/// The column that enters and the row that leaves, if the next step is degenerate. None otherwise, or where no step is left, or
-/// where the numbers of the rows that stay behind may be too large, or for want of memory.
+/// The entering column and the leaving row of the next step, if it is degenerate. `None` otherwise, or if no step is left, if the
+/// numbers of the rows that stay behind may be too large, or if allocation fails.
 fn still_choice(
     block: &Block<'_>,
     run: &Run<'_>,
@@ -100,8 +100,8 @@ fn still_choice(
     Some((column, row))
 }
 
-/// Makes the column basic in the row that leaves at a degenerate step, which is brought up to date first; false where a number would
-/// be too large, or for want of memory, and then nothing is known of the rows.
+/// Makes `column` basic in `row`, which leaves at a degenerate step and is brought up to date first; `false` if a number would be too
+/// large or allocation fails, and then nothing is known of the rows.
 fn make_step(
     rows: &mut [WholeRow],
     basis: &mut [usize],
@@ -153,9 +153,9 @@ fn make_step(
     true
 }
 
-/// Makes degenerate steps, at most so many, while they can be made with rows that stay behind, and tells how many were made; None
-/// where a number would be too large, or for want of memory, and then nothing is known of the rows. It ends where a sixth of the
-/// rows moved, since each step has to keep these up to date.
+/// Makes at most `most` degenerate steps, as long as they can be made with rows that stay behind, and returns their number. It stops
+/// when a sixth of the rows moved, since each step has to keep these up to date. `None` if a number would be too large or allocation
+/// fails, and then nothing is known of the rows.
 fn still_steps(
     rows: &mut [WholeRow],
     basis: &mut [usize],
@@ -201,8 +201,8 @@ fn still_steps(
     Some(most)
 }
 
-/// Makes degenerate steps, at most so many, and tells how many, which may be none. In between most rows stay as they are, and at the
-/// end all are up to date. None where a number would be too large, or for want of memory, and then nothing is known of the rows.
+/// Makes at most `most` degenerate steps, and returns their number, which may be 0. Meanwhile most rows stay as they are, and at the
+/// end all are up to date. `None` if a number would be too large or allocation fails, and then nothing is known of the rows.
 pub fn make_steps(
     rows: &mut [WholeRow],
     basis: &mut [usize],

@@ -1,4 +1,4 @@
-//! Blocks of degenerate steps: their rows, which of these moved since the block began, and room for what is noted meanwhile.
+//! Blocks of degenerate steps: their rows, which of these moved since the block began, and working space.
 ghost use Rattle.std.specs.Prelude.{◌≡◌, ◌+◌, ◌<◌, ◌≤◌, ◌^◌, ℕ, pos, [], length, cond, false, true, slice_index_or, slice_set, IfOk};
 ghost use Rattle.std.specs.Bool.{OnFalse, OnTrue};
 ghost use Rattle.it_engine.specs.Behind.{AreMovedEntries, AreMovedInOrder, has_moved};
@@ -14,51 +14,51 @@ use crate::choice::is_above_zero;
 use it_whole::{Column, WholeRow};
 use std::alloc::{AllocError, Global};
 
-/// What stays through a run.
+/// The data that doesn't change during a run.
 #[derive(Drop)]
 pub struct Run<'a> {
-    /// Where memory is taken.
+    /// The allocator.
     pub alloc: Global,
     /// The columns of the start but the artificial ones.
     pub columns: &'a [Column],
-    /// No number of a row is greater in absolute value.
+    /// A bound on the absolute values of the rows' numbers.
     pub limit: u64,
-    /// No column weighs more.
+    /// A bound on the weights of the columns: the sums of their entries' absolute values.
     pub norm: u64,
 }
 
-/// Rows of which some stay behind, as they are between two steps.
+/// The rows between two steps of a block, some of which stay behind.
 #[derive(Drop)]
 pub struct Block<'a> {
-    /// All rows, the cost row at last.
+    /// All rows, the cost row last.
     pub rows: &'a [WholeRow],
-    /// The basic column of each but the cost row.
+    /// The basic column of each row but the cost row.
     pub basis: &'a [usize],
     /// Whether each row moved since the block of steps began.
     pub moved: &'a [bool],
-    /// Those that moved, but the cost row, in their order.
+    /// The rows that moved, without the cost row, in ascending order.
     pub order: &'a [usize],
 }
 
-/// Room for what is noted while steps are made. Between two calls nothing in it is known but its size.
+/// Working space of the steps. Between two calls only its size is known.
 #[derive(Drop)]
 pub struct Notes {
-    /// For each place of the leaving row the next one where it isn't 0, with rows in 64 bits.
+    /// For rows in 64 bits: for each place of the leaving row, the next place where it isn't 0.
     pub next: Vec<usize>,
-    /// A row of 64 bits.
+    /// Space for a row in 64 bits.
     pub room: Vec<i64>,
-    /// The entries of the rows at the column that enters.
+    /// The entries of the rows at the entering column.
     pub entries: Vec<i64>,
-    /// Whether each row moved since a block began.
+    /// Whether each row moved since the block began.
     pub moved: Vec<bool>,
-    /// Those that did, in their order.
+    /// The rows that moved, without the cost row, in ascending order.
     pub order: Vec<usize>,
-    /// The column at which rows that stay behind are looked at.
+    /// The column at which rows that stay behind are priced.
     pub combined: Column,
 }
 
 impl Notes {
-    /// Room beside so many basic columns.
+    /// Working space for `height` rows and the cost row.
     pub fn new(alloc: Global, height: usize) -> Result<Notes, AllocError>
         requires { height < 2 ^ 63 }
         ensures { IfOk result (HasRoom height) }
@@ -78,7 +78,7 @@ impl Notes {
     }
 }
 
-/// Whether row i moved.
+/// Whether row `i` moved.
 #[inline]
 pub fn moved_at(moved: &[bool], i: usize) -> bool
     requires { i < length moved.now }
@@ -87,7 +87,7 @@ pub fn moved_at(moved: &[bool], i: usize) -> bool
     moved[i]
 }
 
-/// The row at place k of a list.
+/// The row at place `k` of `order`.
 #[inline]
 pub fn row_at(order: &[usize], k: usize) -> usize
     requires { k < length order.now }
@@ -96,7 +96,7 @@ pub fn row_at(order: &[usize], k: usize) -> usize
     order[k]
 }
 
-/// The denominator of row i.
+/// The denominator of row `i`.
 #[inline]
 pub fn bottom_at(rows: &[WholeRow], i: usize) -> u64
     requires { i < length rows.now }
@@ -105,7 +105,7 @@ pub fn bottom_at(rows: &[WholeRow], i: usize) -> u64
     rows[i].bottom()
 }
 
-/// A bound on the numbers of row i.
+/// A bound on the numbers of row `i`.
 #[inline]
 pub fn most_at(rows: &[WholeRow], i: usize) -> u64
     requires { i < length rows.now }
@@ -114,7 +114,7 @@ pub fn most_at(rows: &[WholeRow], i: usize) -> u64
     rows[i].most()
 }
 
-/// A closer bound on the numbers of row i.
+/// A closer bound on the numbers of row `i`.
 pub fn closer_most_at(rows: &[WholeRow], i: usize) -> u64
     requires { i < length rows.now }
     ensures { AreAtMost (whole_row_at rows.now i).numbers result }
@@ -122,7 +122,7 @@ pub fn closer_most_at(rows: &[WholeRow], i: usize) -> u64
     rows[i].closer_most()
 }
 
-/// The entry of row i at the column.
+/// The entry of row `i` at `column`, as a numerator over the row's denominator.
 #[inline]
 pub fn entry_at(column: &Column, rows: &[WholeRow], i: usize) -> i64
     requires row { i < length rows.now }
@@ -132,7 +132,7 @@ pub fn entry_at(column: &Column, rows: &[WholeRow], i: usize) -> i64
     column.price(&rows[i])
 }
 
-/// Whether the entry of row i at the column is above 0.
+/// Whether the entry of row `i` at `column` is above 0.
 #[inline]
 pub fn is_above_at(column: &Column, rows: &[WholeRow], i: usize) -> bool
     requires row { i < length rows.now }
@@ -142,7 +142,7 @@ pub fn is_above_at(column: &Column, rows: &[WholeRow], i: usize) -> bool
     is_above_zero(entry_at(column, rows, i))
 }
 
-/// The basic column of row q, which isn't artificial.
+/// The basic column of row `q`, which isn't artificial.
 pub fn basic_column<'a>(columns: &'a [Column], basis: &[usize], q: usize) -> &'a Column
     requires q { q < length basis.now }
     requires within { slice_index_or basis.now q 0 < length columns.now }
@@ -151,7 +151,7 @@ pub fn basic_column<'a>(columns: &'a [Column], basis: &[usize], q: usize) -> &'a
     &columns[basis[q]]
 }
 
-/// The entry of row i at the column if it moved, else 0.
+/// The entry of row `i` at `column` if the row moved, else 0.
 #[inline]
 fn moved_entry(column: &Column, rows: &[WholeRow], moved: &[bool], i: usize) -> i64
     requires row { i < length rows.now }
@@ -176,7 +176,7 @@ fn clear_entries(entries: &mut [i64])
     }
 }
 
-/// Writes down the entry at the column of each row that moved, the cost row at last, and 0 for each other.
+/// Sets `entries` to the entries at `column` of the rows that moved, the cost row among them, and to 0 for all other rows.
 pub fn note_moved_entries(column: &Column, block: &Block<'_>, entries: &mut [i64])
     requires even { length entries.old ≡ length block.now.rows.now }
     requires moved { length block.now.moved.now ≡ length block.now.rows.now }
@@ -194,7 +194,7 @@ pub fn note_moved_entries(column: &Column, block: &Block<'_>, entries: &mut [i64
     entries[last] = moved_entry(column, block.rows, block.moved, last);
 }
 
-/// The first place of a list from which on no row comes before r.
+/// The first place of `order` from which on no row is before `r`.
 fn place_of(order: &[usize], r: usize) -> usize
     ensures within { result ≤ length order.now }
     ensures before { (k : ℕ) → k < result → slice_index_or order.now k 0 < r }
@@ -208,7 +208,7 @@ fn place_of(order: &[usize], r: usize) -> usize
     order.len()
 }
 
-/// Whether row r stands at a place of a list.
+/// Whether `order` has row `r` at `place`.
 #[inline]
 fn stands_at(order: &[usize], place: usize, r: usize) -> bool
     ensures yes { OnTrue result ((place < length order.now) × (slice_index_or order.now place 0 ≡ r)) }
@@ -217,7 +217,7 @@ fn stands_at(order: &[usize], place: usize, r: usize) -> bool
     place < order.len() && row_at(order, place) == r
 }
 
-/// Notes that row r moved; false for want of memory.
+/// Marks row `r` as moved; `false` if allocation fails.
 pub fn note_moved(moved: &mut [bool], order: &mut Vec<usize>, r: usize) -> bool
     requires { r < length moved.old }
     ensures moved { OnTrue result (moved.new ≡ slice_set moved.old r true) }
@@ -231,7 +231,7 @@ pub fn note_moved(moved: &mut [bool], order: &mut Vec<usize>, r: usize) -> bool
     order.insert(place, r).is_ok()
 }
 
-/// Notes that no row moved but the cost row, which comes last.
+/// Marks the cost row, which comes last, as moved, and all other rows as not moved.
 pub fn note_none_moved(moved: &mut [bool], order: &mut Vec<usize>, height: usize)
     requires { length moved.old ≡ height + 1 }
     ensures length { length moved.new ≡ length moved.old }

@@ -12,7 +12,7 @@ use crate::blocks::{Block, Run, basic_column, bottom_at, moved_at, row_at};
 use it_vectors::is_zero;
 use it_whole::{Column, WholeRow};
 
-/// What represents 1 in row q: its denominator, where that is below 2^63.
+/// The number that represents 1 in row `q`: its denominator. `None` unless that is below 2^63.
 fn unit_at(rows: &[WholeRow], q: usize) -> Option<i64>
     requires { q < length rows.now }
     ensures { IfSome result (λ unit. unit ≡ pos (whole_row_at rows.now q).bottom) }
@@ -25,8 +25,8 @@ fn unit_at(rows: &[WholeRow], q: usize) -> Option<i64>
     }
 }
 
-/// The row less as much of row q as makes its entry at this column 0, where row q represents 1; false where a number would be too
-/// large, and then nothing is known of the row.
+/// Subtracts from `row` the multiple of row `q` that makes its entry at `column` 0, where row `q` has the entry 1; `false` if a number
+/// would be too large, and then nothing is known of `row`.
 #[inline]
 fn take_off(
     row: &mut WholeRow,
@@ -55,8 +55,8 @@ fn take_off(
     row.update(&rows[q], &[], false, room, entry, unit, limit)
 }
 
-/// The row less as much of row q, which moved, as makes its entry at the basic column of row q 0; false where a number would be
-/// too large, and then nothing is known of the row.
+/// Subtracts from `row` the multiple of row `q`, which moved, that makes its entry at the basic column of row `q` 0; `false` if a
+/// number would be too large, and then nothing is known of `row`.
 #[inline]
 fn take_off_moved(
     row: &mut WholeRow,
@@ -88,7 +88,7 @@ fn take_off_moved(
     )
 }
 
-/// Brings a row that stayed behind up to date; false where a number would be too large, and then nothing is known of the row.
+/// Brings `row`, which stayed behind, up to date; `false` if a number would be too large, and then nothing is known of it.
 fn bring_row(row: &mut WholeRow, run: &Run<'_>, block: &Block<'_>, room: &mut [i64]) -> bool
     requires height { length block.now.rows.now ≡ length block.now.basis.now + 1 }
     requires order { AreMovedInOrder block.now.moved.now (length block.now.basis.now) block.now.order.now }
@@ -111,7 +111,7 @@ fn bring_row(row: &mut WholeRow, run: &Run<'_>, block: &Block<'_>, room: &mut [i
     true
 }
 
-/// Brings row r, which stayed behind, up to date; false where a number would be too large, and then nothing is known of the rows.
+/// Brings row `r`, which stayed behind, up to date; `false` if a number would be too large, and then nothing is known of the rows.
 fn bring(
     rows: &mut [WholeRow],
     run: &Run<'_>,
@@ -145,7 +145,7 @@ fn bring(
     done
 }
 
-/// Brings row r up to date, if it stayed behind; false where a number would be too large, and then nothing is known of the rows.
+/// Brings row `r` up to date, if it stayed behind; `false` if a number would be too large, and then nothing is known of the rows.
 pub fn bring_if_behind(
     rows: &mut [WholeRow],
     run: &Run<'_>,
@@ -174,7 +174,7 @@ pub fn bring_if_behind(
     bring(rows, run, basis, moved, order, room, r)
 }
 
-/// Brings all rows up to date; false where a number would be too large, and then nothing is known of the rows.
+/// Brings all rows up to date; `false` if a number would be too large, and then nothing is known of the rows.
 pub fn bring_all(
     rows: &mut [WholeRow],
     run: &Run<'_>,
@@ -202,7 +202,7 @@ pub fn bring_all(
     true
 }
 
-/// Puts row q over the least denominator.
+/// Puts row `q` over its least denominator.
 #[inline]
 fn shorten_row(rows: &mut [WholeRow], q: usize)
     requires q { q < length rows.old }
@@ -213,7 +213,8 @@ fn shorten_row(rows: &mut [WholeRow], q: usize)
     rows[q].shorten();
 }
 
-/// Puts the rows that moved over the least denominators, so that taking them off others mostly needs no factor for these.
+/// Puts the rows that moved, listed in `order`, over their least denominators: then other rows mostly need no factor when multiples
+/// of them are subtracted.
 pub fn shorten_moved(rows: &mut [WholeRow], order: &[usize], limit: u64)
     requires rows { AreUsable (length rows.old) limit rows.old }
     requires order { (k : ℕ) → k < length order.now → slice_index_or order.now k 0 < length rows.old }

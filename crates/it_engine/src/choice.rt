@@ -1,4 +1,4 @@
-//! The column that enters, the entries of the rows there, and the row that leaves.
+//! The entering column, the entries of the rows there, and the leaving row.
 ghost use Rattle.std.specs.Prelude.{◌≡◌, ◌+◌, ◌<◌, ℕ, length};
 ghost use Rattle.std.specs.Option.{IfNone, IfSome};
 ghost use Rattle.it_engine.specs.Choosing.{AreEntries, best_after_row, basic_column_at, best_row_below, comes_first as comes_first_of, entry_of, first_negative_cost, is_above_zero as is_above_zero_of, is_earlier as is_earlier_of, right_side_of};
@@ -10,21 +10,21 @@ ghost use Rattle.it_space.specs.Sums.{number_at};
 use it_vectors::{product, read};
 use it_whole::{Column, WholeRow};
 
-/// Whether z is above 0.
+/// Whether `z` is above 0.
 pub fn is_above_zero(z: i64) -> bool
     ensures { result ≡ is_above_zero_of z }
 {
     z > 0
 }
 
-/// Whether z is at least 0.
+/// Whether `z` is at least 0.
 pub fn is_at_least_zero(z: i64) -> bool
     ensures { result ≡ sign_least z }
 {
     z >= 0
 }
 
-/// Whether left comes before right, and of equal ones d before f.
+/// Whether `left` is below `right`, or equal to it with `d` below `f`.
 #[tactic(auto, using(crate::proofs::Signs::order_less, crate::proofs::Signs::order_same, crate::proofs::Signs::order_more))]
 fn is_earlier(left: i128, right: i128, d: usize, f: usize) -> bool
     ensures { result ≡ is_earlier_of left right d f }
@@ -38,14 +38,14 @@ fn is_earlier(left: i128, right: i128, d: usize, f: usize) -> bool
     }
 }
 
-/// Whether b / x with the basic column d comes before e / y with f.
+/// Whether the ratio b / x with basic column `d` comes before e / y with basic column `f`.
 pub fn comes_first(b: i64, x: i64, d: usize, e: i64, y: i64, f: usize) -> bool
     ensures { result ≡ comes_first_of b x d e y f }
 {
     is_earlier(product(b, y), product(e, x), d, f)
 }
 
-/// The first column with a cost below 0.
+/// The first column with a cost below 0; `None` if there is none.
 #[tactic(auto, using(it_run::proofs::SearchLemmas::first_is, it_run::proofs::SearchLemmas::first_none))]
 pub fn entering_column(columns: &[Column], cost: &WholeRow) -> Option<usize>
     requires { AllSuit columns.now cost.now.numbers }
@@ -53,7 +53,7 @@ pub fn entering_column(columns: &[Column], cost: &WholeRow) -> Option<usize>
     ensures some { IfSome result (λ c. first_negative_cost columns.now cost.now.numbers ≡ c) }
     ensures none { IfNone result (first_negative_cost columns.now cost.now.numbers ≡ length columns.now) }
 {
-    // by index, since the invariant speaks of the first j columns
+    // by index, since the invariant is about the first j columns
     for j in 0..columns.len() {
         if !is_at_least_zero(columns[j].price(cost)) {
             return Some(j);
@@ -62,7 +62,7 @@ pub fn entering_column(columns: &[Column], cost: &WholeRow) -> Option<usize>
     None
 }
 
-/// The entry of row i at the column.
+/// The entry of row `i` at `column`, as a numerator over the row's denominator.
 fn entry(column: &Column, rows: &[WholeRow], i: usize) -> i64
     requires row { i < length rows.now }
     requires suits { SuitsAll column.now rows.now }
@@ -71,19 +71,19 @@ fn entry(column: &Column, rows: &[WholeRow], i: usize) -> i64
     column.price(&rows[i])
 }
 
-/// Writes down the entry of each row at the column, so that a step prices each row once.
+/// Sets `entries` to the entries of all rows at `column`, so that a step prices each row once.
 pub fn note_entries(column: &Column, rows: &[WholeRow], entries: &mut [i64])
     requires even { length entries.old ≡ length rows.now }
     requires suits { SuitsAll column.now rows.now }
     ensures { AreEntries column.now rows.now entries.new }
 {
-    // by index, since the invariant speaks of the first i rows
+    // by index, since the invariant is about the first i rows
     for i in 0..rows.len() {
         entries[i] = entry(column, rows, i);
     }
 }
 
-/// The right side of a row, which stands at this place.
+/// The right side of row `i`, which is at `place`.
 #[inline]
 pub fn right_side(rows: &[WholeRow], i: usize, place: usize) -> i64
     requires row { i < length rows.now }
@@ -93,7 +93,7 @@ pub fn right_side(rows: &[WholeRow], i: usize, place: usize) -> i64
     rows[i].number(place)
 }
 
-/// The better of the best row so far and row i.
+/// The better of `best`, the best row so far, and row `i`.
 fn better_row(
     best: Option<usize>,
     i: usize,
@@ -130,8 +130,8 @@ fn better_row(
     }
 }
 
-/// The row with the least ratio of those with an entry above 0, of several the one with the least basic column. The entries are
-/// those of all rows at the column that enters.
+/// Of the rows with an entry above 0 the one with the least ratio; of several, the one with the least basic column. `entries` has
+/// those of all rows at the entering column. `None` if no entry is above 0.
 #[tactic(auto, using(crate::proofs::Choices::best_within, crate::proofs::Choices::best_more))]
 pub fn leaving_row(entries: &[i64], rows: &[WholeRow], basis: &[usize]) -> Option<usize>
     requires rows { length rows.now ≡ length basis.now + 1 }

@@ -19,7 +19,7 @@ use it_whole::{Column, WholeRow};
 use std::alloc::{AllocError, Global};
 use std::marker::Model;
 
-/// From so many steps on the rows are full enough that it pays to leave them behind.
+/// The number of steps after which the rows are full enough that it pays to leave them behind.
 const MANY_STEPS: u32 = 500;
 
 /// How a run ended.
@@ -29,11 +29,11 @@ pub enum EngineEnd {
     Weights,
     /// No column has a cost below 0.
     Point,
-    /// All steps of the budget were made, so many.
+    /// All steps of the budget, the number given here, were made.
     Pivots(u32),
 }
 
-/// What is kept of a table: its rows and last its cost row, each with its entries at the artificial columns and last its right
+/// The parts of a table that are kept: its rows, the cost row last, each with its entries at the artificial columns and last its right
 /// side; and the basic column of each row but the cost row.
 pub struct Engine {
     alloc: Global,
@@ -65,7 +65,7 @@ impl Model for Engine {
 }
 
 impl Engine {
-    /// An engine with these rows and basic columns.
+    /// The engine with `rows`, the cost row last, and `basis`, the basic columns of the others.
     pub fn new(alloc: Global, rows: Vec<WholeRow>, basis: Vec<usize>) -> Result<Engine, AllocError>
         ensures rows { IfOk result (λ engine. engine.rows ≡ rows.items) }
         ensures basis { IfOk result (λ engine. engine.basis ≡ basis.items) }
@@ -79,7 +79,7 @@ impl Engine {
         })
     }
 
-    /// The same engine with rows in 32 bits, where no number is above the limit.
+    /// A copy of the engine with rows in 32 bits; `None` if a number is above `limit` in absolute value, or a row is in 32 bits already.
     pub fn narrowed(&self, limit: u64) -> Result<Option<Engine>, AllocError>
         requires limit { limit < 2 ^ 31 }
         ensures engine { IfOk result (λ o. IfSome o (λ engine. engine ≡ self.now)) }
@@ -124,7 +124,7 @@ impl Engine {
         is_zero(self.cost_row().number(self.basis.len()))
     }
 
-    /// The column that enters.
+    /// The entering column; `None` if no column has a cost below 0.
     fn next_column(&self, columns: &[Column]) -> Option<usize>
         requires { (limit : ℕ) × IsSafe columns.now limit self.now.rows self.now.basis }
         ensures within { IfSome result (λ c. c < length columns.now) }
@@ -134,7 +134,8 @@ impl Engine {
         entering_column(columns, self.cost_row())
     }
 
-    /// Makes one step, if there is one to make; None where a number would be too large, and then nothing is known of the engine.
+    /// Makes one step, if one is left, and returns whether it did; `None` if no row leaves or a number would be too large, and then
+    /// nothing is known of the engine.
     fn step(&mut self, columns: &[Column], limit: u64) -> Option<bool>
         requires { IsSafe columns.now limit self.old.rows self.old.basis }
         ensures { IfSome result (λ moved. IsEngineStepOrStuck columns.now limit self.old.rows self.old.basis self.new.rows self.new.basis moved) }
@@ -156,8 +157,8 @@ impl Engine {
         Some(true)
     }
 
-    /// Makes degenerate steps, at most so many, and tells how many, which may be none; none with rows in 64 bits. None where a number
-    /// would be too large, and then nothing is known of the engine.
+    /// Makes at most `most` degenerate steps, and returns their number, which may be 0, and is 0 with rows in 64 bits. `None` if a number
+    /// would be too large or allocation fails, and then nothing is known of the engine.
     fn still_steps(&mut self, columns: &[Column], limit: u64, norm: u64, most: u32) -> Option<u32>
         requires engine { IsSafe columns.now limit self.old.rows self.old.basis }
         requires norm { IsNorm columns.now norm }
@@ -181,7 +182,7 @@ impl Engine {
         )
     }
 
-    /// Makes the run with a budget of steps.
+    /// Makes the run with `budget` as the most steps. `None` as for `run`.
     fn run_within(
         &mut self,
         columns: &[Column],
@@ -215,7 +216,7 @@ impl Engine {
         }
     }
 
-    /// Makes the run without a budget. It ends since no set of basic columns comes back (Bland 1977).
+    /// Makes the run without a budget. It terminates, since no set of basic columns recurs (Bland 1977). `None` as for `run`.
     fn run_on(&mut self, columns: &[Column], limit: u64, norm: u64) -> Option<EngineEnd>
         requires engine { IsSafe columns.now limit self.old.rows self.old.basis }
         requires stands { RepresentsSome columns.now limit self.old.rows self.old.basis }
@@ -236,8 +237,8 @@ impl Engine {
         }
     }
 
-    /// Makes the run with a budget of steps or without one, where the columns are those of the start and the limit bounds the
-    /// numbers of rows. None where a number would be larger: then nothing is known of the engine.
+    /// Makes the run with `budget` as the most steps, or without a budget. `columns` are those of the start, and `limit` bounds the
+    /// numbers of the rows. `None` if a number would be larger or allocation fails: then nothing is known of the engine.
     pub fn run(&mut self, columns: &[Column], limit: u64, budget: Option<u32>) -> Option<EngineEnd>
         requires engine { IsSafe columns.now limit self.old.rows self.old.basis }
         requires stands { RepresentsSome columns.now limit self.old.rows self.old.basis }
@@ -251,14 +252,15 @@ impl Engine {
     }
 }
 
-/// How many steps may be made with rows that stay behind, where so many are left: none in a short run, whose rows have few numbers.
+/// The most steps that may be made with rows that stay behind, after `made` steps and with `left` steps left: 0 early in a run, while
+/// the rows have few nonzero numbers.
 fn most_still(made: u32, left: u32) -> u32
     ensures { result ≤ left }
 {
     if made < MANY_STEPS { 0 } else { left }
 }
 
-/// The same rows in 32 bits, where no number is above the limit.
+/// Copies of `rows` in 32 bits; `None` if a number is above `limit` in absolute value, or a row is in 32 bits already.
 fn narrowed_rows(
     alloc: Global,
     rows: &[WholeRow],
@@ -269,7 +271,7 @@ fn narrowed_rows(
     ensures small { IfOk result (λ o. IfSome o (λ narrow. AreAllAtMost limit rows.now)) }
 {
     let mut narrow = Vec::with_capacity(alloc, rows.len())?;
-    // by index, since the invariant speaks of the first k rows
+    // by index, since the invariant is about the first k rows
     for k in 0..rows.len() {
         let Some(row) = narrowed_row(alloc, rows, k, limit)? else {
             return Ok(None);
@@ -279,7 +281,7 @@ fn narrowed_rows(
     Ok(Some(narrow))
 }
 
-/// Row k in 32 bits, where no number is above the limit.
+/// A copy of row `k` in 32 bits; `None` if a number is above `limit` in absolute value, or the row is in 32 bits already.
 fn narrowed_row(
     alloc: Global,
     rows: &[WholeRow],
@@ -294,7 +296,7 @@ fn narrowed_row(
     rows[k].narrowed(alloc, limit)
 }
 
-/// The row of this number, which is the last one.
+/// Row `last` of `rows`.
 #[tactic(auto, using(it_vectors::proofs::Items::item_by_default))]
 fn last_row(rows: &[WholeRow], last: usize) -> &WholeRow
     requires { last < length rows.now }

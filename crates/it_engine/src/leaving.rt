@@ -1,4 +1,4 @@
-//! The row that leaves at a degenerate step.
+//! The leaving row of a degenerate step.
 ghost use Rattle.std.specs.Prelude.{◌≡◌, ◌+◌, ◌<◌, ◌≤◌, ◌^◌, ◌*ℤ◌, neg_ℤ, ℕ, pos, Bool, List, [], length, false, slice_index_or};
 ghost use Rattle.std.specs.Bool.{OnFalse, OnTrue};
 ghost use Rattle.std.specs.Option.{IfSome};
@@ -20,16 +20,16 @@ use std::alloc::Global;
 /// The largest number of the engine, 2^63 - 1.
 const LARGEST: u64 = i64::MAX as u64;
 
-/// What is noted of the rows when a block of steps begins.
+/// Facts of the rows, found when a block of steps begins.
 #[derive(Drop)]
 pub struct Base {
-    /// No number and no denominator of a row that stays behind is greater.
+    /// A bound on the numbers and the denominators of the rows that stay behind.
     pub bound: u64,
     /// The rows with right side 0, by ascending basic column.
     pub ranked: Vec<usize>,
 }
 
-/// Whether the right side of row i is 0.
+/// Whether the right side of row `i`, which is at `place`, is 0.
 #[inline]
 fn is_still(rows: &[WholeRow], place: usize, i: usize) -> bool
     requires rows { i < length rows.now }
@@ -40,7 +40,7 @@ fn is_still(rows: &[WholeRow], place: usize, i: usize) -> bool
     is_zero(right_side(rows, i, place))
 }
 
-/// The bound with the numbers and the denominator of row i, if it stays behind.
+/// `bound`, extended to the numbers and the denominator of row `i` if it stays behind.
 fn more_bound(rows: &[WholeRow], moved: &[bool], i: usize, bound: u64) -> u64
     requires rows { i < length rows.now }
     requires moved { i < length moved.now }
@@ -54,7 +54,7 @@ fn more_bound(rows: &[WholeRow], moved: &[bool], i: usize, bound: u64) -> u64
     }
 }
 
-/// A bound on the numbers and the denominators of the rows that stay behind.
+/// A bound on the numbers and the denominators of the rows below `height` that stay behind.
 fn bound_behind(rows: &[WholeRow], moved: &[bool], height: usize) -> u64
     requires rows { height ≤ length rows.now }
     requires moved { height ≤ length moved.now }
@@ -67,7 +67,7 @@ fn bound_behind(rows: &[WholeRow], moved: &[bool], height: usize) -> u64
     bound
 }
 
-/// The basic column of row i, 0 past the last row.
+/// The basic column of row `i`, 0 past the last row.
 #[inline]
 fn column_of(basis: &[usize], i: usize) -> usize
     ensures { result ≡ slice_index_or basis.now i 0 }
@@ -75,7 +75,7 @@ fn column_of(basis: &[usize], i: usize) -> usize
     basis.get(i).copied().unwrap_or(0)
 }
 
-/// The rows below a height with right side 0, in their order. None for want of memory.
+/// The rows below `height` with right side 0, in ascending order. `None` if allocation fails.
 fn still_rows(alloc: Global, rows: &[WholeRow], height: usize) -> Option<Vec<usize>>
     requires rows { height ≤ length rows.now }
     requires places { (i : ℕ) → i < height → height < length (whole_row_at rows.now i).numbers }
@@ -90,7 +90,7 @@ fn still_rows(alloc: Global, rows: &[WholeRow], height: usize) -> Option<Vec<usi
     Some(still)
 }
 
-/// The rows with right side 0, by ascending basic column. None for want of memory.
+/// The rows with right side 0, by ascending basic column. `None` if allocation fails.
 fn ranked_rows(alloc: Global, rows: &[WholeRow], basis: &[usize]) -> Option<Vec<usize>>
     requires rows { length basis.now ≤ length rows.now }
     requires places { (i : ℕ) → i < length basis.now → length basis.now < length (whole_row_at rows.now i).numbers }
@@ -101,7 +101,7 @@ fn ranked_rows(alloc: Global, rows: &[WholeRow], basis: &[usize]) -> Option<Vec<
     Some(ranked)
 }
 
-/// What is noted of the rows when a block of steps begins. None for want of memory.
+/// The base of a block of steps that begins with these rows. `None` if allocation fails.
 pub fn begin_base(alloc: Global, rows: &[WholeRow], basis: &[usize], moved: &[bool]) -> Option<Base>
     requires rows { length basis.now ≤ length rows.now }
     requires moved { length basis.now ≤ length moved.now }
@@ -114,8 +114,8 @@ pub fn begin_base(alloc: Global, rows: &[WholeRow], basis: &[usize], moved: &[bo
     Some(Base { bound, ranked })
 }
 
-/// Takes so much of the basic column of row q, which moved, off the combined column as its entry says; false where a number is too
-/// large, or for want of memory.
+/// Subtracts from the combined column the basic column of row `q`, which moved, times the row's entry and its share of `multiple`;
+/// `false` if a number is too large or allocation fails.
 fn less_moved(
     combined: &mut Column,
     columns: &[Column],
@@ -142,7 +142,7 @@ fn less_moved(
     combined.add_multiple(basic_column(columns, block.basis, q), taken)
 }
 
-/// The negated product, where that is below 2^63.
+/// The negated product of `entry` and `share`; `None` unless it is below 2^63 in absolute value.
 fn taken_times(entry: i64, share: u64) -> Option<i64>
     requires { share < 2 ^ 63 }
     ensures { IfSome result (λ z. z ≡ neg_ℤ (entry *ℤ pos share)) }
@@ -151,8 +151,7 @@ fn taken_times(entry: i64, share: u64) -> Option<i64>
     Some(-taken)
 }
 
-/// Puts the multiple of the column that enters in the place of the combined column; false where a number is too large, or for want of
-/// memory.
+/// Sets the combined column to `multiple` times `column`, which enters; `false` if a number is too large or allocation fails.
 fn begin_combined(combined: &mut Column, columns: &[Column], column: usize, multiple: u64) -> bool
     requires column { column < length columns.now }
     requires low { multiple < 2 ^ 63 }
@@ -162,8 +161,8 @@ fn begin_combined(combined: &mut Column, columns: &[Column], column: usize, mult
     combined.add_multiple(&columns[column], multiple as i64)
 }
 
-/// Forms the column at which a row that stays behind has the number that it would have up to date; false where a number is too
-/// large, or for want of memory.
+/// Sets the combined column to the one at which a row that stays behind has `multiple` times the number that it would have at `column`
+/// if it were up to date; `false` if a number is too large or allocation fails.
 pub fn combine_columns(
     combined: &mut Column,
     columns: &[Column],
@@ -193,7 +192,7 @@ pub fn combine_columns(
     true
 }
 
-/// Whether there is a best row so far, and its basic column isn't above that of row i.
+/// Whether there is a `best` row so far, and its basic column isn't above that of row `i`.
 #[inline(always)]
 fn comes_before(best: Option<usize>, basis: &[usize], i: usize) -> bool
     requires best { IfSome best (λ r. r < length basis.now) }
@@ -207,7 +206,7 @@ fn comes_before(best: Option<usize>, basis: &[usize], i: usize) -> bool
     }
 }
 
-/// Whether row q, whose entry is noted, may leave with ratio 0.
+/// Whether row `q`, by its entry in `entries` and its right side at `place`, may leave with ratio 0.
 #[inline]
 fn has_zero_ratio(rows: &[WholeRow], entries: &[i64], place: usize, q: usize) -> bool
     requires rows { q < length rows.now }
@@ -222,7 +221,7 @@ fn has_zero_ratio(rows: &[WholeRow], entries: &[i64], place: usize, q: usize) ->
     is_still(rows, place, q)
 }
 
-/// The row with the least basic column of the best one so far and row q, whose entry is noted, if it may leave.
+/// Of `best`, the best row so far, and row `q`, if it may leave by its entry in `entries`, the one with the least basic column.
 #[inline(always)]
 fn earlier_row(best: Option<usize>, block: &Block<'_>, entries: &[i64], q: usize) -> Option<usize>
     requires best { IfSome best (λ r. r < length block.now.basis.now) }
@@ -242,7 +241,7 @@ fn earlier_row(best: Option<usize>, block: &Block<'_>, entries: &[i64], q: usize
     }
 }
 
-/// Of the rows that moved and may leave with ratio 0 the one with the least basic column.
+/// Of the rows that moved and may leave with ratio 0, the one with the least basic column.
 fn first_moved_to_leave(block: &Block<'_>, entries: &[i64]) -> Option<usize>
     requires rows { length block.now.basis.now < length block.now.rows.now }
     requires order { AreMovedInOrder block.now.moved.now (length block.now.basis.now) block.now.order.now }
@@ -259,8 +258,8 @@ fn first_moved_to_leave(block: &Block<'_>, entries: &[i64]) -> Option<usize>
     best
 }
 
-/// Of the rows that may leave with ratio 0 the one with the least basic column. Those that stay behind are looked at in the order
-/// of their basic columns, and only as far as these are below that of the best row that moved.
+/// Of the rows that may leave with ratio 0, the one with the least basic column. Those that stay behind are visited by ascending basic
+/// column, and only as long as it is below that of the best row that moved.
 pub fn first_to_leave(
     block: &Block<'_>,
     ranked: &[usize],

@@ -1,10 +1,10 @@
 //! The run of the simplex method on whole numbers.
 //!
-//! Of a table of fractions the engine keeps the artificial columns and the right side alone, as whole numbers over one
-//! denominator for each row. The entry of any other column in a row is the sum of the column's terms at these numbers. While all
-//! numbers stay below 2^63 in absolute value no step of the exact table is wide, so the engine makes the same run without a test
-//! for it, and gives up where a number would be 2^63 or more. It tries first with rows in 32 bits, of which a step forms
-//! several numbers at once, and where a row doesn't fit these, with rows in 64 bits from the start.
+//! Of a table of fractions the engine keeps only the artificial columns and the right side, as whole numbers over one denominator
+//! for each row. A row's entry at any other column is the sum of the column's terms at these numbers. While all numbers stay below
+//! 2^63 in absolute value, no step of the exact table is wide, so the engine makes the same run without testing for it, and gives up
+//! where a number would be 2^63 or more. It tries first with rows in 32 bits, on which a step is vectorized, and where a number
+//! doesn't fit these, again from the start with rows in 64 bits.
 #![tactic(auto)]
 
 mod behind;

@@ -1,5 +1,5 @@
 //! The engine of the start of a run, read off the rows of a question.
-//! The loops go by index, since their invariants speak of what the first ones come to.
+//! The loops go by index, since their invariants are about the results for the first items.
 ghost use Rattle.std.specs.Prelude.{◌≡◌, ◌+◌, ◌<◌, ◌≤◌, ◌^◌, ◌++◌, ◌∷◌, [], cond, neg_ℤ, pos, unsigned_abs, length, replicate, slice_index_or, IfOk, OnOk};
 ghost use Rattle.std.specs.Bool.{OnTrue};
 ghost use Rattle.std.specs.Option.{IfSome};
@@ -16,7 +16,7 @@ use std::alloc::{AllocError, Global};
 /// The largest number of the engine, 2^63 - 1.
 const LARGEST: u64 = i64::MAX as u64;
 
-/// The number, negated unless the sign is kept, where it is within a bound.
+/// `number`, negated unless `kept`; `None` if it is above `limit` in absolute value.
 fn signed_number(number: i128, kept: bool, limit: u64) -> Option<i64>
     requires { limit < 2 ^ 63 }
     ensures { IfSome result (λ z. (z ≡ cond kept number (neg_ℤ number)) × (unsigned_abs z ≤ limit)) }
@@ -25,7 +25,7 @@ fn signed_number(number: i128, kept: bool, limit: u64) -> Option<i64>
     if kept { Some(short) } else { Some(-short) }
 }
 
-/// The coordinate of term i.
+/// The coordinate of term `i`.
 fn coordinate_at(terms: &[(u32, i128)], i: usize) -> u32
     requires { i < length terms.now }
     ensures { result ≡ (slice_index_or terms.now i (0, pos 0)).0 }
@@ -33,7 +33,7 @@ fn coordinate_at(terms: &[(u32, i128)], i: usize) -> u32
     terms[i].0
 }
 
-/// The coefficient of term i.
+/// The coefficient of term `i`.
 fn coefficient_at(terms: &[(u32, i128)], i: usize) -> i128
     requires { i < length terms.now }
     ensures { result ≡ (slice_index_or terms.now i (0, pos 0)).1 }
@@ -41,8 +41,8 @@ fn coefficient_at(terms: &[(u32, i128)], i: usize) -> i128
     terms[i].1
 }
 
-/// Puts a coefficient into the row of its coordinate, with the row's sign, if there is such a row. False where it is too
-/// large.
+/// Appends to `column` the entry `number`, with the row's sign, in the row of `coordinate`, if there is such a row. `false` if it is
+/// too large.
 fn put_term(
     column: &mut Column,
     coordinates: &[u32],
@@ -63,7 +63,7 @@ fn put_term(
     Ok(true)
 }
 
-/// The terms of generator j.
+/// The terms of generator `j`.
 fn terms_of(generators: &[Row], j: usize) -> &[(u32, i128)]
     requires { j < length generators.now }
     ensures { result.now ≡ slice_index_or generators.now j [] }
@@ -71,7 +71,7 @@ fn terms_of(generators: &[Row], j: usize) -> &[(u32, i128)]
     generators[j].terms()
 }
 
-/// The column of a generator's coefficients. None where one is too large.
+/// The column of the coefficients of generator `j`. `None` if one is too large.
 fn read_column(
     alloc: Global,
     coordinates: &[u32],
@@ -96,7 +96,7 @@ fn read_column(
     Ok(Some(column))
 }
 
-/// The columns that aren't artificial. None where a number is too large.
+/// The columns of the start that aren't artificial. `None` if a number is too large.
 pub fn columns(
     alloc: Global,
     coordinates: &[u32],
@@ -116,7 +116,7 @@ pub fn columns(
     Ok(Some(columns))
 }
 
-/// A bound on the weights of the columns.
+/// The greatest weight of the columns, at least 1. `None` if one isn't below 2^63.
 pub fn norm(columns: &[Column]) -> Option<u64>
     ensures { IfSome result (λ norm. IsNorm columns.now norm) }
 {
@@ -130,7 +130,7 @@ pub fn norm(columns: &[Column]) -> Option<u64>
     Some(norm)
 }
 
-/// The right side of a row, which is the target's coefficient without its sign, where it is within a bound.
+/// The right side of row `k`, which is the absolute value of the target's coefficient; `None` if it is above `limit`.
 fn right_side(coordinates: &[u32], target: &Row, k: usize, limit: u64) -> Option<u64>
     requires row { k < length coordinates.now }
     requires limit { limit < 2 ^ 63 }
@@ -140,7 +140,7 @@ fn right_side(coordinates: &[u32], target: &Row, k: usize, limit: u64) -> Option
     Some(size.unsigned_abs())
 }
 
-/// The sum of the right sides, where it is within a bound.
+/// The sum of the right sides; `None` if it is above `limit`.
 fn sum_of_rights(coordinates: &[u32], target: &Row, limit: u64) -> Option<u64>
     requires { limit < 2 ^ 63 }
     ensures { IfSome result (λ sum. (sum ≡ right_sum coordinates.now target.now (length coordinates.now)) × (sum ≤ limit)) }
@@ -152,7 +152,7 @@ fn sum_of_rights(coordinates: &[u32], target: &Row, limit: u64) -> Option<u64>
     if sum <= limit { Some(sum) } else { None }
 }
 
-/// So many numbers, all equal.
+/// `count` copies of `number`.
 fn equal_numbers(alloc: Global, number: i64, count: usize) -> Result<Vec<i64>, AllocError>
     ensures { IfOk result (λ v. v.items ≡ replicate count number) }
 {
@@ -160,7 +160,7 @@ fn equal_numbers(alloc: Global, number: i64, count: usize) -> Result<Vec<i64>, A
     Ok(numbers)
 }
 
-/// A number as one with a sign.
+/// `size` as a signed number.
 fn signed(size: u64) -> i64
     requires { size < 2 ^ 63 }
     ensures { result ≡ pos size }
@@ -168,7 +168,7 @@ fn signed(size: u64) -> i64
     size as i64
 }
 
-/// Its negation.
+/// -`size`.
 fn negated(size: u64) -> i64
     requires { size < 2 ^ 63 }
     ensures { result ≡ neg_ℤ (pos size) }
@@ -176,7 +176,7 @@ fn negated(size: u64) -> i64
     -(size as i64)
 }
 
-/// Row k of the start: 1 at its artificial column, and its right side.
+/// Row `k` of the start: 1 at its artificial column, 0 at the others, and its right side. `None` if that is above `limit`.
 fn unit_row(
     alloc: Global,
     coordinates: &[u32],
@@ -199,7 +199,7 @@ fn unit_row(
     Ok(Some(WholeRow::from_numbers(numbers)))
 }
 
-/// The cost row of the start: -1 at each artificial column, and the negated sum of the right sides.
+/// The cost row of the start: -1 at each artificial column, and the negation of `sum`, the sum of the right sides.
 fn cost_row(
     alloc: Global,
     coordinates: &[u32],
@@ -219,7 +219,7 @@ fn cost_row(
     Ok(WholeRow::from_numbers(numbers))
 }
 
-/// The rows and the cost row. None where one of their numbers is above the limit.
+/// The rows of the start, the cost row last. `None` if one of their numbers is above `limit` in absolute value.
 pub fn rows(
     alloc: Global,
     coordinates: &[u32],

@@ -17,8 +17,8 @@ use it_vectors::read;
 use it_whole::{Column, WholeRow};
 use std::alloc::Global;
 
-/// Makes the column at which the rows have these entries basic in row r; false where a number would be too large, and then nothing
-/// is known of the rows. Next is room for a number for each place of a row and one more, room is room for a row.
+/// Makes the column at which the rows have the given `entries` basic in row `r`; `false` if a number would be too large, and then
+/// nothing is known of the rows. `next` is space for one number more than a row has, `room` is space for a row.
 pub fn pivot(
     alloc: Global,
     rows: &mut [WholeRow],
@@ -43,7 +43,7 @@ pub fn pivot(
     let own = take_divided(alloc, rows, entries, r);
     let p = own.unit();
     let noted = own.note_places(next);
-    // by index, since the invariant speaks of the rows before i and of those from i on
+    // by index, since the invariant is about the rows before i and those from i on
     for i in 0..rows.len() {
         if i != r && !update_row(rows, &own, next, noted, room, entries, i, p, limit) {
             return false;
@@ -53,7 +53,7 @@ pub fn pivot(
     true
 }
 
-/// Takes out row r, which leaves, and divides it by its entry at the column.
+/// Takes out row `r`, which leaves, and divides it by its entry at the entering column. An empty row is left in its place.
 #[inline(always)]
 fn take_divided(alloc: Global, rows: &mut [WholeRow], entries: &[i64], r: usize) -> WholeRow
     requires row { r < length rows.old }
@@ -69,8 +69,8 @@ fn take_divided(alloc: Global, rows: &mut [WholeRow], entries: &[i64], r: usize)
     taken.divided_by(read(entries, r))
 }
 
-/// Updates row i after a step in which another row leaves, whose entry at the column is the pivot; false where a number would be too
-/// large, and then nothing is known of the row. What is noted of the leaving row is as for `pivot`.
+/// Updates row `i` in a step in which `own` leaves, whose entry at the entering column is `pivot`; `false` if a number would be too
+/// large, and then nothing is known of the row. If `noted`, `next` has the next places where `own` isn't 0; `room` is space for a row.
 #[inline(always)]
 fn update_row(
     rows: &mut [WholeRow],
@@ -100,7 +100,7 @@ fn update_row(
     rows[i].update(own, next, noted, room, read(entries, i), pivot, limit)
 }
 
-/// As `pivot`, where the entries are 0 but at the listed rows, which ascend, and at the last row.
+/// Like `pivot`, where all `entries` are 0 but those of the last row and of the rows listed, in ascending order, in `order`.
 pub fn pivot_moved(
     alloc: Global,
     rows: &mut [WholeRow],
@@ -141,9 +141,9 @@ pub fn pivot_moved(
     true
 }
 
-/// Makes the column basic in the row that leaves, and tells that row; None where none leaves, or where a number would be too large,
-/// and then nothing is known of the rows. Next is room for a number for each place of a row and one more, room is room for a row,
-/// and entries for a number for each row.
+/// Makes `column` basic in the leaving row, and returns that row; `None` if no row leaves, or if a number would be too large, and then
+/// nothing is known of the rows. `next` is space for one number more than a row has, `room` for a row, and `entries` for a number for
+/// each row.
 pub fn enter(
     alloc: Global,
     rows: &mut [WholeRow],

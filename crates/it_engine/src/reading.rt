@@ -1,4 +1,4 @@
-//! What is read off the engine at the end of a run.
+//! The weights or the point, read off the engine at the end of a run.
 ghost use Rattle.std.specs.Prelude.{◌≡◌, ◌+◌, ◌<◌, [], ℕ, cond, pos, length, IfOk};
 ghost use Rattle.it_rational.specs.Rational.{quotient, times, minus, integer};
 ghost use Rattle.it_engine.specs.Choosing.{right_side_of};
@@ -13,7 +13,7 @@ use it_tableau::keeps_sign;
 use it_whole::{Column, WholeRow};
 use std::alloc::{AllocError, Global};
 
-/// The number at place k over the row's denominator.
+/// The number at place `k` of `row` over the row's denominator.
 fn fraction(row: &WholeRow, k: usize) -> Fraction
     requires place { k < length row.now.numbers }
     requires some { 0 < row.now.bottom }
@@ -22,7 +22,7 @@ fn fraction(row: &WholeRow, k: usize) -> Fraction
     Fraction::lowest(i128::from(row.number(k)), i128::from(row.bottom()))
 }
 
-/// The same of row i.
+/// The number at place `k` of row `i` over the row's denominator.
 fn fraction_at(rows: &[WholeRow], i: usize, k: usize) -> Fraction
     requires row { i < length rows.now }
     requires place { k < length (whole_row_at rows.now i).numbers }
@@ -32,7 +32,7 @@ fn fraction_at(rows: &[WholeRow], i: usize, k: usize) -> Fraction
     fraction(&rows[i], k)
 }
 
-/// The better of the best row so far and row i, where the least basic column from one on up to another is looked for.
+/// Of `best`, the best row so far, and row `i`, the one with the least basic column in the range from `from` up to `to`, `to` excluded.
 fn nearer_basic(
     basis: &[usize],
     from: usize,
@@ -55,19 +55,19 @@ fn nearer_basic(
     Some(i)
 }
 
-/// The row with the least basic column from one on up to another.
+/// The row with the least basic column in the range from `from` up to `to`, `to` excluded.
 fn next_basic(basis: &[usize], from: usize, to: usize) -> Option<usize>
     ensures { IsNextBasic basis.now from to (length basis.now) result }
 {
     let mut best: Option<usize> = None;
-    // by index, since the invariant speaks of the first i rows
+    // by index, since the invariant is about the first i rows
     for i in 0..basis.len() {
         best = nearer_basic(basis, from, to, best, i);
     }
     best
 }
 
-/// The weights other than 0, by column.
+/// The nonzero weights, each after its column, by ascending column.
 pub fn weights(
     alloc: Global,
     columns: &[Column],
@@ -89,14 +89,14 @@ pub fn weights(
     Ok(out)
 }
 
-/// The value with the sign of a row: negated unless the sign is kept.
+/// `value`, negated unless `kept`.
 fn signed_value(value: Fraction, kept: bool) -> Fraction
     ensures { result ≡ times (cond kept (integer (pos 1)) (minus (integer (pos 1)))) value }
 {
     if kept { value } else { value.neg() }
 }
 
-/// The point, by rows, with the signs of the start.
+/// The point: a value for each row, with the row's sign in the start.
 pub fn point(
     alloc: Global,
     coordinates: &[u32],

@@ -1,4 +1,4 @@
-//! A common multiple of the denominators of the rows that moved, and a bound on what their entries sum to over it.
+//! A common multiple of the denominators of the rows that moved, and a bound on the sum of their entries over it.
 ghost use Rattle.std.specs.Prelude.{◌≡◌, ◌+◌, ◌*◌, ◌<◌, ◌≤◌, ◌^◌, ℕ, length, true};
 ghost use Rattle.std.specs.Bool.{OnTrue};
 ghost use Rattle.std.specs.Option.{IfSome};
@@ -9,7 +9,7 @@ use crate::blocks::{Block, bottom_at, most_at, row_at};
 use it_vectors::{common_divisor, short_product, short_sum};
 use it_whole::WholeRow;
 
-/// The share of row q in a multiple of its denominator.
+/// The share of row `q` in `multiple`, a multiple of its denominator: their quotient.
 #[inline(always)]
 pub fn share_at(rows: &[WholeRow], q: usize, multiple: u64) -> u64
     requires q { q < length rows.now }
@@ -17,7 +17,7 @@ pub fn share_at(rows: &[WholeRow], q: usize, multiple: u64) -> u64
     ensures { result ≡ share_of multiple rows.now q }
 {
     let bottom = bottom_at(rows, q);
-    // most denominators are 1 or the multiple, and a division is dear
+    // most denominators are 1 or the multiple, and divisions are slow
     if bottom == 1 {
         multiple
     } else if bottom == multiple {
@@ -27,7 +27,7 @@ pub fn share_at(rows: &[WholeRow], q: usize, multiple: u64) -> u64
     }
 }
 
-/// A common multiple of denominators, and a bound on what the entries of their rows, each times its share of it, sum to.
+/// A common multiple of denominators, and a bound on the sum of the entries of their rows, each times its row's share of it.
 #[derive(Drop, Clone, Copy)]
 pub struct Shares {
     /// A common multiple of the denominators.
@@ -36,7 +36,7 @@ pub struct Shares {
     pub bound: u64,
 }
 
-/// The bound with an entry more, times its share of the multiple.
+/// `shares` with `entry` times `share` added to the bound. `None` if that isn't below 2^63.
 #[inline(always)]
 fn with_share(shares: Shares, entry: u64, share: u64) -> Option<Shares>
     ensures { IfSome result (λ s. (s.multiple ≡ shares.multiple) × (s.bound ≡ shares.bound + entry * share)) }
@@ -49,7 +49,7 @@ fn with_share(shares: Shares, entry: u64, share: u64) -> Option<Shares>
     })
 }
 
-/// The multiple and the bound, both times a factor.
+/// The multiple and the bound, both times `factor`. `None` unless both are below 2^63.
 fn times_factor(shares: Shares, factor: u64) -> Option<Shares>
     ensures { IfSome result (λ s. (s.multiple < 2 ^ 63) × (s.multiple ≡ shares.multiple * factor) × (s.bound ≡ shares.bound * factor)) }
 {
@@ -58,7 +58,8 @@ fn times_factor(shares: Shares, factor: u64) -> Option<Shares>
     Some(Shares { multiple, bound })
 }
 
-/// The multiple and the bound with a row more, whichever its denominator is. Mostly it divides the multiple, which then stays.
+/// `shares` with a further row, of denominator `bottom` and with entries up to `entry`. Mostly the denominator divides the multiple,
+/// which then stays. `None` if a number isn't below 2^63.
 fn with_other_row(shares: Shares, bottom: u64, entry: u64) -> Option<Shares>
     requires some { 0 < shares.multiple }
     requires low { shares.multiple < 2 ^ 63 }
@@ -73,7 +74,7 @@ fn with_other_row(shares: Shares, bottom: u64, entry: u64) -> Option<Shares>
     with_share(wider, entry, wider.multiple / bottom)
 }
 
-/// The multiple and the bound with a row more. Most denominators are 1 or the multiple, and a division is dear.
+/// Like `with_other_row`. Most denominators are 1 or the multiple; these cases come first, as divisions are slow.
 #[inline]
 fn with_row(shares: Shares, bottom: u64, entry: u64) -> Option<Shares>
     requires some { 0 < shares.multiple }
@@ -90,7 +91,7 @@ fn with_row(shares: Shares, bottom: u64, entry: u64) -> Option<Shares>
     with_other_row(shares, bottom, entry)
 }
 
-/// The multiple and the bound of the rows that moved before, and of row q, which moved.
+/// `shares`, those of the rows before `q` that moved, with row `q`, which moved. `None` if a number isn't below 2^63.
 #[inline]
 fn more_shares(block: &Block<'_>, q: usize, shares: Shares, norm: u64) -> Option<Shares>
     requires rows { q < length block.now.rows.now }
@@ -103,7 +104,7 @@ fn more_shares(block: &Block<'_>, q: usize, shares: Shares, norm: u64) -> Option
     with_row(shares, bottom_at(block.rows, q), entry)
 }
 
-/// Those of all rows that moved, but the cost row, where both are below 2^63.
+/// The multiple and the bound of all rows that moved but the cost row. `None` if a number isn't below 2^63.
 pub fn shares_of_moved(block: &Block<'_>, norm: u64) -> Option<Shares>
     requires rows { length block.now.basis.now ≤ length block.now.rows.now }
     requires order { AreMovedInOrder block.now.moved.now (length block.now.basis.now) block.now.order.now }
@@ -121,7 +122,8 @@ pub fn shares_of_moved(block: &Block<'_>, norm: u64) -> Option<Shares>
     Some(shares)
 }
 
-/// Whether the numbers of the rows that stay behind are below 2^63 at every column, though they aren't formed.
+/// Whether the numbers of the rows that stay behind are below 2^63 at every column, though they aren't formed: by a bound `most` on the
+/// rows' numbers, a bound `low` on their denominators, and the multiple and the bound of the rows that moved.
 pub fn are_short(most: u64, low: u64, multiple: u64, norm: u64, shares: u64) -> bool
     ensures numbers { OnTrue result (norm * most * multiple + norm * most * shares < 2 ^ 63) }
     ensures bottoms { OnTrue result (low * multiple < 2 ^ 63) }

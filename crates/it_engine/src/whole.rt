@@ -17,17 +17,17 @@ use std::alloc::{AllocError, Global};
 /// The largest number of the engine, 2^63 - 1.
 const LARGEST: u64 = i64::MAX as u64;
 
-/// The largest number in 32 bits, 2^31 - 1.
+/// The largest signed number in 32 bits, 2^31 - 1.
 const LARGEST_NARROW: u64 = i32::MAX as u64;
 
-/// With fewer rows than this a run in 32 bits gains nothing.
+/// With fewer rows than this a run in 32 bits isn't faster.
 const FEW_ROWS: usize = 64;
 
 /// The most rows of a table, the cost row among them. All are full, so that a table with more of them would take more memory
 /// than the sparse table of fractions.
 const MOST_ROWS: usize = 1 << 12;
 
-/// The run, and what is read off its end.
+/// Makes the run of `engine`, and reads off its answer. `None` if a number would be above `limit` or allocation fails in the run.
 fn answer(
     alloc: Global,
     coordinates: &[u32],
@@ -62,7 +62,7 @@ fn answer(
     }
 }
 
-/// The limit, or the largest number in 32 bits where that is less.
+/// The lesser of `limit` and the largest signed number in 32 bits.
 fn narrow_limit(limit: u64) -> u64
     ensures below { result ≤ limit }
     ensures narrow { result < 2 ^ 31 }
@@ -74,8 +74,8 @@ fn narrow_limit(limit: u64) -> u64
     }
 }
 
-/// The run in 32 bits, and what is read off its end. None where a number would be larger, or where the rows are so few that rows
-/// in 64 bits are as fast.
+/// The answer of the run in 32 bits. `None` if a number would be larger, if allocation fails in the run, or if the rows are so few
+/// that rows in 64 bits are as fast.
 fn narrow_answer(
     alloc: Global,
     coordinates: &[u32],
@@ -100,7 +100,7 @@ fn narrow_answer(
     }
 }
 
-/// The run in 32 bits, and where that gives up, in 64, and what is read off its end.
+/// The answer of the run in 32 bits, or where that gives up, of the run in 64. `None` if that gives up too.
 fn answer_by_width(
     alloc: Global,
     coordinates: &[u32],
@@ -121,8 +121,8 @@ fn answer_by_width(
     }
 }
 
-/// The start of a question: its columns but the artificial ones, the limit that the greatest of them leaves for the numbers of rows,
-/// and the engine.
+/// The start of a question: its columns but the artificial ones, the limit on the rows' numbers that the greatest weight of the columns
+/// allows, and the engine.
 #[derive(Drop)]
 struct Start {
     columns: Vec<Column>,
@@ -130,8 +130,7 @@ struct Start {
     engine: Engine,
 }
 
-/// Reads the start off a question. None where it has numbers that aren't whole or are too large, or the table has too many rows, or
-/// the coordinates don't ascend.
+/// Reads the start off a question. `None` if a number is too large, the table has too many rows, or `coordinates` don't ascend.
 fn read_start(
     alloc: Global,
     coordinates: &[u32],
@@ -162,9 +161,9 @@ fn read_start(
     }))
 }
 
-/// The run from the start of a question, with a budget of steps or without one, and what is read off its last table. None where
-/// it can't be made on whole numbers below 2^63: where the start has others, or a step would form one, or the table has too many
-/// rows, or the coordinates don't ascend.
+/// Makes the run from the start of a question, with `budget` as the most steps or without a budget, and returns the answer read off its
+/// last table. `None` if it can't be made on whole numbers below 2^63, since the start has a larger one or a step would form one; if
+/// the table has too many rows; if `coordinates` don't ascend; or if allocation fails in the run.
 pub fn whole_run(
     alloc: Global,
     coordinates: &[u32],
@@ -193,8 +192,8 @@ pub fn whole_run(
     )
 }
 
-/// As `whole_run`, with rows in 32 bits alone: None also where a number doesn't fit these, or where the rows are so few that rows
-/// in 64 bits are as fast.
+/// Like `whole_run`, with rows in 32 bits only: `None` also if a number doesn't fit these, or if the rows are so few that rows in 64
+/// bits are as fast.
 pub fn narrow_run(
     alloc: Global,
     coordinates: &[u32],

@@ -26,7 +26,7 @@ const YES: &[u8] = b"1 yes 1 : 1 I(X;Y)\n";
 const THRICE: &[u8] =
     b"vars X, Y\nprove I(X;Y) >= 0\nvars X, Y\nprove I(X;Y) >= 0\nvars X, Y\nprove I(X;Y) >= 0\n";
 
-/// A source of these bytes that gives `step` at a call and fails at the calls `failing`.
+/// A source of `bytes` that gives `step` of them at a call and fails at the calls `failing`.
 fn source_of(
     alloc: Global,
     bytes: &[u8],
@@ -62,7 +62,7 @@ fn call(
     Ok(itip(alloc, words, source, sink, proposers))
 }
 
-/// Whether a call over this source and this sink ends so, with these bytes in the sink.
+/// Whether a call over this source and this sink ends with `status`, with `bytes` in the sink.
 fn ends(
     alloc: Global,
     words: &[&str],
@@ -76,7 +76,7 @@ fn ends(
     Ok(end == status && sink.bytes() == bytes)
 }
 
-/// Whether a call that reads these bytes at once, over this sink, fails to write after these bytes.
+/// Whether a call that reads `input` at once, over this sink, fails to write after `bytes`.
 fn stops(
     alloc: Global,
     words: &[&str],
@@ -88,7 +88,7 @@ fn stops(
     ends(alloc, words, source, sink, Status::WriteFault, bytes)
 }
 
-/// Whether a call whose first read would fail ends so, with these bytes written.
+/// Whether a call whose first read would fail ends with `status`, with `bytes` written.
 fn reads_nothing(
     alloc: Global,
     words: &[&str],
@@ -117,7 +117,7 @@ fn bench_leaves_its_input(rt: HostRuntime) -> Result<(), Fail> {
     Ok(())
 }
 
-/// Whether an answer to a question that is read byte by byte, where this read would fail, ends so.
+/// Whether an answer to a question that is read byte by byte, where read number `failing` would fail, ends with `status` and `bytes`.
 fn reads(alloc: Global, failing: u64, status: Status, bytes: &[u8]) -> Result<bool, AllocError> {
     let source = source_of(alloc, MUTUAL, 1, &[failing])?;
     let sink = sink_of(alloc, WHOLE, &[])?;
@@ -184,7 +184,7 @@ fn a_failed_write_leaves_a_front_of_the_usage_line(rt: HostRuntime) -> Result<()
     Ok(())
 }
 
-/// Whether a sure sink with such a limit keeps this of an answer, and tells whether there was more.
+/// Whether a sure sink with the limit `limit` keeps `kept` of an answer, and tells by `more` whether there was more.
 fn keeps(alloc: Global, limit: usize, kept: &[u8], more: bool) -> Result<bool, AllocError> {
     let mut source = SureSource::new(Vec::from_slice(alloc, MUTUAL)?);
     let mut sink = SureSink::new(Vec::with_capacity(alloc, limit)?, limit);

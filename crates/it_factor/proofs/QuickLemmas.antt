@@ -52,7 +52,7 @@ answer_is_right q left right x (Tight values) w i c = (record { factor = factor_
     factor_is = record { from_one = one_least x.den x.positive; lowest = x.lowest; certified = row_certifies q left right x w c }
 answer_is_right q left right x (Below below) w i c = ((record { from_one = one_least x.den x.positive; lowest = x.lowest; certified = row_certifies q left right x w c }, i), tt)
 
--- no factor holds at a point that the check finds valid for the right side turned, where the left side is 0
+-- no factor holds at a point that the check finds valid for the negated right side, where the left side is 0
 pub never_is_right : (q : ProblemView) (left right : Terms) (values : List ℤ) → IsProblem q → IsOver (size_of q.space) right → length values ≡ size_of q.space
     → Valid ≡ no_verdict (length (elementals q.space.variables)) (generators q) (negated_terms right) (point_of values) → value left (point_of values) ≡ pos 0
     → HasNoFactor (ground_of q) (value left) (value right) values

@@ -10,11 +10,11 @@ use Rattle.it_ratio.specs.BestViews.{Least, Unbounded}
 use Rattle.it_factor.specs.Lines.{best_line, factor_text}
 
 module _ (q : BodyView) (constraints : List Constraint) where
-  -- a certificate
+  -- the text of a certificate
   abbrev pub proof_text : Certificate → List ℕ
   proof_text proof = certificate_text (problem_names q).variables (origins_of constraints) (certificate_view proof)
 
-  -- a factor and its certificate
+  -- the text of a factor and its certificate
   abbrev pub proven_factor_text : ℤ → ℤ → Certificate → List ℕ
   proven_factor_text num den proof = factor_text (problem_names q).variables (origins_of constraints) num den (certificate_view proof)
 

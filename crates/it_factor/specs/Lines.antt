@@ -22,7 +22,7 @@ use Rattle.it_factor.specs.Replies.{ReplyView, Found, Other}
 unfoldable pub factor_text : List (List ℕ) → List Origin → ℤ → ℤ → CertificateView → List ℕ
 factor_text names origins num den w = signed_decimal num ++ codes "/" ++ signed_decimal den ++ codes " " ++ certificate_text names origins w
 
--- why the factors stay undecided, with the phase
+-- the cause why the factors are undecided, with its phase
 unfoldable pub best_cause_text : BestCause → List ℕ
 best_cause_text (causes.Pivots steps phase) = codes "pivots " ++ decimal steps ++ codes " in " ++ decimal phase
 best_cause_text (causes.Width step phase) = codes "width " ++ decimal step ++ codes " in " ++ decimal phase
@@ -50,18 +50,18 @@ reply_line k q origins Other = decimal k ++ codes " other\n"
 abbrev pub IsThere : ℕ → ℕ → Certificate → Type 0
 IsThere n m c = All (λ w. w.0 < length (elementals n) + m) c.weights.items
 
--- a point's values are of the names
+-- the values of a point are of the names' space
 abbrev pub AreValuesOf : NamesView → List ℤ → Type 0
 AreValuesOf v values = (length values < 2 ^ length v.variables + length v.rates) × (length values < 2 ^ 16)
 
--- the generators and the values of what was found are, with m constraints
+-- what was found can be printed with m constraints: its generators are there, and its values are of the names' space
 abbrev pub IsBestPrintable : NamesView → ℕ → Best → Type 0
 IsBestPrintable v m (answers.Least num den proof point) = IsThere (length v.variables) m proof × AreValuesOf v point
 IsBestPrintable v m (answers.Never point) = AreValuesOf v point
 IsBestPrintable v m (answers.Unbounded num den proof below) = IsThere (length v.variables) m proof × IsThere (length v.variables) m below
 IsBestPrintable v m (answers.Undecided cause) = Unit {0}
 
--- those of a reply are
+-- a reply can be printed with m constraints
 abbrev pub IsPrintable : BodyView → ℕ → Reply → Type 0
 IsPrintable q m (replies.Found best) = IsBestPrintable (problem_names q) m best
 IsPrintable q m replies.Other = Unit {0}

@@ -14,7 +14,7 @@ use Rattle.it_factor.specs.declared.quick.Step.TheVariants as steps
 use Rattle.it_factor.specs.declared.quick.Trial.{Trial}
 use Rattle.it_factor.specs.RightReplies.{IsKnown}
 
--- the answer that a trial is, by a certificate of its number
+-- the answer of a trial whose number x has the certificate w
 abbrev pub answer_by : Rational → Reason → CertificateView → BestView
 answer_by x (reasons.Tight point) w = Least x.num (pos x.den) w point
 answer_by x (reasons.Below below) w = Unbounded x.num (pos x.den) w (certificate_view below)
@@ -23,7 +23,7 @@ abbrev pub answer_view : Trial → CertificateView → BestView
 answer_view trial w = answer_by trial.factor trial.reason w
 
 module _ (q : ProblemView) (left : Terms) where
-  -- the certificate is one of that the left side is at most 0
+  -- the certificate is one for the left side being at most 0
   abbrev pub IsAtMostZero : Certificate → Type 0
   IsAtMostZero c = (ground_of q).Certifies (λ p. neg_ℤ (value left p)) (certificate_view c)
 
@@ -34,7 +34,7 @@ module _ (q : ProblemView) (left right : Terms) where
     pub some : pos 1 ≤ℤ value left (point_of values)
     pub equal : pos x.den *ℤ value right (point_of values) ≡ x.num *ℤ value left (point_of values)
 
-  -- what makes a factor the answer is as it says
+  -- the reason holds for the factor x
   abbrev pub IsReason : Rational → Reason → Type 0
   IsReason x (reasons.Tight point) = IsTight x point
   IsReason x (reasons.Below below) = IsAtMostZero q left below
@@ -46,7 +46,7 @@ module _ (q : ProblemView) (left right : Terms) where
   abbrev pub IsQuickBest : BestView → Type 0
   IsQuickBest best = IsRightBest (ground_of q) (value left) (value right) best × IsKnown best
 
-  -- what a run leads to is right
+  -- the outcome of a run is right
   abbrev pub IsStep : Step → Type 0
   IsStep (steps.Found best) = IsQuickBest (best_view best)
   IsStep (steps.Next trial) = IsTrial trial

@@ -1,5 +1,5 @@
--- Right replies to questions in mode `best`: they show what they say, by the meaning of the question's text alone, and they are due; and
--- what follows from it.
+-- Right replies to questions in mode `best`: they show what they say, by the meaning of the question's text alone, and they are due: the
+-- runs find them. And what follows.
 use Rattle.std.specs.Prelude.{◌≡◌, ◌⊎◌, ℕ, Some, None, true, false}
 use Rattle.it_space.specs.Problems.{ProblemView}
 use Rattle.it_space.specs.Rows.{Terms}
@@ -37,22 +37,22 @@ ShowsFactor q r best = IsRightBest (question_ground q) (left_form (variable_coun
 
 -- ---- by the runs
 
--- it is known of each number whether it is a factor
+-- `best` says of each number whether it is a factor: it isn't undecided
 abbrev pub IsKnown : BestView → Type 0
 IsKnown (Undecided cause) = ⊥
 IsKnown best = Unit {0}
 
--- what the runs about two rows under a problem end with, or where quick runs come first whatever is known
+-- what the runs about two rows under a problem find; or, where quick runs come first, any answer by which all factors are known
 abbrev pub FindsFactor : ProblemView → Terms → Terms → Effort → BestView → Type 0
 FindsFactor p left right effort best = EndsWith p left right effort.pivots best ⊎ ((effort.quick ≡ true) × IsKnown best)
 
--- the same about the terms of both sides, under the problem that the question poses
+-- what the runs find about the terms of both sides, under the problem that the question poses
 abbrev pub IsDueFactor : Effort → BodyView → RelationView → BestView → Type 0
 IsDueFactor effort q r best = FindsFactor (problem_of q) (terms_in q (left_form (variable_count q) r)) (terms_in q (right_form (variable_count q) r)) effort best
 
 -- ---- right replies
 
--- what is found is right by the text, and it is due
+-- what is found is right by the text, and is what the runs find
 pub record IsRightFactor (effort : Effort) (q : BodyView) (r : RelationView) (best : BestView) : Type 0 where
   pub shows : ShowsFactor q r best
   pub due : IsDueFactor effort q r best
@@ -69,10 +69,10 @@ IsRightReply effort q Other = asked_by q.verb ≡ None
 abbrev pub OneRightReply : Type 0
 OneRightReply = (effort : Effort) (q : BodyView) (a b : ReplyView) → effort.quick ≡ false → IsRightReply effort q a → IsRightReply effort q b → a ≡ b
 
--- without a budget no reply is undecided for want of steps
+-- without a budget no reply is undecided for lack of steps
 abbrev pub NeverOutOfSteps : Type 0
 NeverOutOfSteps = (effort : Effort) (q : BodyView) (k phase : ℕ) → effort.pivots ≡ None → IsRightReply effort q (Found (Undecided (Pivots k phase))) → ⊥
 
--- what shows what it says of the factors is true of them
+-- what is found of the factors is true of them if it shows what it says
 abbrev pub WhatIsShownIsTrue : Type 0
 WhatIsShownIsTrue = (q : BodyView) (r : RelationView) (best : BestView) → ShowsFactor q r best → IsTrueBest (HoldsFor q r) best

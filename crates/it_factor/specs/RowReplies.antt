@@ -12,7 +12,7 @@ use Rattle.it_factor.specs.Replies.{ReplyView, Found, Other}
 use Rattle.it_factor.specs.RightReplies.{FindsFactor}
 use Rattle.it_ratio.specs.Truth.{at_least}
 
--- it is found about rows of both sides under a problem, and it is right of the rows
+-- what is found about rows of both sides under a problem, and is right of these rows
 pub record IsFoundByRows (p : ProblemView) (effort : Effort) (r : RelationView) (best : BestView) : Type 0 where
   pub left : Terms
   pub left_is : IsRowOf p.space (left_form p.space.variables r) left

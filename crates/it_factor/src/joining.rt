@@ -2,7 +2,6 @@
 ghost use Rattle.std.specs.Prelude.{◌≡◌, All, IfOk, length};
 ghost use Rattle.std.specs.Option.{IfSome};
 ghost use Rattle.it_number.specs.Limit.{IsWithin};
-ghost use Rattle.it_space.specs.Problems.{problem_view};
 ghost use Rattle.it_space.specs.Rows.{negated_terms, value};
 ghost use Rattle.it_space.specs.Spaces.{size_of};
 ghost use Rattle.it_best.specs.Factors.{HasNoFactor, IsPoint, ground_of};
@@ -14,7 +13,7 @@ use it_fraction::{Wide, difference, signed_product};
 use it_space::{Point, Problem, Row, RowFault, value};
 use std::alloc::{AllocError, Global};
 
-/// A multiple of one number less a multiple of another.
+/// `a` times `x` less `b` times `y`.
 fn combined(a: i128, x: i128, b: i128, y: i128) -> Result<i128, Wide>
     ensures { IfOk result IsWithin }
 {
@@ -23,7 +22,7 @@ fn combined(a: i128, x: i128, b: i128, y: i128) -> Result<i128, Wide>
     difference(above, below)
 }
 
-/// The same of the values of two points.
+/// `a` times the values of `one` less `b` times those of `other`, coordinate by coordinate.
 fn combined_values(
     alloc: Global,
     a: i128,
@@ -41,13 +40,13 @@ fn combined_values(
     Ok(values)
 }
 
-/// The point, where the left side is 0 there, and the check finds that it meets the problem and that the right side is above 0, of which
-/// the row is turned.
+/// `point`, if the left side is 0 there and the check finds that it meets the problem and that the right side is above 0. `turned` is
+/// the negation of the right side's row.
 fn judged(problem: &Problem, left: &Row, right: &Row, turned: &Row, point: Point) -> Option<Point>
-    requires sides { AreSides (problem_view problem.now) left.now right.now }
+    requires sides { AreSides problem.now left.now right.now }
     requires turned { turned.now ≡ negated_terms right.now }
     requires complete { length point ≡ size_of problem.now.space }
-    ensures { IfSome result (HasNoFactor (ground_of (problem_view problem.now)) (value left.now) (value right.now)) }
+    ensures { IfSome result (HasNoFactor (ground_of problem.now) (value left.now) (value right.now)) }
 {
     let Ok(zero) = value(left, &point) else {
         return None;
@@ -61,8 +60,8 @@ fn judged(problem: &Problem, left: &Row, right: &Row, turned: &Row, point: Point
     }
 }
 
-/// A point at which no factor holds, by one at which the left side is above 0 and another at which it is below it: a sum of multiples of
-/// both, at which it is 0. None where a number passes the limit, or the right side isn't above 0 there.
+/// A point at which no factor holds: a sum of multiples of `above`, at which the left side is above 0, and of `below`, at which it is
+/// below 0, so that it is 0 at the sum. None where a number passes the limit, or the right side isn't above 0 there.
 pub fn joined(
     alloc: Global,
     problem: &Problem,
@@ -71,10 +70,10 @@ pub fn joined(
     above: &Point,
     below: &Point,
 ) -> Result<Option<Point>, AllocError>
-    requires sides { AreSides (problem_view problem.now) left.now right.now }
-    requires above { IsPoint (ground_of (problem_view problem.now)) above.now }
-    requires below { IsPoint (ground_of (problem_view problem.now)) below.now }
-    ensures { IfOk result (λ o. IfSome o (HasNoFactor (ground_of (problem_view problem.now)) (value left.now) (value right.now))) }
+    requires sides { AreSides problem.now left.now right.now }
+    requires above { IsPoint (ground_of problem.now) above.now }
+    requires below { IsPoint (ground_of problem.now) below.now }
+    ensures { IfOk result (λ o. IfSome o (HasNoFactor (ground_of problem.now) (value left.now) (value right.now))) }
 {
     let Ok(more) = value(left, above) else {
         return Ok(None);
@@ -87,10 +86,10 @@ pub fn joined(
         Err(RowFault::Wide) => return Ok(None),
         Err(RowFault::Memory) => return Err(AllocError),
     };
-    if values.len() != problem.space.size() as usize {
+    if values.len() != problem.size() as usize {
         return Ok(None);
     }
     let turned = opposite_row(alloc, right)?;
-    let point = Point::new(problem.space, values);
+    let point = Point::new(problem.space(), values);
     Ok(judged(problem, left, right, &turned, point))
 }

@@ -1,15 +1,15 @@
 //! What right replies say, each theorem as the contract of a function.
 ghost use Rattle.it_factor.specs.RightReplies.{NeverOutOfSteps, OneRightReply, WhatIsShownIsTrue};
 
-/// What shows what it says of the factors is true of them, whatever reply is due: a least factor holds wherever the question's lines
-/// are true, and no smaller one does; where none is told, no factor holds; where no least one is, the one that is told holds, and each
-/// smaller one does.
+/// A reply that shows what it says of the factors is true of them: a least factor holds wherever the question's lines are true, and no
+/// smaller one does; where the reply has no factor, none holds; where it has one that isn't the least, that one holds, and so does each
+/// smaller one.
 pub fn shown_factors_are_true()
     ensures { WhatIsShownIsTrue }
 {}
 
-/// Where no quick run comes first a question has one right reply. With any effort it isn't undecided for want of steps where there is no
-/// budget of them.
+/// Where no quick run comes first, a question has one right reply. With any effort, no reply is undecided for lack of steps where there
+/// is no budget of them.
 pub fn replies_are_determined()
     ensures one { OneRightReply }
     ensures steps { NeverOutOfSteps }

@@ -18,7 +18,7 @@ use it_ratio::types::{Best, BestCause};
 use it_space::{Certificate, Constraint, Point};
 use std::alloc::{AllocError, Global};
 
-/// A certificate: its scale and its sum.
+/// Appends a certificate: its scale and its sum.
 #[tactic(auto, unfolding(it_print::specs::Lines::certificate_text))]
 fn write_proof(
     alloc: Global,
@@ -37,7 +37,7 @@ fn write_proof(
     out.extend_from_slice(sum.as_slice())
 }
 
-/// A factor.
+/// Appends a factor, `num`/`den`.
 fn write_ratio(out: &mut Vec<u8>, num: i128, den: i128) -> Result<(), AllocError>
     ensures { OnOk result (out.new.items ≡ out.old.items ++ signed_decimal num ++ codes "/" ++ signed_decimal den) }
 {
@@ -46,7 +46,7 @@ fn write_ratio(out: &mut Vec<u8>, num: i128, den: i128) -> Result<(), AllocError
     write_signed(out, den)
 }
 
-/// A factor and its certificate.
+/// Appends a factor and its certificate.
 #[tactic(auto, unfolding(crate::specs::Lines::factor_text))]
 fn write_factor(
     alloc: Global,
@@ -138,7 +138,7 @@ fn unbounded_line(
     Ok(out)
 }
 
-/// A number of steps with a phase.
+/// Appends a number of steps with its phase.
 fn write_in_phase(out: &mut Vec<u8>, number: u32, phase: u8) -> Result<(), AllocError>
     ensures { OnOk result (out.new.items ≡ out.old.items ++ decimal number ++ codes " in " ++ decimal phase) }
 {
@@ -147,7 +147,7 @@ fn write_in_phase(out: &mut Vec<u8>, number: u32, phase: u8) -> Result<(), Alloc
     write_number(out, phase as usize)
 }
 
-/// Why the factors stay undecided.
+/// Appends the cause why the factors are undecided.
 #[tactic(auto, unfolding(crate::specs::Lines::best_cause_text))]
 fn write_cause(out: &mut Vec<u8>, cause: BestCause) -> Result<(), AllocError>
     ensures { OnOk result (out.new.items ≡ out.old.items ++ best_cause_text cause) }
@@ -166,7 +166,7 @@ fn write_cause(out: &mut Vec<u8>, cause: BestCause) -> Result<(), AllocError>
     }
 }
 
-/// The line where the factors stay undecided.
+/// The line of a question whose factors are undecided.
 fn undecided_line(alloc: Global, k: usize, cause: BestCause) -> Result<Vec<u8>, AllocError>
     ensures { IfOk result (λ t. t.items ≡ decimal k ++ codes " undecided " ++ best_cause_text cause ++ codes "\n") }
 {

@@ -7,7 +7,6 @@
 ghost use Rattle.std.specs.Prelude.{◌≡◌, ◌≢◌, ◌*ℤ◌, pos, IfOk};
 ghost use Rattle.std.specs.Option.{IfSome};
 ghost use Rattle.it_space.specs.Answers.{certificate_view};
-ghost use Rattle.it_space.specs.Problems.{problem_view};
 ghost use Rattle.it_space.specs.Spaces.{size_of};
 ghost use Rattle.it_ratio.specs.BestViews.{best_view};
 ghost use Rattle.it_best.specs.Ends.{factor_row};
@@ -25,10 +24,10 @@ use it_ratio::types::Best;
 use it_space::{Certificate, Point, Problem, Row, RowFault, value};
 use std::alloc::{AllocError, Global};
 
-/// At most so many numbers are tried.
+/// The most numbers that are tried.
 const ROUNDS: u32 = 64;
 
-/// What makes a factor the answer.
+/// The reason why a factor is the answer.
 #[derive(Drop)]
 pub enum Reason {
     /// A point at which it holds with equality, the left side being above 0 there, so that no smaller one holds.
@@ -37,25 +36,25 @@ pub enum Reason {
     Below(Certificate),
 }
 
-/// A number that may be a factor, and what makes it the answer if it is one.
+/// A number that may be a factor, and the reason why it is the answer if it is one.
 #[derive(Drop)]
 pub struct Trial {
     factor: Fraction,
     reason: Reason,
 }
 
-/// What a run leads to.
+/// The outcome of a run.
 #[derive(Drop)]
 pub enum Step {
     /// The answer.
     Found(Best),
     /// The next number.
     Next(Trial),
-    /// Neither.
+    /// Neither an answer nor a next number.
     Open,
 }
 
-/// The fraction below / above in lowest terms; none where it isn't one, or where a number passes the limit.
+/// The fraction `below` / `above` in lowest terms; None where it is no fraction, or where a number passes the limit.
 fn ratio(above: i128, below: i128) -> Option<Fraction>
     ensures { IfSome result (λ x. pos x.den *ℤ below ≡ x.num *ℤ above) }
 {
@@ -65,7 +64,7 @@ fn ratio(above: i128, below: i128) -> Option<Fraction>
     Some(Fraction::lowest(below, above))
 }
 
-/// The answer that a trial is whose number has a certificate.
+/// The answer of a trial whose number has the certificate `proof`.
 fn answer(trial: Trial, proof: Certificate) -> Best
     ensures { best_view result ≡ answer_view trial (certificate_view proof) }
 {
@@ -90,8 +89,8 @@ fn answer(trial: Trial, proof: Certificate) -> Best
     }
 }
 
-/// What a point leads to at which the left side is below 0 and a factor would hold with equality, after a trial. Where the left side was
-/// above 0 at a point too no factor holds.
+/// The outcome after a point at which the left side is below 0 and `factor` would hold with equality, after the trial `trial`. If the
+/// left side was above 0 at a point too, no factor holds.
 fn after_fall(
     alloc: Global,
     problem: &Problem,
@@ -101,10 +100,10 @@ fn after_fall(
     factor: Fraction,
     point: &Point,
 ) -> Result<Step, AllocError>
-    requires sides { AreSides (problem_view problem.now) left.now right.now }
-    requires trial { IsTrial (problem_view problem.now) left.now right.now trial }
-    requires point { IsPoint (ground_of (problem_view problem.now)) point.now }
-    ensures { IfOk result (IsStep (problem_view problem.now) left.now right.now) }
+    requires sides { AreSides problem.now left.now right.now }
+    requires trial { IsTrial problem.now left.now right.now trial }
+    requires point { IsPoint (ground_of problem.now) point.now }
+    ensures { IfOk result (IsStep problem.now left.now right.now) }
 {
     let Trial { factor: _, reason } = trial;
     match reason {
@@ -123,7 +122,7 @@ fn after_fall(
     }
 }
 
-/// What a point leads to after the last trial, if there was one.
+/// The outcome after the point `point` and the last trial, if there was one.
 fn by_point(
     alloc: Global,
     problem: &Problem,
@@ -132,10 +131,10 @@ fn by_point(
     last: Option<Trial>,
     point: Point,
 ) -> Result<Step, AllocError>
-    requires sides { AreSides (problem_view problem.now) left.now right.now }
-    requires last { IfSome last (IsTrial (problem_view problem.now) left.now right.now) }
-    requires point { IsPoint (ground_of (problem_view problem.now)) point }
-    ensures { IfOk result (IsStep (problem_view problem.now) left.now right.now) }
+    requires sides { AreSides problem.now left.now right.now }
+    requires last { IfSome last (IsTrial problem.now left.now right.now) }
+    requires point { IsPoint (ground_of problem.now) point }
+    ensures { IfOk result (IsStep problem.now left.now right.now) }
 {
     let Ok(above) = value(left, &point) else {
         return Ok(Step::Open);
@@ -161,7 +160,7 @@ fn by_point(
     }
 }
 
-/// What the run about a trial's row leads to.
+/// The outcome of the run about the row of `trial`.
 fn by_row(
     alloc: Global,
     quick: &mut QuickProblem,
@@ -171,10 +170,10 @@ fn by_row(
     trial: Trial,
     row: &Row,
 ) -> Result<Step, AllocError>
-    requires sides { AreSides (problem_view problem.now) left.now right.now }
-    requires trial { IsTrial (problem_view problem.now) left.now right.now trial }
+    requires sides { AreSides problem.now left.now right.now }
+    requires trial { IsTrial problem.now left.now right.now trial }
     requires row { row.now ≡ factor_row (size_of problem.now.space) left.now right.now trial.factor }
-    ensures { IfOk result (IsStep (problem_view problem.now) left.now right.now) }
+    ensures { IfOk result (IsStep problem.now left.now right.now) }
 {
     match settle(alloc, quick, problem, row, QUICK_STEPS)? {
         Some(Proof::Yes(proof)) => Ok(Step::Found(answer(trial, proof))),
@@ -183,7 +182,7 @@ fn by_row(
     }
 }
 
-/// What the run about a trial leads to.
+/// The outcome of the run about `trial`.
 fn after(
     alloc: Global,
     quick: &mut QuickProblem,
@@ -192,9 +191,9 @@ fn after(
     right: &Row,
     trial: Trial,
 ) -> Result<Step, AllocError>
-    requires sides { AreSides (problem_view problem.now) left.now right.now }
-    requires trial { IsTrial (problem_view problem.now) left.now right.now trial }
-    ensures { IfOk result (IsStep (problem_view problem.now) left.now right.now) }
+    requires sides { AreSides problem.now left.now right.now }
+    requires trial { IsTrial problem.now left.now right.now trial }
+    ensures { IfOk result (IsStep problem.now left.now right.now) }
 {
     match factor_row(alloc, problem, left, right, &trial.factor) {
         Ok(row) => by_row(alloc, quick, problem, left, right, trial, &row),
@@ -203,7 +202,7 @@ fn after(
     }
 }
 
-/// The first number: the ratio at a point where the left side is above 0, and where it never is any number, as 0.
+/// The first number, as an outcome: the ratio at a point where the left side is above 0; where it never is, any number will do: 0.
 fn first(
     alloc: Global,
     quick: &mut QuickProblem,
@@ -211,8 +210,8 @@ fn first(
     left: &Row,
     right: &Row,
 ) -> Result<Step, AllocError>
-    requires sides { AreSides (problem_view problem.now) left.now right.now }
-    ensures { IfOk result (IsStep (problem_view problem.now) left.now right.now) }
+    requires sides { AreSides problem.now left.now right.now }
+    ensures { IfOk result (IsStep problem.now left.now right.now) }
 {
     let row = opposite_row(alloc, left)?;
     match settle(alloc, quick, problem, &row, QUICK_STEPS)? {
@@ -225,16 +224,16 @@ fn first(
     }
 }
 
-/// What quick runs find of the factors by which the left side is at least the right one. None where they find nothing, which says
-/// nothing of the factors: where a run gives up, or a number passes the limit.
+/// What quick runs find of the factors by which the left side is at least the right one. None where a run gives up, or a number passes
+/// the limit; that says nothing of the factors.
 pub fn quick_factor(
     alloc: Global,
     problem: &Problem,
     left: &Row,
     right: &Row,
 ) -> Result<Option<Best>, AllocError>
-    requires { AreSides (problem_view problem.now) left.now right.now }
-    ensures { IfOk result (λ o. IfSome o (λ b. IsQuickBest (problem_view problem.now) left.now right.now (best_view b))) }
+    requires { AreSides problem.now left.now right.now }
+    ensures { IfOk result (λ o. IfSome o (λ b. IsQuickBest problem.now left.now right.now (best_view b))) }
 {
     let mut quick = QuickProblem::read(alloc, problem)?;
     let mut step = first(alloc, &mut quick, problem, left, right)?;

@@ -1,7 +1,6 @@
 //! The replies to questions.
 ghost use Rattle.std.specs.Prelude.{◌≡◌, length, true, IfOk};
 ghost use Rattle.std.specs.Option.{IfSome};
-ghost use Rattle.it_space.specs.Problems.{IsProblem, problem_view};
 ghost use Rattle.it_syntax.specs.Givens.{IsRelationOf};
 ghost use Rattle.it_syntax.specs.Meaning.{relation_view};
 ghost use Rattle.it_question.specs.Limits.{IsQuestion};
@@ -38,9 +37,9 @@ pub fn reply(
 ) -> Result<RepliedProblem, AllocError>
     requires limits { IsQuestion (question_body question.now) }
     ensures space { IfOk result (λ a. a.problem.space ≡ space_of (problem_names (question_body question.now))) }
-    ensures problem { IfOk result (λ a. AreStated a.problem.space (question_origins (question_body question.now)) (question_demands (question_body question.now)) a.problem.constraints.items) }
+    ensures problem { IfOk result (λ a. AreStated a.problem.space (question_origins (question_body question.now)) (question_demands (question_body question.now)) a.problem.constraints) }
     ensures right { IfOk result (λ a. IsRightReply effort (question_body question.now) (reply_view a.reply)) }
-    ensures printable { IfOk result (λ a. IsPrintable (question_body question.now) (length a.problem.constraints.items) a.reply) }
+    ensures printable { IfOk result (λ a. IsPrintable (question_body question.now) (length a.problem.constraints) a.reply) }
 {
     let problem = problem(alloc, question)?;
     let reply = reply_under(alloc, question, &problem, effort)?;
@@ -55,9 +54,9 @@ fn reply_under(
     effort: Effort,
 ) -> Result<Reply, AllocError>
     requires limits { IsQuestion (question_body question.now) }
-    requires problem { IsProblemOf (question_body question.now) (problem_view problem.now) }
+    requires problem { IsProblemOf (question_body question.now) problem.now }
     ensures right { IfOk result (λ r. IsRightReply effort (question_body question.now) (reply_view r)) }
-    ensures printable { IfOk result (IsPrintable (question_body question.now) (length problem.now.constraints.items)) }
+    ensures printable { IfOk result (IsPrintable (question_body question.now) (length problem.now.constraints)) }
 {
     match &question.verb {
         Verb::Prove(relation) => relation_reply(alloc, problem, relation, effort),
@@ -73,9 +72,8 @@ fn relation_reply(
     relation: &Relation,
     effort: Effort,
 ) -> Result<Reply, AllocError>
-    requires problem { IsProblem (problem_view problem.now) }
     requires relation { IsRelationOf problem.now.space.variables problem.now.space.rates (relation_view relation.now) }
-    ensures { IfOk result (λ r. IsRelationReply (problem_view problem.now) effort (relation_view relation.now) (reply_view r)) }
+    ensures { IfOk result (λ r. IsRelationReply problem.now effort (relation_view relation.now) (reply_view r)) }
 {
     match relation.sign {
         Sign::AtLeast => {
@@ -94,11 +92,10 @@ fn factors(
     relation: &Relation,
     effort: Effort,
 ) -> Result<Best, AllocError>
-    requires problem { IsProblem (problem_view problem.now) }
     requires relation { IsRelationOf problem.now.space.variables problem.now.space.rates (relation_view relation.now) }
-    ensures { IfOk result (λ b. IsFoundByRows (problem_view problem.now) effort (relation_view relation.now) (best_view b)) }
+    ensures { IfOk result (λ b. IsFoundByRows problem.now effort (relation_view relation.now) (best_view b)) }
 {
-    let (left, right) = sides(alloc, relation, problem.space)?;
+    let (left, right) = sides(alloc, relation, problem.space())?;
     match found_first(alloc, problem, &left, &right, effort)? {
         Some(found) => Ok(found),
         None => {
@@ -116,8 +113,8 @@ fn found_first(
     right: &Row,
     effort: Effort,
 ) -> Result<Option<Best>, AllocError>
-    requires { AreSides (problem_view problem.now) left.now right.now }
-    ensures { IfOk result (λ o. IfSome o (λ b. (effort.quick ≡ true) × IsQuickBest (problem_view problem.now) left.now right.now (best_view b))) }
+    requires { AreSides problem.now left.now right.now }
+    ensures { IfOk result (λ o. IfSome o (λ b. (effort.quick ≡ true) × IsQuickBest problem.now left.now right.now (best_view b))) }
 {
     if effort.quick {
         quick_factor(alloc, problem, left, right)

@@ -2,7 +2,7 @@
 use it_ratio::types::Best;
 use it_space::Problem;
 
-/// What is replied to a question in mode `best`.
+/// A reply to a question in mode `best`.
 #[derive(Drop)]
 pub enum Reply {
     /// To `prove E >= F`: which numbers c make c times E at least F.

@@ -1,5 +1,6 @@
--- Facts that determine a point: values of its sets and rates, variables that are constant or functions of others, and sets of independent ones. The
--- other values follow by the axioms of polymatroids (R. W. Yeung, "A Framework for Linear Information Inequalities", 1997).
+-- Facts that determine a point: values of its sets and rates, variables that are constant or functions of others, and sets of
+-- independent ones. The other values follow by the axioms of polymatroids (R. W. Yeung, "A Framework for Linear Information
+-- Inequalities", 1997).
 use Rattle.std.specs.Prelude.{◌≡◌, ℕ, zero, suc, ◌+◌, ◌^◌, ◌<◌, ℤ, pos, ◌+ℤ◌, List, [], ◌++◌, length, map, slice_index_or, cond, false, bit_or, All, codes}
 use Rattle.std.specs.Fmt.{signed_decimal}
 use Rattle.it_space.specs.Rows.{point_of}
@@ -10,7 +11,7 @@ use Rattle.it_print.specs.Lines.{joined_texts, members_from, set_text}
 use Rattle.it_facts.specs.declared.facts.Fact.{Fact}
 use Rattle.it_facts.specs.declared.facts.Fact.TheVariants.{Entropy, Rate, Constant, Equal, Function, Independent}
 
--- the sum of the entropies of those of the first n variables that are members of a set
+-- the sum of the entropies of those of the first n variables that are members of the set
 abbrev pub sum_of_members : ℕ → (ℕ → ℤ) → ℕ → ℤ
 sum_of_members zero p set = pos 0
 sum_of_members (suc i) p set = cond (has_member set i) (p (2 ^ i)) (pos 0) +ℤ sum_of_members i p set
@@ -19,11 +20,11 @@ sum_of_members (suc i) p set = cond (has_member set i) (p (2 ^ i)) (pos 0) +ℤ 
 abbrev pub IsFunction : (ℕ → ℤ) → ℕ → ℕ → Type 0
 IsFunction p x set = p (bit_or set (2 ^ x)) ≡ p set
 
--- the set is a set of some of n variables, and not the empty one
+-- the set is a nonempty set of n variables
 abbrev pub IsSomeSet : ℕ → ℕ → Type 0
 IsSomeSet n set = (0 < set) × (set < 2 ^ n)
 
--- the fact is about some of n variables and of so many rates, and about no empty set
+-- the fact is about variables among n and rates among `rates`, and about no empty set
 abbrev pub IsFactOver : ℕ → ℕ → Fact → Type 0
 IsFactOver n rates (Entropy set value) = IsSomeSet n set
 IsFactOver n rates (Rate rate value) = rate < rates
@@ -41,7 +42,7 @@ IsTrueOf n p (Equal x y) = IsFunction p x (2 ^ y) × IsFunction p y (2 ^ x)
 IsTrueOf n p (Function x set) = IsFunction p x set
 IsTrueOf n p (Independent set) = p set ≡ sum_of_members n p set
 
--- The facts are true of the map, and no other polymatroid with rates has them.
+-- The facts are true of p, and of no other polymatroid with rates.
 pub record Determine (n rates : ℕ) (facts : List Fact) (p : ℕ → ℤ) : Type 0 where
   pub over : All (IsFactOver n rates) facts
   pub true_of : All (IsTrueOf n p) facts
@@ -64,7 +65,7 @@ fact_text v (Independent set) = codes "indep " ++ joined_texts (codes ";") false
 unfoldable pub facts_text : NamesView → List Fact → List ℕ
 facts_text v facts = joined_texts (codes ", ") false (map (fact_text v) facts)
 
--- under these names the text has facts that determine the point of these values, which is 0 past them
+-- under these names the text has facts that determine the point with these values, which is 0 past them
 pub record TellsPoint (v : NamesView) (values : List ℤ) (text : List ℕ) : Type 0 where
   pub facts : List Fact
   pub determine : Determine (length v.variables) (length v.rates) facts (point_of values)

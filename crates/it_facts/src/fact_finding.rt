@@ -1,4 +1,4 @@
-//! Facts that determine a point. What is found is judged before it is told, so no clause says it here.
+//! Facts that determine a point. They are judged before they are written, so no clause here says it.
 ghost use Rattle.std.specs.Prelude.{◌≤◌, ◌<◌, ◌^◌};
 ghost use Rattle.it_space.specs.Spaces.{IsSpace};
 
@@ -9,10 +9,10 @@ use crate::settling::{
 use it_space::{Point, Space, VarSet};
 use std::alloc::{AllocError, Global};
 
-/// So many facts at most are tried one by one, whether they can be left out.
+/// The most facts of which each one is tried whether the others do without it; more facts are all kept.
 const MOST_TRIED: usize = 64;
 
-/// The fact about a variable alone: that it is constant, that it and an earlier one are functions of each other, or its entropy.
+/// The fact about one variable: that it is constant, that it and an earlier one are functions of each other, or its entropy.
 fn variable_fact(point: &Point, variable: u8) -> Fact
     requires { variable < 16 }
 {
@@ -29,7 +29,7 @@ fn variable_fact(point: &Point, variable: u8) -> Fact
     Fact::Entropy { set, value }
 }
 
-/// The set without those of its members, from the last one on, without which it still determines the variable.
+/// `set` without each member, tried from the last one on, without which it still determines the variable.
 fn least_set(point: &Point, n: u8, variable: u8, set: VarSet) -> VarSet
     requires few { n ≤ 16 }
     requires variable { variable < 16 }
@@ -44,7 +44,7 @@ fn least_set(point: &Point, n: u8, variable: u8, set: VarSet) -> VarSet
     least
 }
 
-/// That the last of a set's members that is one is a function of some others.
+/// The fact that a member of `set`, the last one that is, is a function of others of its members; None if no member is.
 fn function_fact(point: &Point, n: u8, set: VarSet) -> Option<Fact>
     requires { n ≤ 16 }
 {
@@ -59,7 +59,7 @@ fn function_fact(point: &Point, n: u8, set: VarSet) -> Option<Fact>
     None
 }
 
-/// The set with each further variable, but a constant, with which its members stay independent.
+/// `set` with each further variable that isn't constant and leaves its members independent, tried in order.
 fn greatest_set(point: &Point, n: u8, set: VarSet) -> VarSet
     requires { n ≤ 16 }
 {
@@ -91,7 +91,7 @@ fn set_fact(point: &Point, n: u8, set: VarSet) -> Fact
     }
 }
 
-/// Adds a fact for each set whose value doesn't follow from those before.
+/// Appends a fact for each set whose value doesn't follow from those before.
 fn put_set_facts(facts: &mut Vec<Fact>, point: &Point, space: Space) -> Result<(), AllocError>
     requires { IsSpace space }
 {
@@ -104,7 +104,7 @@ fn put_set_facts(facts: &mut Vec<Fact>, point: &Point, space: Space) -> Result<(
     Ok(())
 }
 
-/// Adds the value of each rate.
+/// Appends the value of each rate.
 fn put_rates(facts: &mut Vec<Fact>, point: &Point, space: Space) -> Result<(), AllocError>
     requires { IsSpace space }
 {
@@ -115,7 +115,7 @@ fn put_rates(facts: &mut Vec<Fact>, point: &Point, space: Space) -> Result<(), A
     Ok(())
 }
 
-/// All facts but the one at a place.
+/// `facts` without fact number `place`, counted from 0.
 fn without(alloc: Global, facts: &[Fact], place: usize) -> Result<Vec<Fact>, AllocError> {
     let mut others = Vec::new(alloc);
     for (i, fact) in facts.iter().enumerate() {
@@ -126,7 +126,7 @@ fn without(alloc: Global, facts: &[Fact], place: usize) -> Result<Vec<Fact>, All
     Ok(others)
 }
 
-/// The facts without each one, from the last on, that isn't needed beside the others.
+/// `facts` without each fact, tried from the last one on, without which the others still determine the point.
 fn needed(
     alloc: Global,
     facts: Vec<Fact>,

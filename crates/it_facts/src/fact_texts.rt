@@ -11,7 +11,7 @@ use it_space::VarSet;
 use it_syntax::Names;
 use std::alloc::{AllocError, Global};
 
-/// The name of a variable.
+/// Appends the name of a variable.
 fn write_variable(out: &mut Vec<u8>, names: &Names, variable: u8) -> Result<(), AllocError>
     requires { variable < length names.now.variables }
     ensures { OnOk result (out.new.items ≡ out.old.items ++ variable_name names.now variable) }
@@ -19,7 +19,7 @@ fn write_variable(out: &mut Vec<u8>, names: &Names, variable: u8) -> Result<(), 
     out.extend_from_slice(names.variable_name(variable))
 }
 
-/// The name of a rate.
+/// Appends the name of a rate.
 fn write_rate(out: &mut Vec<u8>, names: &Names, rate: u8) -> Result<(), AllocError>
     requires { rate < length names.now.rates }
     ensures { OnOk result (out.new.items ≡ out.old.items ++ slice_index_or names.now.rates rate []) }
@@ -27,7 +27,7 @@ fn write_rate(out: &mut Vec<u8>, names: &Names, rate: u8) -> Result<(), AllocErr
     out.extend_from_slice(names.rate_name(rate))
 }
 
-/// A separator, where something stands before.
+/// Appends the separator, if `some`: a text stands before.
 fn write_between(out: &mut Vec<u8>, some: bool, separator: &[u8]) -> Result<(), AllocError>
     ensures { OnOk result (out.new.items ≡ out.old.items ++ (if some then separator.now else [])) }
 {
@@ -37,8 +37,8 @@ fn write_between(out: &mut Vec<u8>, some: bool, separator: &[u8]) -> Result<(), 
     Ok(())
 }
 
-/// The name of a variable that is a member of the set, after `;` where something stands before. Answers whether something
-/// stands now.
+/// Appends the name of `variable` if it is a member of `set`, after `;` if `some`: a name stands before. Gives whether a name
+/// stands there now.
 fn write_member(
     out: &mut Vec<u8>,
     some: bool,
@@ -58,7 +58,7 @@ fn write_member(
     Ok(true)
 }
 
-/// The names of a set's members with `;` between them, in order of declaration.
+/// Appends the names of a set's members with `;` between them, in order of declaration.
 fn write_members(out: &mut Vec<u8>, names: &Names, set: VarSet) -> Result<(), AllocError>
     ensures { OnOk result (out.new.items ≡ out.old.items ++ joined_texts (codes ";") false (members_from 0 names.now.variables set)) }
 {
@@ -69,7 +69,7 @@ fn write_members(out: &mut Vec<u8>, names: &Names, set: VarSet) -> Result<(), Al
     Ok(())
 }
 
-/// A fact.
+/// Appends the text of a fact.
 #[tactic(auto, unfolding(crate::specs::Points::fact_text))]
 fn write_fact(out: &mut Vec<u8>, names: &Names, fact: &Fact) -> Result<(), AllocError>
     requires { IsFactOver (length names.now.variables) (length names.now.rates) fact.now }
@@ -109,7 +109,7 @@ fn write_fact(out: &mut Vec<u8>, names: &Names, fact: &Fact) -> Result<(), Alloc
     }
 }
 
-/// A fact, after `, ` where something stands before.
+/// Appends the text of a fact, after `, ` if `some`: a fact stands before.
 fn write_next(out: &mut Vec<u8>, some: bool, names: &Names, fact: &Fact) -> Result<(), AllocError>
     requires { IsFactOver (length names.now.variables) (length names.now.rates) fact.now }
     ensures { OnOk result (out.new.items ≡ out.old.items ++ (if some then codes ", " else []) ++ fact_text names.now fact.now) }
@@ -118,7 +118,7 @@ fn write_next(out: &mut Vec<u8>, some: bool, names: &Names, fact: &Fact) -> Resu
     write_fact(out, names, fact)
 }
 
-/// Facts in order, with `, ` between them.
+/// The text of facts in order, with `, ` between them.
 #[tactic(auto, unfolding(crate::specs::Points::facts_text))]
 pub fn facts_text(alloc: Global, names: &Names, facts: &[Fact]) -> Result<Vec<u8>, AllocError>
     requires { All (IsFactOver (length names.now.variables) (length names.now.rates)) facts.now }

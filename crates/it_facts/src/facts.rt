@@ -2,7 +2,7 @@
 
 use it_space::VarSet;
 
-/// What is said of a point: the entropy of a set, the value of a rate; that a variable is constant, that two are functions of
+/// A fact about a point: the entropy of a set, the value of a rate; that a variable is constant, that two are functions of
 /// each other, that one is a function of a set, that the members of a set are independent.
 #[derive(Clone, Copy)]
 pub enum Fact {

@@ -1,4 +1,4 @@
-//! The values of a point, as the few facts that tell it.
+//! The values of a point, as the few facts that determine it.
 ghost use Rattle.std.specs.Prelude.{◌≤◌, IfOk, IfSome, length};
 ghost use Rattle.it_question.specs.Limits.{IsQuestion};
 ghost use Rattle.it_question.specs.Questions.{question_body};
@@ -15,7 +15,7 @@ use it_space::Point;
 use it_syntax::Names;
 use std::alloc::{AllocError, Global};
 
-/// The text of facts, where they determine the point.
+/// The text of `facts`; None where they don't determine the point.
 fn judged(
     alloc: Global,
     names: &Names,

@@ -12,14 +12,14 @@ use crate::facts::Fact;
 use it_fraction::{Wide, sum};
 use it_space::{Point, Space, VarSet};
 
-/// Whether two numbers are the same.
+/// Whether `a` and `b` are equal.
 fn are_equal(a: i128, b: i128) -> bool
     ensures { OnTrue result (a ≡ b) }
 {
     a == b
 }
 
-/// The value at a coordinate; 0 at the empty set's place and past the last value.
+/// The value at a coordinate; 0 at coordinate 0, which is the empty set, and past the last value.
 pub fn value_at(point: &Point, coordinate: u32) -> i128
     ensures { result ≡ point_of point.now coordinate }
 {
@@ -37,7 +37,7 @@ pub fn entropy(point: &Point, set: VarSet) -> i128
     value_at(point, set.number() as u32)
 }
 
-/// Whether two sets have one entropy.
+/// Whether two sets have the same entropy.
 fn have_one_entropy(point: &Point, set: VarSet, other: VarSet) -> bool
     ensures { OnTrue result (point_of point.now set ≡ point_of point.now other) }
 {
@@ -53,7 +53,7 @@ pub fn is_function(point: &Point, variable: u8, set: VarSet) -> bool
     have_one_entropy(point, both, set)
 }
 
-/// A sum with the entropy of a variable, where that is a member of the set.
+/// `total`, with the entropy of the variable added if it is a member of `set`.
 fn with_member(total: i128, point: &Point, set: VarSet, variable: u8) -> Result<i128, Wide>
     requires { variable < 16 }
     ensures { IfOk result (λ t. t ≡ cond (has_member set variable) (point_of point.now (2 ^ variable)) (pos 0) +ℤ total) }
@@ -65,7 +65,7 @@ fn with_member(total: i128, point: &Point, set: VarSet, variable: u8) -> Result<
     }
 }
 
-/// The sum of the entropies of a set's members, of the first n variables.
+/// The sum of the entropies of those of the first `n` variables that are members of `set`.
 fn sum_of_members(point: &Point, n: u8, set: VarSet) -> Result<i128, Wide>
     requires { n ≤ 16 }
     ensures { IfOk result (λ t. t ≡ sum_of_members n (point_of point.now) set) }
@@ -142,7 +142,7 @@ fn is_over(fact: &Fact, space: Space) -> bool
     }
 }
 
-/// Whether a set is one of n variables and not the empty one.
+/// Whether `set` is a nonempty set of `n` variables.
 fn is_some_set(set: VarSet, n: u8) -> bool
     requires { n ≤ 10 }
     ensures { OnTrue result (IsSomeSet n set) }
@@ -176,7 +176,7 @@ fn are_facts_of(facts: &[Fact], point: &Point, space: Space) -> bool
     true
 }
 
-/// Whether a set has the value that it has without a variable, which is a function of others of its members.
+/// Whether `set` has the same value without its member `variable`, which is a function of `of`, a part of its other members.
 fn settles_function(point: &Point, n: u8, set: VarSet, variable: u8, of: VarSet) -> bool
     requires few { n ≤ 10 }
     requires below { set < 2 ^ n }
@@ -191,7 +191,7 @@ fn settles_function(point: &Point, n: u8, set: VarSet, variable: u8, of: VarSet)
     }
 }
 
-/// The same without a constant.
+/// Whether `set` has the same value without its member `variable`, which is constant.
 fn settles_constant(point: &Point, n: u8, set: VarSet, variable: u8) -> bool
     requires few { n ≤ 10 }
     requires below { set < 2 ^ n }
@@ -201,8 +201,8 @@ fn settles_constant(point: &Point, n: u8, set: VarSet, variable: u8) -> bool
     settles_function(point, n, set, variable, VarSet::empty())
 }
 
-/// Whether a set has the value that it has with another variable in the place of one, of which it is a function and the other
-/// way round, and that set comes before it.
+/// Whether `set` has the same value with `other` in the place of its member `variable`, where each is a function of the other, and
+/// whether the set with `other` comes before it.
 fn settles_equal(point: &Point, n: u8, set: VarSet, variable: u8, other: u8) -> bool
     requires few { n ≤ 10 }
     requires below { set < 2 ^ n }
@@ -219,7 +219,7 @@ fn settles_equal(point: &Point, n: u8, set: VarSet, variable: u8, other: u8) -> 
     }
 }
 
-/// Whether a set is that of a single variable, of the first n.
+/// Whether `set` is that of one variable, of the first `n`.
 fn is_single(set: VarSet, n: u8) -> bool
     requires { n ≤ 10 }
     ensures { OnFalse result ((i : ℕ) → i < n → set ≢ 2 ^ i) }
@@ -232,7 +232,7 @@ fn is_single(set: VarSet, n: u8) -> bool
     false
 }
 
-/// Whether a set of two variables or more is a part of a set of independent ones, and its value is the sum of theirs.
+/// Whether `set` isn't that of one variable, lies in the independent set `whole`, and has the sum of its members' values as its value.
 fn settles_independent(point: &Point, n: u8, set: VarSet, whole: VarSet) -> bool
     requires few { n ≤ 10 }
     requires below { whole < 2 ^ n }
@@ -289,7 +289,7 @@ pub fn follows(facts: &[Fact], point: &Point, space: Space, set: VarSet) -> bool
     false
 }
 
-/// Whether the value of each set follows.
+/// Whether the value of each set follows from the facts.
 fn tell_sets(facts: &[Fact], point: &Point, space: Space) -> bool
     requires { IsSpace space }
     ensures { OnTrue result ((s : ℕ) → s < 2 ^ space.variables → Follows space.variables (point_of point.now) facts.now s) }
@@ -302,7 +302,7 @@ fn tell_sets(facts: &[Fact], point: &Point, space: Space) -> bool
     true
 }
 
-/// Whether a fact has the value of a rate.
+/// Whether the fact gives the value of `rate`.
 fn tells_rate(fact: &Fact, rate: u8) -> bool
     ensures { OnTrue result (TellsRate rate fact.now) }
 {
@@ -312,7 +312,7 @@ fn tells_rate(fact: &Fact, rate: u8) -> bool
     }
 }
 
-/// Whether one of the facts has the value of a rate.
+/// Whether one of the facts gives the value of `rate`.
 fn tell_rate(facts: &[Fact], rate: u8) -> bool
     ensures { OnTrue result (TellRate facts.now rate) }
 {
@@ -324,7 +324,7 @@ fn tell_rate(facts: &[Fact], rate: u8) -> bool
     false
 }
 
-/// Whether the facts have the value of each rate.
+/// Whether the facts give the values of the first `rates` rates.
 fn tell_rates(facts: &[Fact], rates: u8) -> bool
     ensures { OnTrue result ((r : ℕ) → r < rates → TellRate facts.now r) }
 {

@@ -43,12 +43,12 @@ one_prefix_begins_other (l ∷ p) (m ∷ q) a b e =
       ]
     ]
 
--- what nothing is said against isn't flagged
+-- no flag stands inside letters without flags
 clean_not_flagged : (prefix d : List Letter) (l : Letter) (more : FlaggedLetters) (c : Code) → FlaggedAt (without_flags (prefix ++ (l ∷ d)) ++ more) prefix c → ⊥
 clean_not_flagged [] d l more c k = let e : None ≡ Some c = second_is (l, None) (k.0, Some c) (without_flags d ++ more) k.1 k.2 in absurd cc
 clean_not_flagged (x ∷ prefix) d l more c k = clean_not_flagged prefix d l more c (k.0, k.1, same_tails (x, None) (x, None) (without_flags (prefix ++ (l ∷ d)) ++ more) (without_flags prefix ++ ((k.0, Some c) ∷ k.1)) k.2)
 
--- the same of letters that are so
+-- nor in m, which begins with such letters
 not_flagged_as : (m : FlaggedLetters) (prefix d : List Letter) (l : Letter) (more : FlaggedLetters) (c : Code) → m ≡ without_flags (prefix ++ (l ∷ d)) ++ more → FlaggedAt m prefix c → ⊥
 not_flagged_as m prefix d l more c e k = clean_not_flagged prefix d l more c (subst (λ (m : FlaggedLetters). FlaggedAt m prefix c) e k)
 

@@ -5,7 +5,7 @@ use Rattle.it_forms.specs.Letters.{Letter, FlaggedLetters, letters, without_flag
 use Rattle.it_forms.proofs.LetterLemmas.{cleaned_append}
 use Rattle.it_forms.specs.Reads.{Fault, Reads, ◌>>=◌}
 
--- m is k after letters that nothing is said against
+-- m is k after letters without flags
 pub record Clears (m k : FlaggedLetters) : Type 0 where
   pub prefix : List Letter
   pub is : m ≡ without_flags prefix ++ k
@@ -44,7 +44,7 @@ flags_then m n f p q = record { prefix = p.prefix ++ q.prefix; letter = q.letter
 pub answers_ok : {A : Type 0} (x : A) (k : FlaggedLetters) → Answers (Ok (x, letters k)) k x k
 answers_ok x k = inl (refl, passes_none k)
 
--- a letter that nothing is said against stands in front
+-- a letter without a flag stands in front
 pub answers_cons : {A : Type 0} (l : Letter) (r : Reads A) (m : FlaggedLetters) (x : A) (k : FlaggedLetters) → Answers r m x k → Answers r ((l, None) ∷ m) x k
 answers_cons l r m x k (inl a) = inl (a.0, passes_cons l m k a.1)
 answers_cons l r m x k (inr b) = inr (b.0, (b.1.0, flags_cons l m b.0 b.1.1))

@@ -16,7 +16,7 @@ pub letters_cleaned : (p : List Letter) → letters (without_flags p) ≡ p
 letters_cleaned [] = refl
 letters_cleaned (l ∷ p) = ap (λ (t : List Letter). l ∷ t) (letters_cleaned p)
 
--- the letters of a spelling after letters that nothing is said against
+-- the letters of a spelling after letters without flags
 pub letters_after : (p : List Letter) (m : FlaggedLetters) → letters (without_flags p ++ m) ≡ p ++ letters m
 letters_after p m = letters_append (without_flags p) m ∙ ap (λ (t : List Letter). t ++ letters m) (letters_cleaned p)
 
@@ -26,7 +26,7 @@ second_is x y a b e = let h : x ≡ y = cc in ap (λ (p : Letter × Option Code)
 pub same_tails : (x y : Letter × Option Code) (a b : FlaggedLetters) → x ∷ a ≡ y ∷ b → a ≡ b
 same_tails x y a b e = cc
 
--- in letters that nothing is said against is no flag
+-- letters without flags have no flag
 pub clean_is_clean : (ls prefix : List Letter) (c : Code) → FlaggedAt (without_flags ls) prefix c → ⊥
 clean_is_clean [] [] c k = let e = k.2 in absurd cc
 clean_is_clean (l ∷ ls) [] c k = let e : None ≡ Some c = second_is (l, None) (k.0, Some c) (without_flags ls) k.1 k.2 in absurd cc

@@ -18,7 +18,7 @@ HasNoEnd (Then {A} f g) = HasNoEnd f × ((a : A) → HasNoEnd (g a))
 HasNoEnd (If {A} t g h) = NoEndAmong t.kinds × ((a : A) → HasNoEnd (g a)) × HasNoEnd h
 HasNoEnd (While {A} {B} ks says step a) = NoEndAmong ks × ((c : A) (b : B) → HasNoEnd (step c b))
 
--- what is said against the first letter changes nothing of it
+-- the flag of the first letter changes nothing of it
 pub no_end_flagged : {A : Type 0} (o : Option Code) (f : Form A) → HasNoEnd f → HasNoEnd (flagged o f)
 unfolding HasNoEnd flagged
 no_end_flagged o (Give a) h = h
@@ -27,7 +27,7 @@ no_end_flagged o (Then f g) h = (no_end_flagged o f h.0, h.1)
 no_end_flagged o (If t g other) h = (h.0, h.1, no_end_flagged o other h.2)
 no_end_flagged o (While ks says step a) h = h
 
--- nor do words that don't stand in front
+-- nor do words that may not stand in front
 line_end_apart : (ts : List (List ℕ)) (ks : List Kind) → is_apart LineEnd (map (without ts) ks) ≡ is_apart LineEnd ks
 line_end_apart ts [] = refl
 line_end_apart ts (k ∷ ks) = ap (λ (b : Bool). b && is_apart LineEnd (map (without ts) ks)) (by_kind k) ∙ ap (λ (b : Bool). are_apart LineEnd k && b) (line_end_apart ts ks)

@@ -116,7 +116,7 @@ pub has_symbol : (s : Symbol) → Has (Take (symbol s)) (one_of (Punctuation s �
 unfolding Has
 has_symbol s = (Sym s, rw ((bytes_eq-Decides (symbol_text s) (symbol_text s)).1 refl) refl, fits_same (one_of (Punctuation s ∷ [])))
 
--- what is said against the first letter changes no outline
+-- the flag of the first letter changes no outline
 pub has_flagged : {A : Type 0} (m : Option Code) (f : Form A) (o : Outline) → Has f o → Has (flagged m f) o
 unfolding Has flagged
 has_flagged m (Give a) o h = h

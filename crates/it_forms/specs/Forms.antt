@@ -32,12 +32,12 @@ is_of LineEnd End = true
 is_of FileEnd (Bad codes.Unfinished) = true
 is_of k l = false
 
--- whether it is of one of these kinds
+-- whether a letter is of one of these kinds
 abbrev pub is_among : List Kind → Letter → Bool
 is_among ks l = list_any (λ k. is_of k l) ks
 
--- A terminal of the grammar: letters of some kinds, each with what the rules say against it where it stands, and with what
--- it says.
+-- A terminal of the grammar: letters of some kinds. `says` gives the flag that a letter has where it stands, if any, and the value
+-- that it says.
 pub record Terminal (A : Type 0) : Type 0 where
   pub kinds : List Kind
   pub says : Letter → Option Code × A

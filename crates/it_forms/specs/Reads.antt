@@ -1,14 +1,14 @@
--- What is read of letters from left to right: a value and the letters left, or a fault. No public clause cites this module.
+-- The results of reading letters from left to right: a value and the letters left, or a fault. No public clause cites this module.
 use Rattle.std.specs.Prelude.{List, Result, Ok, Err}
 use Rattle.it_forms.specs.declared.types.Code.{Code}
 use Rattle.it_forms.specs.Letters.{Letter}
 use Rattle.it_forms.specs.FirstFault.{own_code}
 
--- a fault and what is left at it
+-- a fault: its code, and the letters left at it
 abbrev pub Fault : Type 0
 Fault = Code × List Letter
 
--- a value and what is left after it, or a fault
+-- a value and the letters left after it, or a fault
 abbrev pub Reads : Type 0 → Type 0
 Reads A = Result (A × List Letter) Fault
 
@@ -18,6 +18,6 @@ abbrev pub ◌>>=◌ : {A B : Type 0} → Result A Fault → (A → Result B Fau
 (Ok x) >>= f = f x
 (Err e) >>= f = Err e
 
--- no rule goes on with what stands there
+-- the fault where no rule goes on with the next letter
 abbrev pub no_rule : {A : Type 0} → List Letter → Result A Fault
 no_rule ls = Err (own_code ls, ls)

@@ -12,11 +12,11 @@ infixl 10 ◌>>=◌ ◌>>◌
 abbrev pub ◌>>=◌ : {A B : Type 0} → Form A → (A → Form B) → Form B
 f >>= g = Then f g
 
--- the same, where what the first one says counts for nothing
+-- one form after the other, without the value of the first one
 abbrev pub ◌>>◌ : {A B : Type 0} → Form A → Form B → Form B
 f >> g = Then f (λ a. g)
 
--- letters of these kinds, against which nothing is ever said
+-- letters of these kinds, which are never flagged
 abbrev pub just : {A : Type 0} → List Kind → A → Terminal A
 just ks a = record { kinds = ks; says = λ l. (None, a) }
 
@@ -28,7 +28,7 @@ symbol s = just (Punctuation s ∷ []) tt
 abbrev pub word : List ℕ → Terminal (Unit {0})
 word w = just (Keyword w ∷ []) tt
 
--- a word, with this flag
+-- a word, flagged by `flag`
 abbrev pub flagged_word : List ℕ → Option Code → Terminal (Unit {0})
 flagged_word w flag = record { kinds = Keyword w ∷ []; says = λ l. (flag, tt) }
 
@@ -42,7 +42,7 @@ abbrev pub number_of : Letter → ℕ
 number_of (Number n) = n
 number_of l = 0
 
--- a word other than these, by what is said against it and what it says
+-- a word other than these; `judge` gives its flag and its value
 abbrev pub word_but : {A : Type 0} → List (List ℕ) → (List ℕ → Option Code × A) → Terminal A
 word_but ts judge = record { kinds = WordBut ts ∷ []; says = λ l. judge (text_of l) }
 
@@ -58,7 +58,7 @@ zero_alone = just (Zero ∷ []) tt
 abbrev pub positive : Terminal ℕ
 positive = record { kinds = Positive ∷ []; says = λ l. (None, number_of l) }
 
--- a number, by what is said against it
+-- a number; `judge` gives its flag
 abbrev pub number : (ℕ → Option Code) → Terminal ℕ
 number judge = record { kinds = Zero ∷ Positive ∷ []; says = λ l. (judge (number_of l), number_of l) }
 
@@ -77,23 +77,23 @@ to_end f = do
   line_end
   Give x
 
--- as often as a terminal of these kinds stands, it and a form, whose value is put to the others
+-- any number of times a letter of these kinds and a form; `put` puts the form's value to those before
 abbrev pub each : {A B C : Type 0} → List Kind → (A → Letter → Option Code × B) → (A → B → Form C) → (A → C → A) → A → Form A
 each ks says item put a = While ks says (λ a b. Then (item a b) (λ c. Give (put a c))) a
 
--- the same after a symbol
+-- any number of times a symbol and a form
 abbrev pub each_after : {A C : Type 0} → Symbol → (A → Form C) → (A → C → A) → A → Form A
 each_after s item put a = each (Punctuation s ∷ []) (λ a l. (None, tt {0})) (λ a u. item a) put a
 
--- the same after a word, which may be flagged
+-- any number of times a word, which may be flagged, and a form
 abbrev pub each_flagged : {A C : Type 0} → List ℕ → (A → Option Code) → (A → Form C) → (A → C → A) → A → Form A
 each_flagged w flag item put a = each (Keyword w ∷ []) (λ a l. (flag a, tt {0})) (λ a u. item a) put a
 
--- the terminal, with this flag where nothing else is said
+-- the terminal, flagged by o where it has no other flag
 abbrev pub flagged_terminal : {A : Type 0} → Option Code → Terminal A → Terminal A
 flagged_terminal o t = record { kinds = t.kinds; says = λ l. (option_or (t.says l).0 o, (t.says l).1) }
 
--- the form, with this flag against its first letter where nothing else is said
+-- the form, its first letter flagged by o where it has no other flag
 unfoldable pub flagged : {A : Type 0} → Option Code → Form A → Form A
 flagged o (Give a) = Give a
 flagged o (Take t) = Take (flagged_terminal o t)
@@ -101,17 +101,17 @@ flagged o (Then f g) = Then (flagged o f) g
 flagged o (If t g h) = If (flagged_terminal o t) g (flagged o h)
 flagged o (While ks says step a) = While ks says step a
 
--- against a letter, where n more such are allowed
+-- the flag of a letter of which n more are allowed: `Many` if n is 0
 abbrev pub limit_flag : ℕ → Option Code
 limit_flag zero = Some codes.Many
 limit_flag (suc n) = None
 
--- this code, where there is no value
+-- the flag c, where there is no value
 abbrev pub missing_flag : {A : Type 0} → Code → Option A → Option Code
 missing_flag c None = Some c
 missing_flag c (Some x) = None
 
--- the form, where n more are allowed
+-- the form, where n more are allowed: flagged by `Many` if n is 0
 abbrev pub allowed : {A : Type 0} → ℕ → Form A → Form A
 allowed n f = flagged (limit_flag n) f
 

@@ -1,4 +1,4 @@
-//! What a text is made of beside words and numbers, and what is wrong with one.
+//! The symbols of a text, and the codes of its faults.
 
 /// The symbols, in order: `(` `)` `,` `;` `|` `+` `-` `->` `>=` `<=` `=` `:=` `/`.
 #[derive(Clone, Copy, Debug, PartialEq, Eq)]

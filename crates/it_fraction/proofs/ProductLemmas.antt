@@ -1,4 +1,4 @@
--- The product of two fractions in lowest terms: the common divisors across are taken out first.
+-- The product of two fractions in lowest terms: common divisors of numerator and denominator across are divided out first.
 use Rattle.std.proofs.Common.{◌≡◌, ℕ, zero, suc, ◌*◌, ◌/◌, ◌<◌, ℤ, pos, ◌*ℤ◌, unsigned_abs, [], ◌∷◌, refl, sym, ap₂, subst, ◌∙◌, ◌↔◌, arith, mul-pos}
 use Rattle.std.proofs.lemmas.Int.{unsigned_abs-mul}
 use Rattle.std.proofs.lemmas.Nat.Gcd.{IsGcd-swap, dvd_refl}
@@ -21,7 +21,7 @@ use native.Mathlib.Nat.{div-mul_cancel, dvd-mul_right_of_dvd}
 rest_divides : (a g : ℕ) → g ∣ a → a / g ∣ a
 rest_divides a g h = subst (λ n. a / g ∣ n) (div-mul_cancel g h) (dvd-mul_right_of_dvd (a / g) (dvd_refl (a / g)) g)
 
--- what is left of a number above 0 is above 0
+-- the quotient of a number above 0 by a divisor is above 0
 pub rest_pos : (a g : ℕ) → g ∣ a → 0 < a → 0 < a / g
 rest_pos a g h p = quotient_some (a / g) (div-mul_cancel g h)
   where

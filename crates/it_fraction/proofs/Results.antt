@@ -1,8 +1,8 @@
--- Results that are refused.
+-- Results that are `Wide`.
 use Rattle.std.proofs.Common.{◌≡◌, ◌↔◌, Ok, Err, Result, ◌∙◌}
 use Rattle.std.specs.Result.{OkIff, IsErr}
 
--- a refusal is right where what would fit doesn't hold
+-- `Wide` is right if the condition that the numbers fit doesn't hold
 pub OkIff-err : {T E : Type 0} (r : Result T E) (P : Type 0) (v : T) → IsErr r → ¬ P → OkIff r P v
 OkIff-err (Ok x) P v h n = absurd (cc)
 OkIff-err (Err e) P v h n = n

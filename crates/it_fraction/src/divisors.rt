@@ -6,7 +6,7 @@ ghost use Rattle.it_number.specs.Limit.{IsWithin};
 use crate::fraction::Wide;
 use crate::steps::{common_divisor, product, quotient};
 
-/// The greatest common divisor, at least 0; 0 of 0 and 0.
+/// The greatest common divisor of `a` and `b`, at least 0; that of 0 and 0 is 0.
 pub fn gcd(a: i128, b: i128) -> i128
     requires a_within { IsWithin a }
     requires b_within { IsWithin b }
@@ -16,7 +16,7 @@ pub fn gcd(a: i128, b: i128) -> i128
     common_divisor(a.unsigned_abs(), b.unsigned_abs()) as i128
 }
 
-/// The least common multiple of two numbers above 0.
+/// The least common multiple of `a` and `b`, both above 0; `Wide` if it passes the limit.
 pub fn lcm(a: i128, b: i128) -> Result<i128, Wide>
     requires a_some { pos 1 ≤ℤ a }
     requires b_some { pos 1 ≤ℤ b }

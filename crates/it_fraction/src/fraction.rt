@@ -19,7 +19,7 @@ use crate::sums::{parts_sum, whole_sum};
 use std::cmp::Ordering;
 use std::marker::Model;
 
-/// A number that an operation names is more than 2^127 - 1 in absolute value.
+/// A number that an operation forms is more than 2^127 - 1 in absolute value.
 #[derive(Debug, Clone, Copy, PartialEq, Eq)]
 pub struct Wide;
 
@@ -47,7 +47,7 @@ impl Model for Fraction {
     ghost invariant = { λ f. (IsWithin f.top) × (IsWithin (pos f.bottom)) };
 }
 
-/// The fraction of a top and a bottom that have no common divisor.
+/// The fraction top / bottom, where the two have no common divisor above 1.
 pub fn in_lowest_terms(top: i128, bottom: u128) -> Fraction
     requires top_within { IsWithin top }
     requires bottom_within { IsWithin (pos bottom) }
@@ -69,7 +69,7 @@ fn reduce(num: i128, den: u128) -> Fraction
     in_lowest_terms(signed_quotient(num, shared), quotient(den, shared))
 }
 
-/// Whether both bottoms are 1; where it says no they may be all the same.
+/// Whether the denominators `b` and `d` are both 1. The contract covers `true` only.
 #[inline]
 #[tactic(auto, using(crate::proofs::DivisorLemmas::both_one))]
 fn are_one(b: u128, d: u128) -> bool
@@ -77,12 +77,12 @@ fn are_one(b: u128, d: u128) -> bool
     requires d_some { 0 < d }
     ensures yes { OnTrue result ((b ≡ 1) × (d ≡ 1)) }
 {
-    // written out, so that the prover has each case with its test
+    // written out, so that the prover sees each case with its test
     if b | d == 1 { true } else { false }
 }
 
 impl Fraction {
-    /// The whole number as a fraction.
+    /// The fraction value / 1.
     pub fn whole(value: i128) -> Fraction
         requires { IsWithin value }
         ensures { result ≡ integer value }
@@ -90,7 +90,7 @@ impl Fraction {
         in_lowest_terms(value, 1)
     }
 
-    /// num / den, where den may be below 0.
+    /// The fraction num / den, where `den` may be below 0.
     pub fn lowest(num: i128, den: i128) -> Fraction
         requires num_within { IsWithin num }
         requires den_within { IsWithin den }
@@ -122,13 +122,13 @@ impl Fraction {
         self.bottom as i128
     }
 
-    /// Whether it is 0.
+    /// Whether the number is 0.
     #[tactic(auto, using(crate::proofs::ZeroLemmas::top_of_zero))]
     pub fn is_zero(self) -> bool
         ensures yes { OnTrue result (self ≡ integer (pos 0)) }
         ensures no { OnFalse result (self ≢ integer (pos 0)) }
     {
-        // written out, so that the prover has each case with its test
+        // written out, so that the prover sees each case with its test
         if self.top == 0 { true } else { false }
     }
 
@@ -137,7 +137,7 @@ impl Fraction {
         ensures yes { OnTrue result (is_at_least_zero self ≡ false) }
         ensures no { OnFalse result (is_at_least_zero self ≡ true) }
     {
-        // written out, so that the prover has each case with its test
+        // written out, so that the prover sees each case with its test
         if self.top < 0 { true } else { false }
     }
 
@@ -147,27 +147,26 @@ impl Fraction {
         ensures yes { OnTrue result (is_at_least_zero (minus self) ≡ false) }
         ensures no { OnFalse result (is_at_least_zero (minus self) ≡ true) }
     {
-        // written out, so that the prover has each case with its test
+        // written out, so that the prover sees each case with its test
         if self.top > 0 { true } else { false }
     }
 
-    /// -1, 0 or 1.
+    /// The sign: -1, 0 or 1.
     pub fn sign(self) -> i8
         ensures { result ≡ sign_of self }
     {
         self.top.signum() as i8
     }
 
-    /// The number with its sign turned.
+    /// The negated number.
     pub fn neg(self) -> Fraction
         ensures { result ≡ minus self }
     {
         in_lowest_terms(-self.top, self.bottom)
     }
 
-    /// The sum, by way of the greatest common divisor of the denominators (Knuth, The Art of Computer
-    /// Programming vol. 2, 4.5.1). It is refused exactly where one of the four numbers of this way is
-    /// too large, so also where the sum itself would fit.
+    /// The sum, by the greatest common divisor of the denominators (Knuth, The Art of Computer Programming vol. 2, 4.5.1). It is
+    /// `Wide` exactly if one of the four numbers that this algorithm forms passes the limit, even where the sum itself would fit.
     #[inline]
     pub fn add(self, other: Fraction) -> Result<Fraction, Wide>
         ensures { OkIff result (SumFits self other) (plus self other) }
@@ -184,7 +183,7 @@ impl Fraction {
         parts_sum(self.top, self.bottom, other.top, other.bottom)
     }
 
-    /// The difference, as the sum with the other number negated; refused as that sum is.
+    /// The difference, formed as the sum with `other` negated, and `Wide` exactly where that sum is.
     #[inline]
     pub fn sub(self, other: Fraction) -> Result<Fraction, Wide>
         ensures { OkIff result (DifferenceFits self other) (plus self (minus other)) }
@@ -192,8 +191,8 @@ impl Fraction {
         self.add(other.neg())
     }
 
-    /// The product, whose common divisors are taken out before anything is multiplied. It is refused
-    /// exactly where a part of the result in lowest terms is too large.
+    /// The product. Common divisors are divided out before anything is multiplied, so that it is `Wide` exactly if the numerator or the
+    /// denominator of the result in lowest terms passes the limit.
     #[inline]
     pub fn mul(self, other: Fraction) -> Result<Fraction, Wide>
         ensures { OkIff result (IsNarrow (times self other)) (times self other) }
@@ -207,7 +206,7 @@ impl Fraction {
         parts_product(self.top, self.bottom, other.top, other.bottom)
     }
 
-    /// The quotient, as the product with the other number turned over; refused as that product is.
+    /// The quotient, formed as the product with the inverse of `other`, and `Wide` exactly where that product is.
     #[inline]
     pub fn div(self, other: Fraction) -> Result<Fraction, Wide>
         requires { other.num ≢ pos 0 }
@@ -216,7 +215,7 @@ impl Fraction {
         self.mul(other.inverse())
     }
 
-    /// 1 divided by the number.
+    /// The inverse, 1 divided by the number.
     fn inverse(self) -> Fraction
         requires { self.num ≢ pos 0 }
         ensures { result ≡ inverse self }
@@ -229,8 +228,8 @@ impl Fraction {
         }
     }
 
-    /// How the two numbers compare: by their signs, then by their whole parts, and where these agree
-    /// by the rests turned over. It never refuses.
+    /// The order of the two numbers: by their signs, then by their whole parts, and where these agree by the inverses of the remainders.
+    /// It never overflows.
     pub fn compare(self, other: Fraction) -> Ordering
         ensures { result ≡ rational_cmp self other }
     {
@@ -245,7 +244,7 @@ impl Fraction {
         }
     }
 
-    /// How the absolute values compare.
+    /// The order of the absolute values.
     fn compare_size(self, other: Fraction) -> Ordering
         ensures { result ≡ nat_cmp (unsigned_abs self.num * other.den) (unsigned_abs other.num * self.den) }
     {

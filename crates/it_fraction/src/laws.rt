@@ -1,5 +1,5 @@
-//! Laws of the arithmetic, over the rational numbers that fractions name: so they hold also where a
-//! call on the way is refused. They are proved and do nothing when they run.
+//! Laws of the arithmetic, over the rational numbers that fractions represent, so that they hold also where a call would be `Wide`.
+//! They are proved, and do nothing when they run.
 ghost use Rattle.std.specs.Prelude.{◌≡◌, pos};
 ghost use Rattle.it_rational.specs.Rational.{inverse, plus, times, integer};
 ghost use Rattle.it_fraction.specs.Fits.{DifferenceFits, IsNarrow, SumFits};
@@ -31,7 +31,7 @@ pub fn products_distribute(x: Fraction, y: Fraction, z: Fraction)
     ensures { times x (plus y z) ≡ plus (times x y) (times x z) }
 {}
 
-/// An operation with a zero is never refused.
+/// An operation with a zero is never `Wide`.
 pub fn zeros_fit(x: Fraction)
     ensures sum { SumFits x (integer (pos 0)) }
     ensures sum_from_zero { SumFits (integer (pos 0)) x }
@@ -41,7 +41,7 @@ pub fn zeros_fit(x: Fraction)
     ensures product_from_zero { IsNarrow (times (integer (pos 0)) x) }
     ensures quotient_of_zero { IsNarrow (times (integer (pos 0)) (inverse x)) }
 {
-    // asked for their clauses, that the parts are within the limit
+    // called for their contracts, which say that both are within the limit
     let _num = x.num();
     let _den = x.den();
 }

@@ -1,4 +1,4 @@
-//! Exact rational numbers over 128-bit parts, and sums and products of whole numbers that are within the same limit.
+//! Exact rational numbers with 128-bit numerators and denominators, and sums and products of whole numbers within the same limit.
 #![tactic(auto)]
 
 mod divisors;

@@ -4,11 +4,11 @@ ghost use Rattle.std.specs.Ordering.{nat_cmp};
 
 use std::cmp::Ordering;
 
-/// The greatest number of 64 bits.
+/// The greatest number of 64 bits, 2^64 - 1.
 const SHORT: u128 = u64::MAX as u128;
 
-/// How a / b compares with c / d: by their whole parts, and where these agree by the rests turned over.
-/// As soon as all four parts fit 64 bits, whose division is several times faster, they go on there.
+/// The order of a / b and c / d: by their whole parts, and where these agree by the inverses of the remainders. As soon as all four
+/// numbers fit 64 bits, whose division is several times faster, the comparison goes on in 64 bits.
 #[tactic(auto, using(crate::proofs::WholeParts::turn_lemmas))]
 pub fn compare_parts(a: u128, b: u128, c: u128, d: u128) -> Ordering
     requires b_some { 0 < b }
@@ -45,7 +45,7 @@ pub fn compare_parts(a: u128, b: u128, c: u128, d: u128) -> Ordering
     }
 }
 
-/// The same in 64 bits.
+/// Like `compare_parts`, in 64 bits.
 #[tactic(auto, using(crate::proofs::WholeParts::turn_lemmas))]
 fn short_compare(a: u64, b: u64, c: u64, d: u64) -> Ordering
     requires b_some { 0 < b }

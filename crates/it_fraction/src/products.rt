@@ -1,4 +1,4 @@
-//! Products of fractions by their parts.
+//! Products of fractions, given by numerators and denominators.
 ghost use Rattle.std.specs.Prelude.{◌<◌, ◌*◌, ◌*ℤ◌, unsigned_abs, OkIff};
 ghost use Rattle.std.specs.Int.{IsGcd};
 ghost use Rattle.it_number.specs.Limit.{IsWithin};
@@ -8,7 +8,7 @@ ghost use Rattle.it_fraction.specs.Fits.{IsNarrow};
 use crate::fraction::{Fraction, Wide, in_lowest_terms};
 use crate::steps::{common_divisor, product, quotient, signed_product, signed_quotient};
 
-/// The product of a / b and c / d, each in lowest terms.
+/// The product of a / b and c / d, each in lowest terms; `Wide` if the numerator or the denominator of the result passes the limit.
 pub fn parts_product(a: i128, b: u128, c: i128, d: u128) -> Result<Fraction, Wide>
     requires b_some { 0 < b }
     requires d_some { 0 < d }
@@ -27,7 +27,7 @@ pub fn parts_product(a: i128, b: u128, c: i128, d: u128) -> Result<Fraction, Wid
     Ok(in_lowest_terms(top, bottom))
 }
 
-/// The product of two whole numbers.
+/// The product of two whole numbers, as a fraction; `Wide` if it passes the limit.
 pub fn whole_product(a: i128, c: i128) -> Result<Fraction, Wide>
     ensures { OkIff result (IsWithin (a *ℤ c)) (integer (a *ℤ c)) }
 {

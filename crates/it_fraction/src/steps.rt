@@ -1,5 +1,5 @@
-//! Single steps on whole numbers. What may pass the largest number is refused exactly where it does.
-//! Each step has a short path for numbers of 64 bits, whose division is several times faster.
+//! Operations on single whole numbers. A result that may pass the limit is `Wide` exactly where it does.
+//! Most have a faster path for numbers of 64 bits, whose division is several times faster.
 ghost use Rattle.std.specs.Prelude.{◌≡◌, ◌<◌, ◌*◌, ◌/◌, ◌+ℤ◌, ◌-ℤ◌, ◌*ℤ◌, pos, OkIff};
 ghost use Rattle.it_number.specs.Division.{int_quotient};
 ghost use Rattle.it_number.specs.Gcd.{gcd};
@@ -10,7 +10,7 @@ use crate::fraction::Wide;
 /// The greatest number within the limit, 2^127 - 1.
 const LARGEST: u128 = i128::MAX as u128;
 
-/// The greatest common divisor.
+/// The greatest common divisor of `a` and `b`, by Euclid's algorithm; that of 0 and 0 is 0.
 #[tactic(auto, using(crate::proofs::DivisorLemmas::gcd_above, crate::proofs::DivisorLemmas::gcd_of_one))]
 pub fn common_divisor(a: u128, b: u128) -> u128
     ensures value { result ≡ gcd a b }
@@ -25,7 +25,7 @@ pub fn common_divisor(a: u128, b: u128) -> u128
     }
 }
 
-/// The same in 64 bits.
+/// Like `common_divisor`, in 64 bits.
 fn short_common_divisor(a: u64, b: u64) -> u64
     ensures { result ≡ gcd a b }
 {
@@ -39,7 +39,7 @@ fn short_common_divisor(a: u64, b: u64) -> u64
     larger
 }
 
-/// The same, in 64 bits as soon as a rest fits.
+/// Like `common_divisor`, in 64 bits as soon as a remainder fits.
 fn long_common_divisor(a: u128, b: u128) -> u128
     ensures { result ≡ gcd a b }
 {
@@ -80,7 +80,7 @@ pub fn signed_quotient(a: i128, k: u128) -> i128
     if a < 0 { -size } else { size }
 }
 
-/// The sum, wide past the limit.
+/// The sum of `a` and `b`; `Wide` if it passes the limit.
 pub fn sum(a: i128, b: i128) -> Result<i128, Wide>
     ensures { OkIff result (IsWithin (a +ℤ b)) (a +ℤ b) }
 {
@@ -93,7 +93,7 @@ pub fn sum(a: i128, b: i128) -> Result<i128, Wide>
     }
 }
 
-/// The sum of two short numbers, which is never wide.
+/// The sum of two numbers of 64 bits, which is always within the limit.
 fn short_sum(a: i64, b: i64) -> i128
     ensures value { result ≡ a +ℤ b }
     ensures within { IsWithin result }
@@ -101,7 +101,7 @@ fn short_sum(a: i64, b: i64) -> i128
     i128::from(a) + i128::from(b)
 }
 
-/// The difference, wide past the limit.
+/// a - b; `Wide` if it passes the limit.
 pub fn difference(a: i128, b: i128) -> Result<i128, Wide>
     ensures { OkIff result (IsWithin (a -ℤ b)) (a -ℤ b) }
 {
@@ -111,7 +111,7 @@ pub fn difference(a: i128, b: i128) -> Result<i128, Wide>
     }
 }
 
-/// The product, wide past the limit.
+/// The product of `a` and `b`; `Wide` if it passes the limit.
 pub fn product(a: u128, b: u128) -> Result<u128, Wide>
     ensures { OkIff result (IsWithin (pos (a * b))) (a * b) }
 {
@@ -121,7 +121,7 @@ pub fn product(a: u128, b: u128) -> Result<u128, Wide>
     }
 }
 
-/// The product of two signed numbers, wide past the limit.
+/// The product of the signed numbers `a` and `b`; `Wide` if it passes the limit.
 pub fn signed_product(a: i128, b: i128) -> Result<i128, Wide>
     ensures { OkIff result (IsWithin (a *ℤ b)) (a *ℤ b) }
 {
@@ -134,7 +134,7 @@ pub fn signed_product(a: i128, b: i128) -> Result<i128, Wide>
     }
 }
 
-/// The product of two short numbers, which is never wide.
+/// The product of two numbers of 64 bits, which is always within the limit.
 fn short_product(a: i64, b: i64) -> i128
     ensures value { result ≡ a *ℤ b }
     ensures within { IsWithin result }
@@ -142,7 +142,7 @@ fn short_product(a: i64, b: i64) -> i128
     i128::from(a) * i128::from(b)
 }
 
-/// a times k, wide past the limit.
+/// `a` times `k`; `Wide` if it passes the limit.
 pub fn multiple(a: i128, k: u128) -> Result<i128, Wide>
     requires { IsWithin (pos k) }
     ensures { OkIff result (IsWithin (a *ℤ pos k)) (a *ℤ pos k) }

@@ -1,4 +1,4 @@
-//! Sums of fractions by their parts.
+//! Sums of fractions, given by numerators and denominators.
 ghost use Rattle.std.specs.Prelude.{◌<◌, ◌*◌, ◌+ℤ◌, ◌*ℤ◌, pos, unsigned_abs, OkIff};
 ghost use Rattle.std.specs.Int.{IsGcd};
 ghost use Rattle.it_number.specs.Limit.{IsWithin};
@@ -8,7 +8,7 @@ ghost use Rattle.it_fraction.specs.Fits.{PartsFit};
 use crate::fraction::{Fraction, Wide, in_lowest_terms};
 use crate::steps::{common_divisor, multiple, product, quotient, signed_quotient, sum};
 
-/// The sum of a / b and c / d, each in lowest terms.
+/// The sum of a / b and c / d, each in lowest terms; `Wide` as for `Fraction::add`.
 pub fn parts_sum(a: i128, b: u128, c: i128, d: u128) -> Result<Fraction, Wide>
     requires b_some { 0 < b }
     requires d_some { 0 < d }
@@ -29,7 +29,7 @@ pub fn parts_sum(a: i128, b: u128, c: i128, d: u128) -> Result<Fraction, Wide>
     Ok(in_lowest_terms(signed_quotient(total, rest), bottom))
 }
 
-/// The sum of two whole numbers.
+/// The sum of two whole numbers, as a fraction; `Wide` if it passes the limit.
 pub fn whole_sum(a: i128, c: i128) -> Result<Fraction, Wide>
     ensures { OkIff result (IsWithin (a +ℤ c)) (integer (a +ℤ c)) }
 {

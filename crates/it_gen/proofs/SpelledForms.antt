@@ -6,7 +6,7 @@ use Rattle.it_forms.specs.Forms.{Kind, Terminal, is_among, IsTaken, Form, Give, 
 use Rattle.it_forms.specs.Words.{each}
 use Rattle.it_gen.proofs.SpelledLines.{Writes, Anything, writes_then, writes_nothing}
 
--- Where what follows is as C says, the text is a letter of the terminal, which says a, and nothing is said against it.
+-- Where what follows is as C says, the text is a letter of the terminal, which says a and doesn't flag it.
 pub record IsLetter {A : Type 0} (C : List ℕ → Type 0) (text : List ℕ) (t : Terminal A) (a : A) : Type 0 where
   pub letter : Letter
   pub writes : Writes C text (λ k. (letter, None) ∷ k)

@@ -1,5 +1,5 @@
--- The file of generated questions: each asks of four variables whether a sum of three elemental inequalities, with drawn coefficients, is at least a
--- drawn multiple of a drawn entropy.
+-- The file of generated questions: each asks of four variables whether a sum of three elemental inequalities, with drawn coefficients,
+-- is at least a drawn multiple of a drawn entropy.
 use Rattle.std.specs.Prelude.{◌≡◌, ℕ, zero, suc, ◌+◌, ◌≤◌, List, [], ◌∷◌, ◌++◌, length, All, codes, decimal}
 use Rattle.it_polymatroid.specs.Elementals.{elemental_at}
 use Rattle.it_question.specs.Questions.{QuestionView, VerbView, Prove, Eliminate, Contain}
@@ -25,14 +25,14 @@ question_text x =
     codes "vars A, B, C, D\nprove " ++ generated_term_text x ++ codes " + " ++ generated_term_text (state_after 2 x) ++ codes " + " ++ generated_term_text (state_after 4 x)
     ++ codes " >= " ++ bound_text (state_after 6 x) ++ codes "\n"
 
--- so many questions, one after the other with one state, which begins as the seed
+-- `count` questions, one after the other, by draws from the state `seed`
 abbrev pub generated_file : ℕ → ℕ → List ℕ
 generated_file seed zero = []
 generated_file seed (suc count) = question_text seed ++ generated_file (state_after 8 seed) count
 
 -- ---- what the file is
 
--- its verb is `prove`
+-- the verb of q is `prove`
 abbrev pub IsProve : QuestionView → Type 0
 IsProve q = IsVerbProve q.body.verb
   where
@@ -41,7 +41,7 @@ IsProve q = IsVerbProve q.body.verb
     IsVerbProve (Eliminate rates) = ⊥
     IsVerbProve (Contain first second tries) = ⊥
 
--- a question file of so many questions with the verb `prove`, no longer than a file may be
+-- the bytes are a question file of `count` questions with the verb `prove`, no longer than a file may be
 pub record IsProveFile (bytes : List ℕ) (count : ℕ) : Type 0 where
   pub questions : List QuestionView
   pub asked : IsFile bytes questions
@@ -49,6 +49,6 @@ pub record IsProveFile (bytes : List ℕ) (count : ℕ) : Type 0 where
   pub prove : All IsProve questions
   pub short : length bytes ≤ 1048576
 
--- Up to the greatest number of questions of a file, the generated questions are one.
+-- Up to the greatest number of questions of a file, the generated questions are such a file.
 abbrev pub GeneratedIsFile : Type 0
 GeneratedIsFile = (seed count : ℕ) → count ≤ 1000 → IsProveFile (generated_file seed count) count

@@ -9,7 +9,7 @@ pub struct Draws {
 }
 
 impl Draws {
-    /// The next number, from 0 on and below the bound.
+    /// Draws the next number, which is less than `below`.
     pub fn draw(&mut self, below: u32) -> u32
         requires some { 0 < below }
         ensures drawn { result ≡ draw 1 below self.old.state }

@@ -9,13 +9,13 @@ use it_space::VarSet;
 use it_syntax::Names;
 use std::alloc::{AllocError, Global};
 
-/// How many elemental inequalities four variables have.
+/// The number of elemental inequalities of four variables.
 const INEQUALITIES: u32 = 28;
 
-/// How many sets of four variables aren't empty.
+/// The number of nonempty sets of four variables.
 const NONEMPTY_SETS: u32 = 15;
 
-/// So many questions about the variables A, B, C and D, two lines each, by draws that begin with the seed. The same seed always
+/// `count` questions about the variables A, B, C and D, two lines each, by draws from the state `seed`. The same seed always
 /// gives the same bytes.
 pub fn questions_of(alloc: Global, seed: u32, count: u32) -> Result<Vec<u8>, AllocError>
     requires seed { seed < 2 ^ 31 }
@@ -29,7 +29,7 @@ pub fn questions_of(alloc: Global, seed: u32, count: u32) -> Result<Vec<u8>, All
     Ok(out)
 }
 
-/// So many questions after what stands, by draws that begin with the seed.
+/// Appends `count` questions, by draws from the state `seed`.
 fn write_questions(
     out: &mut Vec<u8>,
     names: &Names,
@@ -58,7 +58,7 @@ fn four_names(alloc: Global) -> Result<Names, AllocError>
     Ok(names)
 }
 
-/// A question, by eight draws.
+/// Appends a question, by eight draws.
 #[tactic(auto, unfolding(crate::specs::GeneratedFiles::question_text))]
 fn write_question(out: &mut Vec<u8>, names: &Names, draws: &mut Draws) -> Result<(), AllocError>
     requires { names.now.variables ≡ four_names }
@@ -76,7 +76,7 @@ fn write_question(out: &mut Vec<u8>, names: &Names, draws: &mut Draws) -> Result
     out.extend_from_slice(b"\n")
 }
 
-/// A drawn elemental inequality with a drawn coefficient.
+/// Appends a drawn elemental inequality with a drawn coefficient.
 #[tactic(auto, unfolding(crate::specs::GeneratedFiles::generated_term_text))]
 fn write_term(out: &mut Vec<u8>, names: &Names, draws: &mut Draws) -> Result<(), AllocError>
     requires { names.now.variables ≡ four_names }
@@ -90,7 +90,7 @@ fn write_term(out: &mut Vec<u8>, names: &Names, draws: &mut Draws) -> Result<(),
     write_elemental(out, names, inequality)
 }
 
-/// A drawn multiple of a drawn entropy.
+/// Appends a drawn multiple of a drawn entropy.
 #[tactic(auto, unfolding(crate::specs::GeneratedFiles::bound_text))]
 fn write_bound(out: &mut Vec<u8>, names: &Names, draws: &mut Draws) -> Result<(), AllocError>
     requires { names.now.variables ≡ four_names }

@@ -1,4 +1,4 @@
--- What rays span is attained where the rays are, and rows that hold there hold at no more.
+-- Points that rays span are attained if the rays are, and rows that hold exactly at these points hold exactly at the attained ones.
 use Rattle.std.proofs.Common.{◌≡◌, ℕ, ◌*◌, bit_and, bit_or, ℤ, pos, ◌+ℤ◌, ◌-ℤ◌, ◌*ℤ◌, ◌≤ℤ◌, List, [], ◌∷◌, refl, sym, ap, subst, ◌∙◌, arith}
 use Rattle.std.specs.List.{AllByRecursion as Every}
 use Rattle.std.proofs.lemmas.Int.{ints}
@@ -19,7 +19,7 @@ use Rattle.it_hull.specs.Theorems.{HullIsProjection, IsCone, MeetsProblem, Probl
 use Rattle.it_hull.proofs.SpanLemmas.{some_product}
 use Rattle.it_hull.proofs.ValueLemmas.{value_linear, value_scaled, value_zero}
 
--- ---- what is spanned is attained
+-- ---- spanned points are attained
 
 ring_sum : (g h w r y : ℤ) → g *ℤ (h *ℤ (w *ℤ r +ℤ y)) ≡ h *ℤ (w *ℤ (g *ℤ r)) +ℤ g *ℤ (h *ℤ y)
 ring_sum g h w r y = ring ring_ℤ (g ∷ h ∷ w ∷ r ∷ y ∷ []) (times (var 0) (times (var 1) (plus (times (var 2) (var 3)) (var 4)))) (plus (times (var 1) (times (var 2) (times (var 0) (var 3)))) (times (var 0) (times (var 1) (var 4)))) refl

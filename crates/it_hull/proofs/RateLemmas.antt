@@ -1,4 +1,4 @@
--- Rows over rates: they hold at a point exactly where they hold at the same rates with 0 at each set, which meets whatever speaks of
+-- Rows over rates: they hold at a point exactly where they hold at the same rates with 0 at each set, which meets all constraints about
 -- sets alone.
 use Rattle.std.proofs.Common.{◌≡◌, ◌↔◌, ℕ, ◌-◌, ◌<◌, ◌≤◌, ◌^◌, bit_and, bit_or, ℤ, pos, negsuc, ◌*ℤ◌, ◌≤ℤ◌, List, [], ◌∷◌, Bool, true, false, cond, nat_lt, refl, sym, ap, subst, arith, All}
 use Rattle.std.specs.Prelude.{Contains}
@@ -71,7 +71,7 @@ reduced_is_hull n kept rows others rays rates over alike h = record {
       );
 }
 
--- ---- what speaks of sets alone is met
+-- ---- constraints about sets alone are met
 
 module _ (n : ℕ) (x : ℕ → ℤ) (zero : IsZeroAtSets n x) where
   zero_polymatroid : IsPolymatroid n x
@@ -103,7 +103,7 @@ module _ (n : ℕ) (x : ℕ → ℤ) (zero : IsZeroAtSets n x) where
 pub rates_meet : RatesMeet
 rates_meet q x sets zero = (zero_polymatroid q.space.variables x zero, zero_met q.space.variables x zero q.constraints sets)
 
--- ---- the rows of no ray are of the space
+-- ---- the rows of the hull of no rays are of the space
 
 pub first_rows_over : (s : Space) (kept : List ℕ) → All (λ c. (2 ^ s.variables ≤ c) × (c ≤ size_of s)) kept → All (IsOver (size_of s)) (first_rows kept)
 first_rows_over s kept rates = all_of (IsOver (size_of s)) (first_rows kept) (each_over kept (every_of (λ (c : ℕ). (2 ^ s.variables ≤ c) × (c ≤ size_of s)) kept rates))

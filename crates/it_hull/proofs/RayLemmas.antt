@@ -1,4 +1,4 @@
--- What one more ray ends with.
+-- The results of adding a ray.
 use Rattle.std.proofs.Common.{◌≡◌, ◌≢◌, inl, inr, ◌↔◌, ℕ, ◌+◌, ◌<◌, ◌≤◌, ◌^◌, ℤ, pos, neg_ℤ, ◌+ℤ◌, ◌*ℤ◌, List, [], ◌∷◌, ◌++◌, map, Bool, true, false, cond, nat_eq, refl, sym, ap, subst, ◌∙◌, arith, All, get_or, append_assoc}
 use Rattle.std.specs.Prelude.{length, drop}
 use Rattle.std.specs.List.{AllWithin}

@@ -1,4 +1,4 @@
--- One more ray: its multiplier is eliminated.
+-- A further ray: its multiplier is eliminated.
 use Rattle.std.proofs.Common.{◌≡◌, ◌≢◌, inl, inr, ⊎_elim, ◌↔◌, ℕ, ◌≤◌, ℤ, pos, negsuc, neg_ℤ, ◌+ℤ◌, ◌-ℤ◌, ◌*ℤ◌, ◌≤ℤ◌, List, [], ◌∷◌, ◌++◌, map, Bool, true, false, cond, nat_eq, ne_eqb, eq-eqb, refl, sym, ap, subst, ◌∙◌, arith, All}
 use Rattle.std.specs.Prelude.{Contains}
 use Rattle.std.specs.List.{AllByRecursion as Every}
@@ -27,7 +27,7 @@ value-with_multiplier at ray row q =
 -- ---- with the multiplier, and without it
 
 module _ (kept : List ℕ) (at : ℕ) (away : ¬ (Contains kept at)) (ray : ℕ → ℤ) where
-  -- rows with the multiplier hold at a point exactly where the rows hold at what is left of it without so many rays
+  -- rows with the multiplier hold at a point exactly where the rows hold at the point less the multiplier times the ray
   rows_left : (rows : List Terms) (q y : ℕ → ℤ) → Every (UsesOnly kept) rows → ((c : ℕ) → Contains kept c → q c ≡ q at *ℤ ray c +ℤ y c)
       → Every (λ row. RowHolds q (with_multiplier at ray row)) rows ↔ Every (RowHolds y) rows
   rows_left [] q y o e = (λ a. tt, λ a. tt)
@@ -39,7 +39,7 @@ module _ (kept : List ℕ) (at : ℕ) (away : ¬ (Contains kept at)) (ray : ℕ 
         λ a. (subst (λ (z : ℤ). pos 0 ≤ℤ z) (sym one) a.0, more.1 a.1),
       )
 
-  -- what it is for a point to extend to the multiplier
+  -- the condition that a point extends to the multiplier
   record Left (rows : List Terms) (x : ℕ → ℤ) : Type 0 where
     factor : ℕ
     weight : ℕ
@@ -98,7 +98,7 @@ module _ (kept : List ℕ) (at : ℕ) (away : ¬ (Contains kept at)) (ray : ℕ 
 
 -- ---- the laws
 
--- rows from which the multiplier of one more ray is eliminated are the hull with this ray
+-- rows from which the multiplier of a further ray is eliminated are the hull with this ray
 pub eliminated_is_hull : (kept : List ℕ) (rows next : List Terms) (rays : List (List ℤ)) (ray : List ℤ) (at : ℕ) → ¬ (Contains kept at) → IsHull kept rows rays → All (UsesOnly kept) next
     → ((x : ℕ → ℤ) → IsPointOf next x ↔ Extends (at ∷ []) (rows_with_multiplier at (point_of ray) rows) x) → IsHull kept next (rays ++ ray ∷ [])
 eliminated_is_hull kept rows next rays ray at away h over exact = record {

@@ -1,4 +1,4 @@
--- The problem in which all variables are constant: at what meets it sets are 0, so that it speaks of rates alone.
+-- The problem in which all variables are constant: where it is met sets are 0, so that only rates count.
 use Rattle.std.specs.Prelude.{ℕ, zero, suc, ◌+◌, ◌^◌, pos, List, [], ◌∷◌}
 use Rattle.it_space.specs.declared.problems.Constraint.{Constraint}
 use Rattle.it_space.specs.declared.problems.Kind.TheVariants.{Equation}
@@ -6,11 +6,11 @@ use Rattle.it_space.specs.declared.problems.Origin.TheVariants.{Given}
 use Rattle.it_space.specs.declared.spaces.Space.{Space}
 use Rattle.it_space.specs.Problems.{ProblemView}
 
--- the line that says that a variable is constant
+-- the constraint of the line that says that a variable is constant
 abbrev pub constant_line : ℕ → Constraint
 constant_line variable = record { row = (2 ^ variable, pos 1) ∷ []; kind = Equation; origin = Given (variable + 1) 1 1 }
 
--- such lines for so many variables, from one on
+-- such constraints for count variables, from variable on
 abbrev pub constant_lines : ℕ → ℕ → List Constraint
 constant_lines variable zero = []
 constant_lines variable (suc count) = constant_line variable ∷ constant_lines (variable + 1) count

@@ -17,7 +17,7 @@ IsSpanned kept (ray ∷ rays) x = (factor weight : ℕ) × (rest : ℕ → ℤ) 
 abbrev pub UsesOnly : List ℕ → Terms → Type 0
 UsesOnly kept row = (c : ℕ) → ¬ (Contains kept c) → coefficient row c ≡ pos 0
 
--- rows at kept coordinates that hold exactly at what rays span
+-- rows at kept coordinates that hold exactly at the points that rays span
 pub record IsHull (kept : List ℕ) (rows : List Terms) (rays : List (List ℤ)) : Type 0 where
   pub over : All (UsesOnly kept) rows
   pub exact : (x : ℕ → ℤ) → IsPointOf rows x ↔ IsSpanned kept rays x
@@ -34,15 +34,15 @@ pub record IsAttained (kept : List ℕ) (Holds : (ℕ → ℤ) → Type 0) (x : 
 abbrev pub zero_rows : ℕ → List Terms
 zero_rows c = ((c, pos 1) ∷ []) ∷ ((c, neg_ℤ (pos 1)) ∷ []) ∷ []
 
--- the hull of no ray: each kept coordinate is 0
+-- the rows of the hull of no rays: each kept coordinate is 0
 abbrev pub first_rows : List ℕ → List Terms
 first_rows [] = []
 first_rows (c ∷ cs) = zero_rows c ++ first_rows cs
 
--- the row at what is left of a point without so many times the ray as a coordinate says, its multiplier
+-- the row with a multiplier at coordinate at: its value at a point is the old row's value at the point less the multiplier times the ray
 abbrev pub with_multiplier : ℕ → (ℕ → ℤ) → Terms → Terms
 with_multiplier at ray row = with_term at (neg_ℤ (value row ray)) row
 
--- rows so, and that the multiplier is at least 0
+-- rows with the multiplier, and the row that says that it is at least 0
 abbrev pub rows_with_multiplier : ℕ → (ℕ → ℤ) → List Terms → List Terms
 rows_with_multiplier at ray rows = map (with_multiplier at ray) rows ++ ((at, pos 1) ∷ []) ∷ []

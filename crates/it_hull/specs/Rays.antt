@@ -1,4 +1,4 @@
--- A hull with one more ray, and what keeps from it.
+-- A hull with a further ray, and the ways in which that fails.
 use Rattle.std.specs.Prelude.{◌≡◌, ◌⊎◌, ℕ, ◌+◌, ◌^◌, ℤ, List, [], ◌∷◌, ◌++◌, All, Contains}
 use Rattle.it_space.specs.declared.problems.System.{System}
 use Rattle.it_space.specs.Problems.{IsSystem}
@@ -13,13 +13,13 @@ use Rattle.it_hull.specs.Hulls.{IsHull, rows_with_multiplier}
 abbrev pub ValuesFit : List ℤ → List Terms → Type 0
 ValuesFit ray rows = All (λ row. ValueFits row (point_of ray)) rows
 
--- what one more ray makes of a hull's rows: they are wide where the value of one at the ray is; else the rate at which its multiplier
--- stands is eliminated, and at most `most` rows may be left; rate r is at coordinate `base` + r
+-- end is the result of adding ray to a hull's rows: `Wide` if the value of a row at the ray is wide; else that of the elimination of
+-- the rate at which its multiplier is, where at most `most` rows may be left; rate r is at coordinate `base` + r
 abbrev pub RayEnds : ℕ → ℕ → List ℤ → ℕ → List Terms → EliminatedView → Type 0
 RayEnds base most ray rate rows end = ((¬ (ValuesFit ray rows)) × (end ≡ Wide rate))
     ⊎ (ValuesFit ray rows × EliminationEnds base most (ordered_rows (rows_with_multiplier (base + rate) (point_of ray) rows)) (rate ∷ []) end)
 
--- a system of the same space without the multiplier's rate; where the old one is the hull of rays without it, this is that with one more
+-- next is a system of the same space without the multiplier's rate; if old is the hull of some rays, next is the hull of these and ray
 pub record IsNextHull (old : System) (ray : List ℤ) (rate : ℕ) (next : System) : Type 0 where
   pub space : next.space ≡ old.space
   pub system : IsSystem next
@@ -27,7 +27,7 @@ pub record IsNextHull (old : System) (ray : List ℤ) (rate : ℕ) (next : Syste
   pub hull : (kept : List ℕ) (rays : List (List ℤ)) → ¬ (Contains kept (2 ^ old.space.variables + rate)) → IsHull kept old.rows.items rays
       → IsHull kept next.rows.items (rays ++ ray ∷ [])
 
--- where there are rows, they are those of the next hull
+-- if the result is a region, it is the hull with ray added
 abbrev pub AddsRay : System → List ℤ → ℕ → Eliminated → Type 0
 AddsRay hull ray rate (ends.Region next) = IsNextHull hull ray rate next
 AddsRay hull ray rate (ends.Rows other) = Unit {0}

@@ -1,13 +1,12 @@
-//! The problem in which all variables are constant. Under it the one closed set is empty, so that runs are over rates alone.
+//! The problem in which all variables are constant. Under it no closed set has a coordinate, so that runs are over rates alone.
 ghost use Rattle.std.specs.Prelude.{◌≡◌, ◌<◌, IfOk};
-ghost use Rattle.it_space.specs.Problems.{problem_view};
 ghost use Rattle.it_space.specs.Spaces.{IsSpace};
 ghost use Rattle.it_hull.specs.Constants.{constant_line, constants};
 
 use it_space::{Constraint, Kind, Origin, Problem, Row, Space};
 use std::alloc::{AllocError, Global};
 
-/// The line that says that a variable, counted from 0, is constant.
+/// The constraint of the line that says that `variable`, counted from 0, is constant.
 fn constant_line(alloc: Global, variable: u8) -> Result<Constraint, AllocError>
     requires { variable < 10 }
     ensures { IfOk result (λ c. c ≡ constant_line variable) }
@@ -27,7 +26,7 @@ fn constant_line(alloc: Global, variable: u8) -> Result<Constraint, AllocError>
 /// The problem of a space in which each variable is constant.
 pub fn constants(alloc: Global, space: Space) -> Result<Problem, AllocError>
     requires { IsSpace space }
-    ensures { IfOk result (λ q. problem_view q ≡ constants space) }
+    ensures { IfOk result (λ q. q ≡ constants space) }
 {
     let mut constraints = Vec::new(alloc);
     for variable in 0..space.variables {

@@ -1,4 +1,4 @@
-//! The rows of no ray.
+//! The rows of the hull of no rays.
 ghost use Rattle.std.specs.Prelude.{◌≡◌, ◌≢◌, [], ◌∷◌, pos, IfOk};
 ghost use Rattle.it_number.specs.Limit.{IsWithin};
 ghost use Rattle.it_hull.specs.Hulls.{first_rows};
@@ -6,7 +6,7 @@ ghost use Rattle.it_hull.specs.Hulls.{first_rows};
 use it_space::Row;
 use std::alloc::{AllocError, Global};
 
-/// A row of one term.
+/// The row with the single term `coefficient` at coordinate `at`.
 fn single(alloc: Global, at: u32, coefficient: i128) -> Result<Row, AllocError>
     requires some { coefficient ≢ pos 0 }
     requires within { IsWithin coefficient }
@@ -16,7 +16,7 @@ fn single(alloc: Global, at: u32, coefficient: i128) -> Result<Row, AllocError>
     Ok(Row::new(terms))
 }
 
-/// The rows of no ray: each kept coordinate is 0.
+/// The rows of the hull of no rays: each coordinate in `kept` is 0.
 pub fn first_rows(alloc: Global, kept: &[u32]) -> Result<Vec<Row>, AllocError>
     ensures { IfOk result (λ v. v.items ≡ first_rows kept.now) }
 {

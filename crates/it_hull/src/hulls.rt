@@ -1,4 +1,4 @@
-//! The hull of rays with one more.
+//! The hull of rays and a further ray.
 ghost use Rattle.std.specs.Prelude.{◌≡◌, ◌+◌, ◌<◌, ◌^◌, ◌∷◌, [], neg_ℤ, pos, length, All, IfErr, IfOk, OnOk, OkIff};
 ghost use Rattle.it_number.specs.Limit.{IsWithin};
 ghost use Rattle.it_space.specs.Problems.{IsSystem};
@@ -16,7 +16,7 @@ use it_fraction::{Wide, difference};
 use it_space::{Point, Row, RowFault, Space, System, value};
 use std::alloc::{AllocError, Global};
 
-/// The coordinate of a rate.
+/// The coordinate of `rate`.
 pub fn coordinate(space: Space, rate: u8) -> u32
     requires { IsSpace space }
     ensures { result ≡ 2 ^ space.variables + rate }
@@ -24,7 +24,7 @@ pub fn coordinate(space: Space, rate: u8) -> u32
     (1u32 << space.variables) + rate as u32
 }
 
-/// The row's value at a ray, turned.
+/// The negated value of `row` at `ray`; `Wide` if a product or a partial sum passes the limit.
 fn turned_value(row: &Row, ray: &Point) -> Result<i128, Wide>
     requires { IsOver (length ray.now) row.now }
     ensures value { OkIff result (ValueFits row.now (point_of ray.now)) (neg_ℤ (value row.now (point_of ray.now))) }
@@ -34,7 +34,7 @@ fn turned_value(row: &Row, ray: &Point) -> Result<i128, Wide>
     difference(0, at_ray)
 }
 
-/// The row with a ray's multiplier at this coordinate.
+/// `row` with the multiplier of `ray` at coordinate `at`: a new term there, whose coefficient is the negated value of `row` at `ray`.
 fn with_multiplier(alloc: Global, row: &Row, at: u32, ray: &Point) -> Result<Row, RowFault>
     requires row { IsOver (length ray.now) row.now }
     requires lacks { coefficient row.now at ≡ pos 0 }
@@ -47,7 +47,7 @@ fn with_multiplier(alloc: Global, row: &Row, at: u32, ray: &Point) -> Result<Row
     Ok(row)
 }
 
-/// The row that says that a coordinate is at least 0.
+/// The row that says that coordinate `at` is at least 0.
 fn at_least_zero(alloc: Global, at: u32) -> Result<Row, AllocError>
     ensures { IfOk result (λ r. r ≡ (at, pos 1) ∷ []) }
 {
@@ -55,7 +55,7 @@ fn at_least_zero(alloc: Global, at: u32) -> Result<Row, AllocError>
     Ok(Row::new(terms))
 }
 
-/// The rows with a ray's multiplier at this coordinate, and the row that says that the multiplier is at least 0.
+/// `rows` with the multiplier of `ray` at coordinate `at`, and the row that says that the multiplier is at least 0.
 fn rows_with_multiplier(
     alloc: Global,
     rows: &[Row],
@@ -78,8 +78,9 @@ fn rows_with_multiplier(
     Ok(list)
 }
 
-/// The hull with one more ray. The ray's multiplier stands at a rate that the hull's rows lack, and is eliminated by one step: `Rows`
-/// where that leaves more than `rows` rows, and `Wide` where the value of a row at the ray passes 2^127 - 1, or a number of the step.
+/// The hull of the rays of `hull` and of `ray`. The ray's multiplier is at `rate`, which the hull's rows lack, and is eliminated by one
+/// step: `Rows` if that leaves more than `rows` rows, and `Wide` if the value of a row at the ray, or a number of the step, passes the
+/// limit.
 pub fn with_ray(
     alloc: Global,
     hull: &System,

@@ -10,14 +10,14 @@ use crate::hulls::coordinate;
 use it_space::Space;
 use std::alloc::{AllocError, Global};
 
-/// Whether a rate goes.
+/// Whether `rate` is one of `gone`.
 fn goes(gone: &[u8], rate: u8) -> bool
     ensures { result ≡ list_any (λ r. nat_eq r rate) gone.now }
 {
     gone.contains(&rate)
 }
 
-/// Puts a rate's coordinate after others, unless the rate goes.
+/// Appends the coordinate of `rate` to `kept`, unless the rate is one of `gone`.
 fn push_kept(kept: &mut Vec<u32>, space: Space, gone: &[u8], rate: u8) -> Result<(), AllocError>
     requires { IsSpace space }
     ensures { OnOk result (kept.new.items ≡ kept.old.items ++ own_coordinate space gone.now rate) }
@@ -28,7 +28,7 @@ fn push_kept(kept: &mut Vec<u32>, space: Space, gone: &[u8], rate: u8) -> Result
     Ok(())
 }
 
-/// The coordinates of the rates that don't go.
+/// The coordinates of the rates of `space` that aren't in `gone`, in ascending order.
 pub fn kept_coordinates(alloc: Global, space: Space, gone: &[u8]) -> Result<Vec<u32>, AllocError>
     requires { IsSpace space }
     ensures { IfOk result (λ v. v.items ≡ kept_coordinates space gone.now) }

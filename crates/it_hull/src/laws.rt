@@ -1,18 +1,19 @@
-//! What the gate proves of hulls.
+//! Laws of hulls, each as the contract of a function.
 ghost use Rattle.it_hull.specs.Theorems.{FirstIsHull, HullIsProjection, OneMoreRay, OneRayEnd, ProblemsAreCones, RatesMeet, ReducedIsHull};
 
-/// No ray spans what is 0 at each kept coordinate.
+/// No rays span exactly the points that are 0 at each kept coordinate.
 pub fn first_is_hull()
     ensures { FirstIsHull }
 {}
 
-/// One more ray gives the hull with it, and has one end.
+/// The step for a further ray gives the hull with that ray, and has one end.
 pub fn one_more_ray()
     ensures hull { OneMoreRay }
     ensures end { OneRayEnd }
 {}
 
-/// Rows that hold alike wherever sets are 0 are hulls of the same rays; and there each problem that speaks of sets alone is met.
+/// Rows that hold at the same maps among those where sets are 0 are hulls of the same rays; and at these maps each problem about sets
+/// alone is met.
 pub fn reduced_is_hull()
     ensures hull { ReducedIsHull }
     ensures met { RatesMeet }

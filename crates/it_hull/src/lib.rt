@@ -1,4 +1,4 @@
-//! Cones of rays: the rows that hold exactly at what rays span, with one more ray at a time.
+//! Cones of rays: the rows that hold exactly at the points that rays span, with one ray added at a time.
 #![tactic(auto)]
 
 mod constant_problems;

@@ -1,4 +1,4 @@
-//! One term more in a row.
+//! A row with a further term.
 ghost use Rattle.std.specs.Prelude.{◌≡◌, pos, OnOk, IfOk};
 ghost use Rattle.it_number.specs.Limit.{IsWithin};
 ghost use Rattle.it_space.specs.Cancelling.{with_term};
@@ -8,7 +8,7 @@ ghost use Rattle.it_hull.specs.Places.{IsPlaceFor};
 use it_space::Row;
 use std::alloc::{AllocError, Global};
 
-/// The place among the terms at which one at a coordinate that they lack belongs.
+/// The place in `terms` at which a term at coordinate `at`, which they lack, belongs.
 fn place_for(terms: &[(u32, i128)], at: u32) -> usize
     requires canonical { IsCanonical terms.now }
     requires lacks { coefficient terms.now at ≡ pos 0 }
@@ -20,7 +20,7 @@ fn place_for(terms: &[(u32, i128)], at: u32) -> usize
     }
 }
 
-/// Puts a term at a coordinate that the terms lack where it belongs, unless its number is 0.
+/// Inserts the term `number` at coordinate `at`, which the terms lack, unless `number` is 0.
 fn put_term(terms: &mut Vec<(u32, i128)>, at: u32, number: i128) -> Result<(), AllocError>
     requires canonical { IsCanonical terms.old.items }
     requires lacks { coefficient terms.old.items at ≡ pos 0 }
@@ -33,7 +33,7 @@ fn put_term(terms: &mut Vec<(u32, i128)>, at: u32, number: i128) -> Result<(), A
     Ok(())
 }
 
-/// The row with this number at a coordinate that it lacks.
+/// `row` with the coefficient `number` at coordinate `at`, which it lacks.
 pub fn with_term(alloc: Global, row: &Row, at: u32, number: i128) -> Result<Row, AllocError>
     requires lacks { coefficient row.now at ≡ pos 0 }
     requires within { IsWithin number }

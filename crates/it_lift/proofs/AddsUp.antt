@@ -30,7 +30,7 @@ weighted_linear size g l (w ∷ ws) a =
     linear-add size (λ h. w.1 *ℤ g.form w.0 h) (λ h. combination ws (λ i. g.form i h))
     (linear-scale size w.1 (g.form w.0) (l w.0 (All-head (λ p. p.0 < g.count) w ws a))) (weighted_linear size g l ws (All-tail (λ p. p.0 < g.count) w ws a))
 
--- what is left over at a map
+-- the excess at a map
 abbrev left_over : CertificateView → Form → Generators → Form
 left_over w target g h = w.scale *ℤ target h -ℤ combination w.weights (λ i. g.form i h)
 
@@ -134,7 +134,7 @@ sums_even_out n ds e h z (suc m) l = by_test (nat_eq (closure n ds (suc m)) (clo
         ap (λ y. (e (suc m) *ℤ (h (suc m) -ℤ h y) +ℤ place_sum) +ℤ S *ℤ K) (place-set n ds (suc m) (omega arith) c)
         ∙ same_terms place_sum closure_sum S (sum_over e (nulls n ds m)) (e (suc m)) (h (suc m)) (h (closure n ds (suc m))) K (sum_over e (nulls n ds (suc m))) ih sums
 
--- at the end all are evened out
+-- at the end all excesses cancel
 all_evened : (n : ℕ) (ds : List Dependence) (e h : ℕ → ℤ) → h 0 ≡ pos 0
     → dot (2 ^ n) e (λ c. h c -ℤ h (place n ds c)) ≡ dot (2 ^ n) (with_empty n ds e) (λ c. h c -ℤ h (closure n ds c))
 all_evened n ds e h z =
@@ -172,7 +172,7 @@ linear_spread size n ds f k r l =
 no_difference : (x y : ℤ) → x ≡ y → x -ℤ y ≡ pos 0
 no_difference x y e = omega (arith, ints, e)
 
--- over closed sets nothing is left over
+-- over closed sets there is no excess
 none_left : (size n : ℕ) (ds : List Dependence) (target : Form) (g : Generators) (w : CertificateView) → 2 ^ n ≤ size → AreDependences n ds
     → IsLinear size target → ((i : ℕ) → i < g.count → IsLinear size (g.form i)) → All (λ p. p.0 < g.count) w.weights → AddsUpOverClosed size n ds target g w
     → (h : ℕ → ℤ) → h 0 ≡ pos 0 → left_over w target g (spread_out n ds h) ≡ pos 0

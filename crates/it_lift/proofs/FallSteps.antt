@@ -1,4 +1,4 @@
--- Products taken off one after the other.
+-- Products subtracted one after the other.
 use Rattle.std.proofs.Common.{◌≡◌, ◌↔◌, ℕ, ◌+◌, ◌<◌, ℤ, ◌-ℤ◌, ◌*ℤ◌, List, ◌∷◌, drop, get_or, length, Result, Ok, Err, sym, ap, subst, subst₂, ◌∙◌, arith}
 use Rattle.std.specs.Result.{OkIff}
 use Rattle.std.proofs.lemmas.Int.{ints}
@@ -30,7 +30,7 @@ falling-stops ws f whole i left x w h is at wide u all =
     let here : FallFits left (w ∷ drop (i + 1) ws) f = subst (λ (r : List (ℕ × ℤ)). FallFits left r f) (drop_item ws i w h is) (u.fits.1 all) in
     wide (subst (λ (y : ℤ). IsWithin (w.1 *ℤ y) × IsWithin (left -ℤ w.1 *ℤ y)) (sym at) (here.0, here.1))
 
--- the whole excess, from its first product and what is taken off
+-- the whole excess, from its first product and the products that are subtracted
 pub excess_is : {E : Type 0} (r : Result ℤ E) (x y : ℤ) (us ws : List (ℕ × ℤ)) (f : ℕ → ℤ) → x ≡ y → IsWithin y → us ≡ ws → OkIff r (FallFits x us f) (x -ℤ combination us f)
     → OkIff r (IsWithin y × FallFits y ws f) (y -ℤ combination ws f)
 excess_is {E = E} r x y us ws f e w s k = by_result r (subst₂ (λ (z : ℤ) (vs : List (ℕ × ℤ)). OkIff r (FallFits z vs f) (z -ℤ combination vs f)) e s k)

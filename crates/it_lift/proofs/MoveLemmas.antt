@@ -1,4 +1,4 @@
--- What is added to the weights sums, at every map, to what is left over.
+-- The amounts that are added to the weights sum, at every map, to the excess.
 use Rattle.std.proofs.Common.{◌≡◌, ℕ, zero, suc, ◌+◌, ◌^◌, ◌<◌, ◌≤◌, ℤ, pos, negsuc, neg_ℤ, ◌+ℤ◌, ◌-ℤ◌, ◌*ℤ◌, List, [], ◌∷◌, ◌++◌, map, length, Option, Some, None, Bool, true, false, cond, bit_and, bit_or, refl, sym, ap, ap₂, ◌∙◌, arith, All}
 use Rattle.std.specs.List.{flat_map, AllByRecursion as Every}
 use Rattle.std.proofs.lemmas.Int.{ints}
@@ -63,7 +63,7 @@ mutual-value n ds h v x a t w ha ht =
     (less_meet_right n t a ht ha) (less_meet n a t ha ht) (back_listed n es valid)
     ∙ omega (arith, ints, ap h (less_joined_right n t a ht ha), ap h (less_joined n a t ha ht), ap h (less_all n a t ha ht)))
 
--- one turn
+-- one step of the way
 turn-value : (n : ℕ) (ds : List Dependence) (h v : ℕ → ℤ) (x : ℤ) (a : ℕ) (d : Dependence) → AreGeneratorValues n ds h v → a < 2 ^ n → d.to < 2 ^ n → IsInside d.from a → IsInside d.from d.to
     → v d.generator ≡ signed_value d.negated (h d.to -ℤ h d.from)
     → combination (turn_moves n x (a, d)) v ≡ x *ℤ (h a -ℤ h (bit_or a d.to))

@@ -83,7 +83,7 @@ weights_by_number n x is es a e = by_list is (every_of (λ i. i < length (elemen
 pub less_found : (s t r : ℕ) → r + bit_and t s ≡ s → r ≡ set_difference s t
 less_found s t r e = omega arith
 
--- the three parts of a turn
+-- the three parts of a step of the way
 pub turn_parts : (n : ℕ) (x : ℤ) (a : ℕ) (d : Dependence) (u v w z : ℕ) → u ≡ set_difference d.to a → v ≡ set_difference a d.to → w ≡ bit_and a d.to → z ≡ set_difference w d.from
     → (each_weight n x (mutual_expansion (members n u) (members n v) w) ++ each_weight n x (conditional_expansion n (members n z) d.from)) ++ (d.generator, signed_value (not d.negated) x) ∷ [] ≡ turn_moves n x (a, d)
 turn_parts n x a d u v w z eu ev ew ez = rw (ez, ew, eu, ev) (ap (λ y. (each_weight n x (mutual_expansion (members n (set_difference d.to a)) (members n (set_difference a d.to)) (bit_and a d.to))

@@ -26,7 +26,7 @@ pub record IsWayUnderWay (n : ℕ) (ds : List Dependence) (x : ℤ) (s : ℕ) (o
   pub added : AreWeightsAdded old now done
   pub rest : done ++ on_way n ds x a ≡ on_way n ds x s
 
--- the facts of a turn
+-- the facts of a step of the way
 pub record IsTurn (n : ℕ) (ds : List Dependence) (len a : ℕ) (d : Dependence) : Type 0 where
   pub to_below : d.to < 2 ^ n
   pub known : IsInside d.from a

@@ -10,36 +10,36 @@ use Rattle.it_closure.specs.declared.dependences.Dependence.{Dependence}
 use Rattle.it_lift.specs.Lifts.{excess, null_sets, moves, lifted_weights}
 use Rattle.it_closure.specs.Collapse.{AreDependences}
 
--- each product and each partial sum, where one product after the other is taken off
+-- each product and each partial result is within the limit, as the products are subtracted one after the other
 abbrev pub FallFits : ℤ → List (ℕ × ℤ) → (ℕ → ℤ) → Type 0
 FallFits sum [] f = Unit {0}
 FallFits sum (w ∷ ws) f = IsWithin (w.1 *ℤ f w.0) × IsWithin (sum -ℤ w.1 *ℤ f w.0) × FallFits (sum -ℤ w.1 *ℤ f w.0) ws f
 
--- the numbers from which the excess at a nonempty set is formed
+-- the numbers that the excess at a nonempty set is formed from are within the limit
 abbrev pub ExcessFits : CertificateView → Form → Generators → ℕ → Type 0
 ExcessFits w target g s = IsWithin (w.scale *ℤ target (one_at s)) × FallFits (w.scale *ℤ target (one_at s)) w.weights (λ i. g.form i (one_at s))
 
--- each partial sum over some sets, on top of a sum so far
+-- each partial sum over some sets, starting with an earlier sum, is within the limit
 abbrev pub PartialSumsFit : ℤ → (ℕ → ℤ) → List ℕ → Type 0
 PartialSumsFit sum e [] = Unit {0}
 PartialSumsFit sum e (s ∷ ss) = IsWithin (sum +ℤ e s) × PartialSumsFit (sum +ℤ e s) e ss
 
--- the numbers before any weight is moved
+-- the numbers that are formed before any weight changes are within the limit
 pub record EmptyFits (n : ℕ) (ds : List Dependence) (target : Form) (g : Generators) (w : CertificateView) : Type 0 where
   pub excesses : (s : ℕ) → 0 < s → s < 2 ^ n → ExcessFits w target g s
   pub empty : PartialSumsFit (pos 0) (excess w target g) (null_sets n ds)
 
--- all numbers of a lift
+-- all numbers of a lift are within the limit
 pub record LiftFits (n : ℕ) (ds : List Dependence) (target : Form) (g : Generators) (w : CertificateView) : Type 0 where
   pub before : EmptyFits n ds target g w
   pub weights : (i : ℕ) → IsWithin (coefficient (lifted_weights n ds target g w) i)
 
--- each weight while amounts are added, one after the other
+-- each weight is within the limit while amounts are added, one after the other
 abbrev pub WeightSumsFit : (ℕ → ℤ) → List (ℕ × ℤ) → Type 0
 WeightSumsFit f [] = Unit {0}
 WeightSumsFit f (m ∷ ms) = IsWithin (f m.0 +ℤ m.1) × WeightSumsFit (plus_at f m) ms
 
--- generators in ascending order, from a number on
+-- the generators ascend, from at least `from` on
 abbrev pub GeneratorsAscend : ℕ → List Dependence → Type 0
 GeneratorsAscend from [] = Unit {0}
 GeneratorsAscend from (d ∷ ds) = (from ≤ d.generator) × GeneratorsAscend (d.generator + 1) ds

@@ -1,4 +1,4 @@
--- What a lift is given and what it gives.
+-- The input and the result of a lift.
 use Rattle.std.specs.Prelude.{◌≡◌, ◌≢◌, ℕ, ◌<◌, ◌+◌, ℤ, pos, true, ◌-ℤ◌, ◌*ℤ◌, ◌≤◌, List, [], ◌∷◌, All}
 use Rattle.it_number.specs.Limit.{IsWithin}
 use Rattle.it_space.specs.Problems.{ProblemView}
@@ -20,19 +20,19 @@ pub record AreDependencesOf (q : ProblemView) (d : DependencesView) : Type 0 whe
   pub kinds : All (λ x. (generators_of q).is_equation x.generator ≡ true) d.list
   pub equations : All (λ x. (h : ℕ → ℤ) → h 0 ≡ pos 0 → (generators_of q).form x.generator h ≡ signed_value x.negated (h x.to -ℤ h x.from)) d.list
 
--- the numbers of weights ascend from one on
+-- the weights' numbers ascend, from at least `from` on
 abbrev pub WeightsAscend : ℕ → List (ℕ × ℤ) → Type 0
 WeightsAscend from [] = Unit {0}
 WeightsAscend from (w ∷ ws) = (from ≤ w.0) × WeightsAscend (w.0 + 1) ws
 
--- a certificate over closed sets: ascending weights that may stand in a certificate, and that add up over closed sets
+-- a certificate over closed sets: ascending weights that are allowed in a certificate, and that add up over closed sets
 pub record IsCertificateOverClosed (q : ProblemView) (d : DependencesView) (target : Terms) (w : CertificateView) : Type 0 where
   pub order : WeightsAscend 0 w.weights
   pub allowed : All (IsAllowed (generators_of q)) w.weights
   pub within : All (λ p. IsWithin p.1) w.weights
   pub sums : AddsUpOverClosed (size_of q.space + 1) d.space.variables d.list (value target) (generators_of q) w
 
--- the weights with all that is added, in order, and they add up at every map
+-- new has the scale of old and its weights with all amounts added, in ascending order, and adds up at every map
 pub record IsLiftOf (q : ProblemView) (d : DependencesView) (target : Terms) (old new : CertificateView) : Type 0 where
   pub scale : new.scale ≡ old.scale
   pub order : WeightsAscend 0 new.weights
@@ -44,6 +44,6 @@ pub record IsLiftOf (q : ProblemView) (d : DependencesView) (target : Terms) (ol
 abbrev pub FitsLift : ProblemView → DependencesView → Terms → CertificateView → Type 0
 FitsLift q d target w = LiftFits d.space.variables d.list (value target) (generators_of q) w
 
--- a lift is to be made, and a number of it passes the limit
+-- there are dependences, and a number of the lift passes the limit
 abbrev pub IsLiftWide : ProblemView → DependencesView → Terms → CertificateView → Type 0
 IsLiftWide q d target w = (d.list ≢ []) × (¬ (FitsLift q d target w))

@@ -10,7 +10,7 @@ use Rattle.it_closure.specs.Closures.{closure, way}
 use Rattle.it_closure.specs.Collapse.{AreDependences, spread_out}
 use Rattle.it_elemental.specs.Indexes.{elemental_index}
 
--- What is left over at a set: the scale times the target's coefficient, less the weights times the generators' coefficients.
+-- The excess at a set: the scale times the target's coefficient, less the weights times the generators' coefficients.
 abbrev pub excess : CertificateView → Form → Generators → ℕ → ℤ
 excess w target g s = w.scale *ℤ target (one_at s) -ℤ combination w.weights (λ i. g.form i (one_at s))
 
@@ -23,7 +23,7 @@ abbrev pub sum_over : (ℕ → ℤ) → List ℕ → ℤ
 sum_over e [] = pos 0
 sum_over e (s ∷ ss) = e s +ℤ sum_over e ss
 
--- amounts at sets, and at the empty set what evens out those at the sets with its closure
+-- the amounts e at nonempty sets, and at the empty set the negated sum of those at the sets with its closure
 abbrev pub with_empty : ℕ → List Dependence → (ℕ → ℤ) → ℕ → ℤ
 with_empty n ds e zero = neg_ℤ (sum_over e (null_sets n ds))
 with_empty n ds e (suc s) = e (suc s)
@@ -32,7 +32,7 @@ with_empty n ds e (suc s) = e (suc s)
 abbrev pub set_difference : ℕ → ℕ → ℕ
 set_difference s t = s - bit_and t s
 
--- one more weight for each of some elemental inequalities
+-- the amount x for the weight of each of some elemental inequalities
 abbrev pub each_weight : ℕ → ℤ → List Elemental → List (ℕ × ℤ)
 each_weight n x es = map (λ e. (elemental_index n e, x)) es
 
@@ -50,15 +50,15 @@ moves_at n ds s (negsuc k) = each_weight n (pos (suc k)) (conditional_expansion 
 moves_at n ds s (pos zero) = []
 moves_at n ds s (pos (suc k)) = flat_map (turn_moves n (pos (suc k))) (way n ds s)
 
--- what is added to the weights for one set
+-- the amounts that are added to the weights for one set
 abbrev pub moves_of : ℕ → List Dependence → (ℕ → ℤ) → ℕ → List (ℕ × ℤ)
 moves_of n ds e s = moves_at n ds s (with_empty n ds e s)
 
--- all that is added to the weights, by the sets' numbers
+-- all amounts that are added to the weights, by the sets' numbers
 abbrev pub moves : ℕ → List Dependence → (ℕ → ℤ) → List (ℕ × ℤ)
 moves n ds e = flat_map (moves_of n ds e) (span 0 (2 ^ n))
 
--- the weights over all sets: those over closed sets with all that is added
+-- the weights over all sets: those over closed sets with all amounts added
 abbrev pub lifted_weights : ℕ → List Dependence → Form → Generators → CertificateView → List (ℕ × ℤ)
 lifted_weights n ds target g w = w.weights ++ moves n ds (excess w target g)
 

@@ -1,10 +1,10 @@
--- The dependences that are read from a problem are those that a lift is given.
+-- The dependences that are read from a problem are as a lift requires them.
 use Rattle.std.specs.Prelude.{◌≡◌}
 use Rattle.it_space.specs.Problems.{ProblemView, IsProblem}
 use Rattle.it_closure.specs.DependencesViews.{DependencesView}
 use Rattle.it_closure.specs.Reading.{dependences_of}
 use Rattle.it_lift.specs.LiftedCertificates.{AreDependencesOf}
 
--- what is read from a problem are equations of it, in order
+-- the dependences that are read from a problem are equations of it, in order
 abbrev pub ReadingGivesDependences : Type 0
 ReadingGivesDependences = (q : ProblemView) (d : DependencesView) → IsProblem q → d.space ≡ q.space → d.list ≡ dependences_of q → AreDependencesOf q d

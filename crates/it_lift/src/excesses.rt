@@ -1,7 +1,6 @@
-//! What is left over at a set, where weights that add up over closed sets are taken over all sets.
+//! The excess at a set: the difference that is left there when weights that add up over closed sets are used over all sets.
 ghost use Rattle.std.specs.Prelude.{◌≡◌, ◌<◌, ◌+◌, ℤ, pos, ◌+ℤ◌, ◌-ℤ◌, ◌*ℤ◌, cond, All, OkIff, OnOk, OnErr, IfOk};
 ghost use Rattle.it_number.specs.Limit.{IsWithin};
-ghost use Rattle.it_space.specs.Problems.{IsProblem, problem_view};
 ghost use Rattle.it_space.specs.Rows.{value};
 ghost use Rattle.it_polymatroid.specs.Certificates.{combination};
 ghost use Rattle.it_lift.specs.Fits.{FallFits};
@@ -14,15 +13,15 @@ use it_elemental::coefficient_at;
 use it_fraction::{Wide, difference, signed_product, sum};
 use it_space::{Certificate, Problem, Row, VarSet};
 
-/// The scale times the target's coefficient at a nonempty set, less the weights times the generators' coefficients.
+/// The excess at `set`, which isn't empty: the scale times the target's coefficient, less the weights times the generators'
+/// coefficients. `Wide` if a product or a partial sum passes the limit.
 pub fn excess(
     problem: &Problem,
     target: &Row,
     collapsed: &Certificate,
     set: VarSet,
 ) -> Result<i128, Wide>
-    requires problem { IsProblem (problem_view problem.now) }
-    requires listed { All (λ p. p.0 < (generators_of (problem_view problem.now)).count) collapsed.now.weights.items }
+    requires listed { All (λ p. p.0 < (generators_of problem.now).count) collapsed.now.weights.items }
     requires some { 0 < set }
     ensures { IsExcessOrWide problem.now target.now collapsed.now set result }
 {
@@ -30,15 +29,14 @@ pub fn excess(
     left_of(problem, collapsed.weights.as_slice(), set, whole)
 }
 
-/// What is left of a number where the weights times the generators' coefficients are taken off.
+/// `whole` less the weights times the generators' coefficients at `set`.
 fn left_of(
     problem: &Problem,
     weights: &[(u32, i128)],
     set: VarSet,
     whole: i128,
 ) -> Result<i128, Wide>
-    requires problem { IsProblem (problem_view problem.now) }
-    requires listed { All (λ p. p.0 < (generators_of (problem_view problem.now)).count) weights.now }
+    requires listed { All (λ p. p.0 < (generators_of problem.now).count) weights.now }
     requires some { 0 < set }
     ensures { OkIff result (FallFits whole weights.now (coefficients_at problem.now set)) (whole -ℤ combination weights.now (coefficients_at problem.now set)) }
 {
@@ -49,41 +47,41 @@ fn left_of(
     Ok(left)
 }
 
-/// The coefficient of a generator at a nonempty set.
+/// The coefficient of generator `index` at `set`, which isn't empty.
 fn coefficient_at_set(problem: &Problem, index: u32, set: VarSet) -> i128
-    requires problem { IsProblem (problem_view problem.now) }
-    requires listed { index < (generators_of (problem_view problem.now)).count }
+    requires listed { index < (generators_of problem.now).count }
     requires some { 0 < set }
     ensures { result ≡ coefficients_at problem.now set index }
 {
     coefficient_at(problem, index, set.number() as u32)
 }
 
-/// The sum with the product of two numbers taken off.
+/// `sum` less the product of `a` and `b`; `Wide` if the product or the difference passes the limit.
 fn less_product(sum: i128, a: i128, b: i128) -> Result<i128, Wide>
     ensures { OkIff result (IsWithin (a *ℤ b) × IsWithin (sum -ℤ a *ℤ b)) (sum -ℤ a *ℤ b) }
 {
     difference(sum, signed_product(a, b)?)
 }
 
-/// The excess of the empty set: the sum of those of the nonempty sets that have its closure, with its sign turned.
+/// The excess at the empty set: the negated sum of those at the nonempty sets that have its closure. `Wide` if a number of the excess
+/// at any nonempty set, or a partial sum, passes the limit.
 pub fn empty_excess(
     problem: &Problem,
     dependences: &Dependences,
     target: &Row,
     collapsed: &Certificate,
 ) -> Result<i128, Wide>
-    requires problem { IsProblem (problem_view problem.now) }
     requires space { dependences.now.space ≡ problem.now.space }
-    requires listed { All (λ p. p.0 < (generators_of (problem_view problem.now)).count) collapsed.now.weights.items }
+    requires listed { All (λ p. p.0 < (generators_of problem.now).count) collapsed.now.weights.items }
     ensures fits { OnOk result (ExcessesFit problem.now dependences.now target.now collapsed.now) }
     ensures value { IfOk result (λ v. v ≡ with_empty dependences.now.space.variables dependences.now.list (excess_at problem.now target.now collapsed.now) 0) }
     ensures within { IfOk result IsWithin }
     ensures wide { OnErr result (¬ (ExcessesFit problem.now dependences.now target.now collapsed.now)) }
 {
+    problem.facts();
     let null = dependences.close(VarSet::empty());
     let mut total: i128 = 0;
-    for number in 1..1u16 << problem.space.variables {
+    for number in 1..1u16 << problem.space().variables {
         let set = VarSet::from_number(number);
         let left = excess(problem, target, collapsed, set)?;
         total = plus_if(total, dependences.close(set) == null, left)?;
@@ -91,7 +89,7 @@ pub fn empty_excess(
     Ok(-total)
 }
 
-/// The total, with a number added where it is wanted.
+/// `total`, with `number` added if `wanted`; `Wide` if the sum passes the limit.
 fn plus_if(total: i128, wanted: bool, number: i128) -> Result<i128, Wide>
     requires within { IsWithin total }
     ensures { OkIff result (IsWithin (total +ℤ cond wanted number (pos 0))) (total +ℤ cond wanted number (pos 0)) }

@@ -1,4 +1,4 @@
-//! Theorems on the definitions, each as the contract of a function.
+//! Theorems about the definitions, each as the contract of a function.
 ghost use Rattle.it_lift.specs.Lifts.{LiftAddsUp};
 ghost use Rattle.it_lift.specs.OfProblems.{ReadingGivesDependences};
 ghost use Rattle.it_lift.specs.Fits.{WeightSumsFitAsEnd};
@@ -8,12 +8,12 @@ pub fn lift_adds_up()
     ensures { LiftAddsUp }
 {}
 
-/// A weight is within the limit throughout a lift exactly where it is at its end.
+/// A weight is within the limit throughout a lift exactly if it is at its end.
 pub fn weight_sums_fit_as_end()
     ensures { WeightSumsFitAsEnd }
 {}
 
-/// The dependences that are read from a problem are those that a lift is given.
+/// The dependences that are read from a problem are as a lift requires them.
 pub fn reading_gives_dependences()
     ensures { ReadingGivesDependences }
 {}

@@ -1,7 +1,6 @@
 //! The lift of a certificate.
 ghost use Rattle.std.specs.Prelude.{[], ◌≢◌, ◌≡◌, ◌<◌, ◌≤◌, ◌+◌, ◌-◌, pos, length, All, OnOk, IfOk, IfErr};
 ghost use Rattle.it_space.specs.Answers.{certificate_view};
-ghost use Rattle.it_space.specs.Problems.{IsProblem, problem_view};
 ghost use Rattle.it_space.specs.Rows.{IsOver};
 ghost use Rattle.it_space.specs.Spaces.{size_of};
 ghost use Rattle.it_polymatroid.specs.Elementals.{elementals};
@@ -18,8 +17,9 @@ use it_elemental::count;
 use it_space::{Certificate, Problem, Row, RowFault, VarSet};
 use std::alloc::Global;
 
-/// The certificate over all sets that a certificate over closed sets stands for: what is left over at a set is moved to
-/// its closure, by the inequalities and equations that hold for the two. Without dependences it is the same certificate.
+/// The certificate over all sets that `collapsed`, a certificate over closed sets, represents: the excess at each set is moved to its
+/// closure, by inequalities and equations between the two. Without dependences it is a copy of `collapsed`. `Wide` if a number passes
+/// the limit.
 pub fn lift(
     alloc: Global,
     problem: &Problem,
@@ -27,23 +27,23 @@ pub fn lift(
     target: &Row,
     collapsed: &Certificate,
 ) -> Result<Certificate, RowFault>
-    requires problem { IsProblem (problem_view problem.now) }
-    requires dependences { AreDependencesOf (problem_view problem.now) dependences.now }
+    requires dependences { AreDependencesOf problem.now dependences.now }
     requires target { IsOver (size_of problem.now.space) target.now }
-    requires sums { IsCertificateOverClosed (problem_view problem.now) dependences.now target.now (certificate_view collapsed.now) }
+    requires sums { IsCertificateOverClosed problem.now dependences.now target.now (certificate_view collapsed.now) }
     ensures unchanged { IfOk result (λ c. dependences.now.list ≡ [] → certificate_view c ≡ certificate_view collapsed.now) }
-    ensures fits { OnOk result (dependences.now.list ≢ [] → FitsLift (problem_view problem.now) dependences.now target.now (certificate_view collapsed.now)) }
+    ensures fits { OnOk result (dependences.now.list ≢ [] → FitsLift problem.now dependences.now target.now (certificate_view collapsed.now)) }
     ensures nonzero { IfOk result (λ c. dependences.now.list ≢ [] → All (λ p. p.1 ≢ pos 0) (certificate_view c).weights) }
-    ensures lifted { IfOk result (λ c. IsLiftOf (problem_view problem.now) dependences.now target.now (certificate_view collapsed.now) (certificate_view c)) }
-    ensures wide { IfErr result (λ f. f ≡ RowFault.Wide → IsLiftWide (problem_view problem.now) dependences.now target.now (certificate_view collapsed.now)) }
+    ensures lifted { IfOk result (λ c. IsLiftOf problem.now dependences.now target.now (certificate_view collapsed.now) (certificate_view c)) }
+    ensures wide { IfErr result (λ f. f ≡ RowFault.Wide → IsLiftWide problem.now dependences.now target.now (certificate_view collapsed.now)) }
 {
+    problem.facts();
     if dependences.list().is_empty() {
         return Ok(collapsed.copy(alloc)?);
     }
     lift_all(alloc, problem, dependences, target, collapsed)
 }
 
-/// The same with every number formed.
+/// Like `lift`, without the shortcut for no dependences.
 fn lift_all(
     alloc: Global,
     problem: &Problem,
@@ -51,16 +51,16 @@ fn lift_all(
     target: &Row,
     collapsed: &Certificate,
 ) -> Result<Certificate, RowFault>
-    requires problem { IsProblem (problem_view problem.now) }
-    requires dependences { AreDependencesOf (problem_view problem.now) dependences.now }
+    requires dependences { AreDependencesOf problem.now dependences.now }
     requires target { IsOver (size_of problem.now.space) target.now }
-    requires sums { IsCertificateOverClosed (problem_view problem.now) dependences.now target.now (certificate_view collapsed.now) }
-    ensures fits { OnOk result (FitsLift (problem_view problem.now) dependences.now target.now (certificate_view collapsed.now)) }
+    requires sums { IsCertificateOverClosed problem.now dependences.now target.now (certificate_view collapsed.now) }
+    ensures fits { OnOk result (FitsLift problem.now dependences.now target.now (certificate_view collapsed.now)) }
     ensures nonzero { IfOk result (λ c. All (λ p. p.1 ≢ pos 0) (certificate_view c).weights) }
-    ensures lifted { IfOk result (λ c. IsLiftOf (problem_view problem.now) dependences.now target.now (certificate_view collapsed.now) (certificate_view c)) }
-    ensures wide { IfErr result (λ f. f ≡ RowFault.Wide → ¬ (FitsLift (problem_view problem.now) dependences.now target.now (certificate_view collapsed.now))) }
+    ensures lifted { IfOk result (λ c. IsLiftOf problem.now dependences.now target.now (certificate_view collapsed.now) (certificate_view c)) }
+    ensures wide { IfErr result (λ f. f ≡ RowFault.Wide → ¬ (FitsLift problem.now dependences.now target.now (certificate_view collapsed.now))) }
 {
-    let count = count(problem.space.variables) as usize + problem.constraints.len();
+    problem.facts();
+    let count = count(problem.space().variables) as usize + problem.constraints().len();
     let mut sums = WeightSums::start(alloc, count, collapsed.weights.as_slice())?;
     add_all(alloc, &mut sums, problem, dependences, target, collapsed)?;
     Ok(Certificate {
@@ -69,7 +69,7 @@ fn lift_all(
     })
 }
 
-/// Adds to the weights of what evens out the excesses at all sets.
+/// Adds to the weights of the generators that cancel the excesses at all sets.
 fn add_all(
     alloc: Global,
     sums: &mut WeightSums,
@@ -78,9 +78,8 @@ fn add_all(
     target: &Row,
     collapsed: &Certificate,
 ) -> Result<(), RowFault>
-    requires problem { IsProblem (problem_view problem.now) }
     requires space { dependences.now.space ≡ problem.now.space }
-    requires listed { All (λ p. p.0 < (generators_of (problem_view problem.now)).count) collapsed.now.weights.items }
+    requires listed { All (λ p. p.0 < (generators_of problem.now).count) collapsed.now.weights.items }
     requires places { All (λ d. d.generator < length sums.old) dependences.now.list }
     requires complete { length (elementals dependences.now.space.variables) ≤ length sums.old }
     ensures before { OnOk result (ExcessesFit problem.now dependences.now target.now collapsed.now) }
@@ -93,7 +92,7 @@ fn add_all(
     Ok(())
 }
 
-/// The same for the nonempty sets.
+/// Like `add_all`, for the nonempty sets.
 fn add_others(
     alloc: Global,
     sums: &mut WeightSums,
@@ -102,16 +101,16 @@ fn add_others(
     target: &Row,
     collapsed: &Certificate,
 ) -> Result<(), RowFault>
-    requires problem { IsProblem (problem_view problem.now) }
     requires space { dependences.now.space ≡ problem.now.space }
-    requires listed { All (λ p. p.0 < (generators_of (problem_view problem.now)).count) collapsed.now.weights.items }
+    requires listed { All (λ p. p.0 < (generators_of problem.now).count) collapsed.now.weights.items }
     requires places { All (λ d. d.generator < length sums.old) dependences.now.list }
     requires complete { length (elementals dependences.now.space.variables) ≤ length sums.old }
     requires before { ExcessesFit problem.now dependences.now target.now collapsed.now }
     ensures added { OnOk result (AreWeightsAdded sums.old sums.new (nonempty_moves problem.now dependences.now target.now collapsed.now)) }
     ensures wide { IfErr result (AreSumsWide sums.old (nonempty_moves problem.now dependences.now target.now collapsed.now)) }
 {
-    for number in 1..1u16 << problem.space.variables {
+    problem.facts();
+    for number in 1..1u16 << problem.space().variables {
         let set = VarSet::from_number(number);
         let left = excess(problem, target, collapsed, set)?;
         add_moves(alloc, sums, dependences, set, left)?;

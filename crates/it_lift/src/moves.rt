@@ -15,7 +15,7 @@ use it_elemental::{expand_conditional, expand_mutual};
 use it_space::{RowFault, VarSet};
 use std::alloc::Global;
 
-/// Adds to the weights of the inequalities that sum to I(a; b | c).
+/// Adds `amount` to the weights of the inequalities that sum to I(a; b | c).
 fn add_mutual(
     alloc: Global,
     sums: &mut WeightSums,
@@ -43,7 +43,7 @@ fn add_mutual(
     Ok(())
 }
 
-/// Adds to the weights of the inequalities that sum to H(a | k).
+/// Adds `amount` to the weights of the inequalities that sum to H(a | k).
 fn add_conditional(
     alloc: Global,
     sums: &mut WeightSums,
@@ -67,7 +67,7 @@ fn add_conditional(
     Ok(())
 }
 
-/// Adds to the weights of what leads from a set to its union with what a dependence determines.
+/// Adds `amount` to the weights of the generators that lead from `set` to its union with the set that `by` determines.
 fn add_turn(
     alloc: Global,
     sums: &mut WeightSums,
@@ -103,7 +103,7 @@ fn add_turn(
     Ok(())
 }
 
-/// Adds to the weights of what leads from a set to its closure, one dependence after the other.
+/// Adds `amount` to the weights of the generators that lead from `set` to its closure, one dependence after the other.
 fn add_way(
     alloc: Global,
     sums: &mut WeightSums,
@@ -123,7 +123,7 @@ fn add_way(
     ensures wide { IfErr result (AreSumsWide sums.old (flat_map (turn_moves n (pos amount)) (way n list.now set))) }
 {
     let mut all = set;
-    // a `loop` with `match`, since the proof takes the equation of `None` at the return
+    // a `loop` with `match`, since the proof uses the equation of `None` at the return
     loop {
         match first_open(list, all) {
             Some(open) => {
@@ -136,7 +136,7 @@ fn add_way(
     }
 }
 
-/// Adds to the weights of what evens out the excess at a set, by its way to its closure.
+/// Adds to the weights of the generators that cancel the excess at `set`, by its way to its closure.
 pub fn add_moves(
     alloc: Global,
     sums: &mut WeightSums,

@@ -1,4 +1,4 @@
-//! The weights of all generators, while amounts are added to them.
+//! The weights of all generators, to which amounts are added.
 ghost use Rattle.std.specs.Prelude.{◌≡◌, ◌<◌, ◌^◌, ℤ, pos, [], ◌∷◌, length, ℕ, ◌≤◌, All, IfOk, OnOk, OnErr};
 ghost use Rattle.it_space.specs.Rows.{coefficient};
 ghost use Rattle.it_space.specs.Sums.{number_at, terms_from};
@@ -27,7 +27,7 @@ impl Model for WeightSums {
 }
 
 impl WeightSums {
-    /// The weights of a list, those of the other generators 0.
+    /// The weights of `count` generators: those of the list, and 0 for all others.
     pub fn start(
         alloc: Global,
         count: usize,
@@ -42,7 +42,7 @@ impl WeightSums {
         Ok(WeightSums { sums })
     }
 
-    /// The weights other than 0, each after its generator's number.
+    /// The nonzero weights, each after its generator's number.
     pub fn weights(&self, alloc: Global) -> Result<Vec<(u32, i128)>, AllocError>
         requires { length self.now ≤ 2 ^ 31 }
         ensures { IfOk result (λ v. v.items ≡ terms_from 0 self.now) }
@@ -50,7 +50,7 @@ impl WeightSums {
         self.sums.terms(alloc, 0)
     }
 
-    /// Adds to one weight, or takes from it.
+    /// Adds `amount` to the weight of generator `index`, or subtracts it if `taken`; `Wide` if the result passes the limit.
     pub fn add(&mut self, index: u32, amount: u128, taken: bool) -> Result<(), Wide>
         requires place { index < length self.old }
         requires within { amount < 2 ^ 127 }
@@ -60,7 +60,7 @@ impl WeightSums {
         self.sums.add(index as usize, signed_amount(amount, taken))
     }
 
-    /// Adds the same to each of some weights.
+    /// Adds `amount` to the weight of each generator in `indexes`; `Wide` if a result passes the limit.
     pub fn add_each(&mut self, indexes: &[u32], amount: u128) -> Result<(), Wide>
         requires places { All (λ i. i < length self.old) indexes.now }
         requires within { amount < 2 ^ 127 }
@@ -74,7 +74,7 @@ impl WeightSums {
     }
 }
 
-/// The amount, or its negation where it is taken off.
+/// `amount`, negated if `taken`.
 fn signed_amount(amount: u128, taken: bool) -> i128
     requires { amount < 2 ^ 127 }
     ensures { result ≡ signed_value taken (pos amount) }
@@ -83,7 +83,7 @@ fn signed_amount(amount: u128, taken: bool) -> i128
     if taken { -amount } else { amount }
 }
 
-/// The weights by their generators' numbers, 0 where none is.
+/// The weights by their generators' numbers, 0 for generators that aren't in the list.
 fn sums_of(alloc: Global, count: usize, weights: &[(u32, i128)]) -> Result<Sums, AllocError>
     requires order { WeightsAscend 0 weights.now }
     requires places { All (λ w. w.0 < count) weights.now }

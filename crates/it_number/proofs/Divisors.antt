@@ -47,7 +47,7 @@ coprime_below a b d e g p q = (one-dvd d, one-dvd e, λ k r s. g.2 k (dvd_trans 
 pub coprime_product : (a b c : ℕ) → IsGcd a c 1 → IsGcd b c 1 → IsGcd (a * b) c 1
 coprime_product a b c g h = (one-dvd (a * b), one-dvd c, λ d p q. h.2 d (euclid d a b (IsGcd-swap a d 1 (coprime_below a c a d g (dvd_refl a) q)) p) q)
 
--- after the greatest common divisor is divided away none is left
+-- numbers divided by their greatest common divisor have no common divisor above 1
 pub coprime_rest : (a b g : ℕ) → 0 < g → IsGcd a b g → IsGcd (a / g) (b / g) 1
 coprime_rest a b g pos_g e = (
   one-dvd (a / g),
@@ -67,7 +67,7 @@ lowest_unique a b c d hb hd g h e =
 pub IsGcd-pos : (a b g : ℕ) → 0 < b → IsGcd a b g → 0 < g
 IsGcd-pos a b g h e = pos_of_dvd_of_pos e.1 h
 
--- what is multiplied to a number above 0 is above 0, and to one that is at most a number is at most that
+-- the factors of a number above 0 are above 0, and those of a number at most n are at most n
 pub quotient_some : (k s b : ℕ) → k * s ≡ b → 0 < b → 0 < k
 quotient_some zero s b e h = absurd (omega (arith, e, h))
 quotient_some (suc k) s b e h = omega arith
@@ -85,7 +85,7 @@ gcd-step a b = same_from_IsGcd a b (gcd b (a % b)) (gcd a b) (IsGcd-from_mod a b
 pub gcd-zero : (a b : ℕ) → b ≡ 0 → gcd a b ≡ a
 gcd-zero a b e = same_from_IsGcd a b (gcd a b) a (gcd_is a b) (IsGcd-from_zero a b e)
 
--- 1 shares nothing
+-- 1 has no common divisor above 1 with any number
 pub gcd-one : (a : ℕ) → gcd a 1 ≡ 1
 gcd-one a = dvd_antisymm (gcd_is a 1).1 (one-dvd (gcd a 1))
 

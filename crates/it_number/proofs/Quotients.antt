@@ -1,4 +1,4 @@
--- What the definition of a quotient in lowest terms rests on.
+-- Lemmas for the definition of a quotient in lowest terms.
 use Rattle.std.proofs.Common.{◌≡◌, ℕ, zero, suc, ◌*◌, ◌/◌, ◌<◌, ℤ, pos, negsuc, neg_ℤ, unsigned_abs, refl, arith, lit<}
 use Rattle.std.specs.Int.{IsGcd}
 use Rattle.it_number.specs.Division.{int_quotient}

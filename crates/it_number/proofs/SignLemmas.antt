@@ -1,4 +1,4 @@
--- Integers by their signs: sums with 0, sums and products of what is at least 0, what a positive factor leaves, the size of a
+-- Integers by their signs: sums with 0, sums and products of numbers of at least 0, multiples by positive factors, the size of a
 -- negation.
 use Rattle.std.proofs.Common.{◌≡◌, ℕ, zero, suc, ◌<◌, ℤ, pos, negsuc, neg_ℤ, unsigned_abs, ◌+ℤ◌, ◌*ℤ◌, ◌≤ℤ◌, ◌<ℤ◌, refl, arith}
 use Rattle.std.proofs.lemmas.Int.{ints}

@@ -1,4 +1,4 @@
--- What the gate proves of greatest common divisors and least common multiples.
+-- Laws of greatest common divisors and least common multiples.
 use Rattle.std.specs.Prelude.{ℕ, ◌*◌}
 use Rattle.std.specs.Int.{IsGcd}
 use Prim.Native.Nat.{◌∣◌}
@@ -16,6 +16,6 @@ IsLcm a b m = (a ∣ m) × (b ∣ m) × ((n : ℕ) → a ∣ n → b ∣ n → m
 abbrev pub LcmIsLeast : Type 0
 LcmIsLeast = (a b : ℕ) → IsLcm a b (lcm a b)
 
--- Euclid's lemma: what divides a product and has no common divisor with one factor divides the other
+-- Euclid's lemma: a number that divides a product and is coprime to one factor divides the other
 abbrev pub EuclidsLemma : Type 0
 EuclidsLemma = (a b c : ℕ) → IsGcd a b 1 → a ∣ b * c → a ∣ c

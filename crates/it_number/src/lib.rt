@@ -1,5 +1,5 @@
-//! The mathematics of whole numbers under the product's exact arithmetic: greatest common divisors,
-//! divisors of numbers with a sign, a solver of equations in any commutative ring, and decimal texts.
+//! The mathematics of whole numbers below the exact arithmetic: greatest common divisors, division of signed numbers, a solver of
+//! equations in any commutative ring, and decimal texts.
 #![tactic(auto)]
 
 ghost use Rattle.it_number.specs.Laws.{EuclidsLemma, GcdIsGreatest, LcmIsLeast};
@@ -14,7 +14,7 @@ pub fn lcm_is_least()
     ensures { LcmIsLeast }
 {}
 
-/// What divides a product and is coprime to one factor divides the other (Euclid, Elements VII.30).
+/// A number that divides a product and is coprime to one factor divides the other (Euclid, Elements VII.30).
 #[tactic(auto, using(crate::proofs::Divisors::euclid))]
 pub fn euclids_lemma()
     ensures { EuclidsLemma }

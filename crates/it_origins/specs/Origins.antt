@@ -1,4 +1,4 @@
--- Where a row of a problem comes from: the sum of constraints that it is, so many times.
+-- Where a row of a problem comes from: the sum of constraints that equals it, up to a positive factor.
 use Rattle.std.specs.Prelude.{◌≡◌, ◌≢◌, ◌≤◌, ℕ, ℤ, pos, length, All}
 use Rattle.it_space.specs.Answers.{CertificateView}
 use Rattle.it_space.specs.Problems.{ProblemView}

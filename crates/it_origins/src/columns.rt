@@ -6,14 +6,14 @@ use it_columns::opposite_row;
 use it_space::{Constraint, Kind, Row, Space};
 use std::alloc::{AllocError, Global};
 
-/// A constraint by its number among a problem's, with the signs of its row turned or not.
+/// A constraint by its number among a problem's, with its row negated or not.
 #[derive(Clone, Copy)]
 pub struct Column {
     pub number: u32,
     pub is_turned: bool,
 }
 
-/// Each constraint, and each equation turned after it.
+/// The columns of `constraints`: each constraint, and after each equation its negation.
 pub fn all_columns(alloc: Global, constraints: &[Constraint]) -> Result<Vec<Column>, AllocError>
     requires { length constraints.now ≤ 2 ^ 20 }
 {
@@ -34,7 +34,7 @@ pub fn all_columns(alloc: Global, constraints: &[Constraint]) -> Result<Vec<Colu
     Ok(columns)
 }
 
-/// The rows of columns.
+/// The rows of `columns`.
 pub fn rows_of(
     alloc: Global,
     constraints: &[Constraint],
@@ -55,7 +55,7 @@ pub fn rows_of(
     Ok(rows)
 }
 
-/// Whether one of the rows has a coefficient at a coordinate.
+/// Whether one of `rows` has a coefficient at `coordinate`.
 fn is_used(rows: &[Row], coordinate: u32) -> bool {
     for row in rows {
         if row.coefficient(coordinate) != 0 {
@@ -65,7 +65,7 @@ fn is_used(rows: &[Row], coordinate: u32) -> bool {
     false
 }
 
-/// The coordinates of a space at which a row or one of the others has a coefficient, in ascending order.
+/// The coordinates of `space` at which `row` or one of `rows` has a coefficient, in ascending order.
 pub fn used_coordinates(
     alloc: Global,
     space: Space,

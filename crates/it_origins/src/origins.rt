@@ -2,7 +2,6 @@
 ghost use Rattle.std.specs.Prelude.{◌≤◌, All, IfOk, IfSome};
 ghost use Rattle.std.specs.Bool.{OnTrue};
 ghost use Rattle.it_space.specs.Answers.{certificate_view};
-ghost use Rattle.it_space.specs.Problems.{IsProblem, problem_view};
 ghost use Rattle.it_space.specs.Rows.{IsOver};
 ghost use Rattle.it_space.specs.Spaces.{size_of};
 ghost use Rattle.it_origins.specs.Origins.{IsOfConstraint, IsOrigin};
@@ -13,7 +12,7 @@ use it_elemental::count;
 use it_space::{Certificate, Problem, Row};
 use std::alloc::{AllocError, Global};
 
-/// The certificate that a sum of constraints makes, with so many elemental inequalities before these; None where a number of it is too
+/// The certificate of a sum of constraints, numbered after the `elementals` elemental inequalities; `None` if a number of it is too
 /// large.
 fn certificate_of(
     alloc: Global,
@@ -43,7 +42,7 @@ fn certificate_of(
     }))
 }
 
-/// Whether each weight is one of a constraint, and other than 0.
+/// Whether each weight is that of a constraint, and isn't 0.
 fn are_of_constraints(weights: &[(u32, i128)], variables: u8) -> bool
     requires some { 1 ≤ variables }
     requires few { variables ≤ 10 }
@@ -55,19 +54,19 @@ fn are_of_constraints(weights: &[(u32, i128)], variables: u8) -> bool
         .all(|(index, weight)| elementals <= *index && *weight != 0)
 }
 
-/// A certificate of a row from a problem's constraints alone: the row, so many times, is exactly the sum of constraints with these
-/// weights, and only equations have weights below 0. Weights stand in the order of the constraints. Where the row is a multiple of a
-/// constraint it is that one; else none of them can be left out, where there are few. None where no such certificate was found.
+/// A certificate of `row` by the constraints of `problem` alone: the scale times the row is exactly the sum of constraints with these
+/// weights, and only equations have weights below 0. The weights are in the order of the constraints. If the row is a multiple of a
+/// constraint, it weighs that one alone; else, if there are few constraints, none of those that it weighs can be left out. `None` if
+/// no such certificate was found.
 pub fn origin(
     alloc: Global,
     problem: &Problem,
     row: &Row,
 ) -> Result<Option<Certificate>, AllocError>
-    requires problem { IsProblem (problem_view problem.now) }
     requires row { IsOver (size_of problem.now.space) row.now }
-    ensures { IfOk result (λ o. IfSome o (λ w. IsOrigin (problem_view problem.now) row.now (certificate_view w))) }
+    ensures { IfOk result (λ o. IfSome o (λ w. IsOrigin problem.now row.now (certificate_view w))) }
 {
-    let variables = problem.space.variables;
+    let variables = problem.space().variables;
     let Some(choice) = short_sum(alloc, problem, row)? else {
         return Ok(None);
     };

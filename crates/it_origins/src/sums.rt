@@ -1,14 +1,15 @@
-//! Sums of columns that a row is, so many times. What is found is judged by those who use it, so no clause says it here.
+//! Sums of columns that equal a row, up to a positive factor. The users of the result judge it, so the functions here have no contracts
+//! about it.
 use it_columns::common_scale;
 use it_fraction::{Fraction, signed_product};
 use it_simplex::{Budget, Solved, solve};
 use it_space::Row;
 use std::alloc::{AllocError, Global};
 
-/// How many steps a run may make that looks for weights of columns.
+/// The most steps of a run that searches for weights of columns.
 const STEPS: u32 = 20000;
 
-/// Whole weights of columns, by their places, and how often their sum has a row.
+/// Whole weights of columns, by their places, and the scale by which their sum is a multiple of a row.
 pub struct ColumnSum {
     pub scale: i128,
     pub weights: Vec<(usize, i128)>,
@@ -23,7 +24,7 @@ impl Drop for ColumnSum {
     }
 }
 
-/// The least common multiple of the denominators of weights, None where it is too large.
+/// The least common multiple of the denominators of `weights`; `None` if it is too large.
 pub fn multiple_of_denominators(
     alloc: Global,
     weights: &[(usize, Fraction)],
@@ -38,7 +39,7 @@ pub fn multiple_of_denominators(
     }
 }
 
-/// The weights made whole, None where a number of them is too large.
+/// `weights` times the least common multiple of their denominators; `None` if a number is too large.
 fn whole_sum(
     alloc: Global,
     weights: &[(usize, Fraction)],
@@ -59,8 +60,8 @@ fn whole_sum(
     }))
 }
 
-/// Weights of columns, by ascending place and none of them 0, by which these add up to a row at the coordinates. None where there are
-/// none, where the run makes too many steps, or where a number is too large.
+/// Nonzero weights by which `columns` add up to `row` at `coordinates`, by ascending place. `None` if there are none, if the run makes
+/// too many steps, or if a number is too large.
 pub fn column_weights(
     alloc: Global,
     coordinates: &[u32],
@@ -73,7 +74,7 @@ pub fn column_weights(
     }
 }
 
-/// The same made whole.
+/// Like `column_weights`, with the weights made whole.
 pub fn column_sum(
     alloc: Global,
     coordinates: &[u32],

@@ -1,4 +1,4 @@
--- What a search ends with is right, and bounds are the projection.
+-- The end of a search is right, and bounds are the projection.
 use Rattle.std.proofs.Common.{◌≡◌, inl, inr, ℕ, zero, suc, ◌-◌, ◌^◌, ◌≤◌, ℤ, pos, append-nil, ◌≤ℤ◌, List, [], ◌∷◌, ◌++◌, length, sym, subst, arith, append_assoc, All}
 use Rattle.std.specs.Prelude.{Contains}
 use Rattle.std.specs.List.{AllZip, AllByRecursion as Every}

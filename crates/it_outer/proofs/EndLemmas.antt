@@ -1,4 +1,4 @@
--- A search has one end, where no quick run comes first.
+-- Without a quick run a search has one end.
 use Rattle.std.proofs.Common.{◌≡◌, inl, inr, ℕ, zero, suc, ◌-◌, ◌^◌, ℤ, List, [], ◌∷◌, ◌++◌, length, false, refl, sym, ap, subst, ◌∙◌}
 use Rattle.it_space.specs.Answers.{CertificateView}
 use Rattle.it_space.specs.Problems.{ProblemView}
@@ -21,7 +21,7 @@ use Rattle.it_outer.specs.Theorems.{OneSearchEnd}
 
 -- ---- a visit row by row
 
--- what a visit comes to with the certificate of one row more before
+-- the result of a visit with the certificate of a further row in front
 abbrev with_certificate : CertificateView → VisitView → VisitView
 with_certificate w (Proved ws) = Proved (w ∷ ws)
 with_certificate w (Refuted values) = Refuted values
@@ -84,7 +84,7 @@ module _ (q : ProblemView) (effort : Effort) where
     one_visit : (rows : List Terms) (v u : VisitView) → VisitEnds q effort rows v → VisitEnds q effort rows u → v ≡ u
     one_visit rows v u e f = one_walk rows v u (walks rows v e) (walks rows u f)
 
--- ---- one more ray, and passes
+-- ---- a further ray, and passes
 
 module _ (s : Search) (defined : s.limits.effort.quick ≡ false) where
   one_next : (rows : List Terms) (ray : List ℤ) (h k : HullView) → NextHull s rows ray h → NextHull s rows ray k → h ≡ k

@@ -1,9 +1,9 @@
--- What a search without some rates is about.
+-- The frame of a search without some rates.
 use Rattle.std.proofs.Common.{◌≡◌, ℕ, zero, suc, ◌+◌, ◌^◌, ◌<◌, ◌≤◌, List, [], ◌∷◌, map, length, slice_index_or, Bool, true, false, nat_eq, if◌then◌else◌, sym, ap₂, subst, arith, All}
 use Rattle.std.specs.List.{list_any}
 use Rattle.std.proofs.lemmas.Nat.{pow_pos}
 use Rattle.it_space.specs.declared.spaces.Space.{Space}
-use Rattle.it_space.specs.Problems.{ProblemView, IsProblem, problem_view}
+use Rattle.it_space.specs.Problems.{ProblemView, IsProblem}
 use Rattle.it_space.specs.Spaces.{size_of}
 use Rattle.it_space.proofs.EveryLemmas.{all_of, every-same}
 use Rattle.it_outer.specs.declared.types.Frame.{Frame}
@@ -44,14 +44,14 @@ without_is_search q gone limits h below some few = record {
   few_rows = few;
 }
 
-pub is_frame : (f : Frame) (gone : List ℕ) → IsProblem (problem_view f.problem.now) → All (λ r. r < f.problem.now.space.rates) gone → 1 ≤ length gone → f.limits.rows ≤ 65535
-    → problem_view f.constants ≡ constants f.problem.now.space → f.spare ≡ slice_index_or gone 0 0 → f.kept.items ≡ kept_coordinates f.problem.now.space gone → IsFrame f × (search_of f ≡ search_without (problem_view f.problem.now) gone f.limits)
+pub is_frame : (f : Frame) (gone : List ℕ) → IsProblem f.problem.now → All (λ r. r < f.problem.now.space.rates) gone → 1 ≤ length gone → f.limits.rows ≤ 65535
+    → f.constants ≡ constants f.problem.now.space → f.spare ≡ slice_index_or gone 0 0 → f.kept.items ≡ kept_coordinates f.problem.now.space gone → IsFrame f × (search_of f ≡ search_without f.problem.now gone f.limits)
 is_frame f gone h below some few constant spare kept =
-    let same : search_of f ≡ search_without (problem_view f.problem.now) gone f.limits =
-    ap₂ (λ (r : ℕ) (cs : List ℕ). let s : Search = record { problem = problem_view f.problem.now; spare = r; kept = cs; limits = f.limits } in s) spare kept in (
+    let same : search_of f ≡ search_without f.problem.now gone f.limits =
+    ap₂ (λ (r : ℕ) (cs : List ℕ). let s : Search = record { problem = f.problem.now; spare = r; kept = cs; limits = f.limits } in s) spare kept in (
       record {
         constants = constant;
-        search = subst (λ (s : Search). IsSearch s) (sym same) (without_is_search (problem_view f.problem.now) gone f.limits h below some few);
+        search = subst (λ (s : Search). IsSearch s) (sym same) (without_is_search f.problem.now gone f.limits h below some few);
         places = subst (λ (cs : List ℕ). ArePlaces (size_of f.problem.now.space) cs) (sym kept) (kept_places f.problem.now.space gone);
       },
       same,

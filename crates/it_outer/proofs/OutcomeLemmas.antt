@@ -1,4 +1,4 @@
--- What is kept of rows that are proved.
+-- The certificates that are kept of proved rows.
 use Rattle.std.proofs.Common.{◌≡◌, ℕ, ℤ, List, [], ◌∷◌, Bool, true, false, ◌&&◌, cond, if◌then◌else◌, nat_eq, Some, Vec, Global, All, refl, sym, ap, ap₂, subst, ◌∙◌}
 use Rattle.std.specs.Ordering.{int_eq}
 use Rattle.std.specs.Cmp.Lexicographic.{pointwise}
@@ -80,12 +80,12 @@ pub kept_ends : (q : ProblemView) (effort : Effort) (eq : ℕ × ℤ → ℕ × 
 unfolding AreOutcomes
 kept_ends q effort eq is m t c e r = found_ends q effort (λ v. pointwise eq t v.items) t (λ v h. same_terms eq is t v.items h) m.by_row.entries c r.0 (sym e)
 
--- what is made of the problem is of it
+-- the closed problem is that of the problem
 pub closed_of : (q : ProblemView) (effort : Effort) (m : Outcomes) → AreOutcomes q effort m → IsClosedProblem q m.closed
 unfolding AreOutcomes
 closed_of q effort m r = r.1
 
--- the certificates stay where something else is made of the problem
+-- the certificates stay when the closed problem changes
 pub outcomes_stay : (q : ProblemView) (effort : Effort) (m n : Outcomes) → n.by_row ≡ m.by_row → IsClosedProblem q n.closed → AreOutcomes q effort m → AreOutcomes q effort n
 unfolding AreOutcomes
 outcomes_stay q effort m n e h r = (subst (λ x. All (λ y. EndsWith q y.0.items effort (Yes (certificate_view y.1))) x.entries) (sym e) r.0, h)

@@ -86,7 +86,7 @@ round_ends s most first begun rows rays i round end l a is p =
 pub last_ends : (s : Search) (most : ℕ) (first : List Terms) (begun : List (List ℤ)) (rows : List Terms) (rays : List (List ℤ)) (i : ℕ) (end : OuterView) → most ≤ i → PassEnds s zero rows rays end → PassLeads s most first begun rows rays i → PassEnds s (most - length begun) first begun end
 last_ends s most first begun rows rays i end l e p = p.leads end (subst (λ k. PassEnds s k rows rays end) (let k : 0 ≡ most - i = omega arith in k) e)
 
--- a round by what its visit comes to
+-- a round by the result of its visit
 pub visited : (s : Search) (rows : List Terms) (rays : List (List ℤ)) (v u : Visit) (round : Round) → v ≡ u → VisitEnds s.problem s.limits.effort rows (visit_view v)
     → ((more : ℕ) (end : OuterView) → RoundEnds s more round end
     → AfterVisit (λ values end. (h : HullView) × NextHull s rows values h × AfterHull (λ next end. PassEnds s more next (rays ++ values ∷ []) end) h end) rows rays (visit_view u) end)
@@ -101,7 +101,7 @@ pub visited_last : (s : Search) (rows : List Terms) (rays : List (List ℤ)) (v 
     → AfterVisit (λ values end. end ≡ Undecided Rays) rows rays (visit_view u) end → PassEnds s zero rows rays end
 visited_last s rows rays v u end is e a = (visit_view v, e, subst (λ (w : Visit). AfterVisit (λ values end. end ≡ Undecided Rays) rows rays (visit_view w) end) (sym is) a)
 
--- a point put in by what it makes of the hull
+-- adding a point, by its effect on the hull
 pub with_hull : (s : Search) (rows : List Terms) (rays : List (List ℤ)) (point : List ℤ) (n m : Next) (round : Round) → n ≡ m → NextHull s rows point (next_view n)
     → ((more : ℕ) (end : OuterView) → RoundEnds s more round end → AfterHull (λ next end. PassEnds s more next (rays ++ point ∷ []) end) (next_view m) end) → IsWithPoint s rows rays point round
 with_hull s rows rays point n m round is e f = λ more end r. (next_view n, e, subst (λ (w : Next). AfterHull (λ next end. PassEnds s more next (rays ++ point ∷ []) end) (next_view w) end) (sym is) (f more end r))
@@ -129,7 +129,7 @@ last_result s most first begun rows rays i (Ok o) l e p = last_ends s most first
 pub round_first : (s : Search) (most : ℕ) (rows : List Terms) (rays : List (List ℤ)) (i : ℕ) → i ≡ length rays → PassLeads s most rows rays rows rays i
 round_first s most rows rays i is = record { leads = λ end e. subst (λ k. PassEnds s (most - k) rows rays end) is e }
 
--- rounds keep what calls take
+-- rounds keep the requirements of functions
 pub round_kept : (s : Search) (round : Round) (hull : System) (found : Vec (List ℤ)) → round ≡ rounds.Goes hull found → IsRound s round → IsHullSystem s hull × AreOfSpace s found.items
 round_kept s round hull found is r = subst (λ (x : Round). IsRound s x) is r
 

@@ -1,4 +1,4 @@
--- What bounds are: rows, each with a certificate, that are the hull of rays, each of which meets the problem.
+-- Bounds: rows, each with a certificate, that are the hull of rays, each of which meets the problem.
 use Rattle.std.specs.Prelude.{◌≡◌, ℕ, ℤ, List, length, All}
 use Rattle.std.specs.List.{AllZip}
 use Rattle.it_space.specs.Answers.{CertificateView}
@@ -15,13 +15,13 @@ pub record IsRay (q : ProblemView) (values : List ℤ) : Type 0 where
   pub complete : length values ≡ size_of q.space
   pub met : MeetsProblem q (point_of values)
 
--- rows at kept coordinates, each certified under the problem, that hold exactly at what rays span, and each ray meets the problem
+-- rows at kept coordinates, each certified under the problem, that hold exactly at the points that rays span; each ray meets the problem
 pub record AreBounds (q : ProblemView) (kept : List ℕ) (rows : List Terms) (ws : List CertificateView) (rays : List (List ℤ)) : Type 0 where
   pub certified : AllZip (CertifiesRow q) rows ws
   pub attained : All (IsRay q) rays
   pub hull : IsHull kept rows rays
 
--- an end is right
+-- the end of a search is right
 abbrev pub IsRightOuter : ProblemView → List ℕ → OuterView → Type 0
 IsRightOuter q kept (Bounds rows ws rays) = AreBounds q kept rows ws rays
 IsRightOuter q kept (Undecided cause) = Unit {0}

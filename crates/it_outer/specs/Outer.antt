@@ -1,4 +1,4 @@
--- What a search for outer bounds in rates is about, and what it ends with.
+-- The input and the results of a search for outer bounds in rates.
 use Rattle.std.specs.Prelude.{ℕ, ℤ, List, map, slice_index_or}
 use Rattle.it_space.specs.declared.answers.Cause.{Cause}
 use Rattle.it_space.specs.Answers.{CertificateView, certificate_view}
@@ -11,7 +11,7 @@ use Rattle.it_outer.specs.declared.types.Outer.TheVariants as ends
 use Rattle.it_outer.specs.declared.types.OuterCause.{OuterCause}
 use Rattle.it_outer.specs.declared.types.OuterCause.TheVariants as causes
 
--- a search: the problem, the rate at which multipliers of rays stand, the coordinates that are kept, and what it may take
+-- a search: the problem, the rate at which multipliers of rays are, the coordinates that are kept, and the limits
 pub record Search : Type 0 where
   pub problem : ProblemView
   pub spare : ℕ
@@ -22,7 +22,7 @@ pub record Search : Type 0 where
 abbrev pub search_without : ProblemView → List ℕ → Limits → Search
 search_without q gone limits = record { problem = q; spare = slice_index_or gone 0 0; kept = kept_coordinates q.space gone; limits = limits }
 
--- why bounds stay undecided: the run about a row of the hull has no end within its bounds; one more ray leaves too many rows; a
+-- why bounds stay undecided: the run about a row of the hull has no end within its bounds; a further ray leaves too many rows; a
 -- number passes the limit; a row is refuted, and no more rays are allowed
 pub data CauseView : Type 0 where
   Run : (row : Terms) (cause : Cause) → CauseView

@@ -1,4 +1,4 @@
--- What bounds are good for, and that a search has one end.
+-- Laws of bounds and of searches.
 use Rattle.std.specs.Prelude.{◌≡◌, ◌↔◌, ℕ, ◌+◌, ◌^◌, ◌≤◌, ◌<◌, ℤ, List, All, Contains, false}
 use Rattle.it_space.specs.Answers.{CertificateView}
 use Rattle.it_space.specs.Problems.{ProblemView, IsProblem}
@@ -17,7 +17,7 @@ abbrev pub BoundsAreProjection : Type 0
 BoundsAreProjection = (q : ProblemView) (kept : List ℕ) (rows : List Terms) (ws : List CertificateView) (rays : List (List ℤ)) → IsProblem q → All (IsOver (size_of q.space)) rows
     → AreBounds q kept rows ws rays → (x : ℕ → ℤ) → IsPointOf rows x ↔ IsAttained kept (MeetsProblem q) x
 
--- a search that calls make: of a problem's rates, and the multipliers' rate isn't kept
+-- the searches that functions accept: kept coordinates are those of rates, and the rate of the multipliers isn't kept
 pub record IsSearch (s : Search) : Type 0 where
   pub problem : IsProblem s.problem
   pub spare : s.spare < s.problem.space.rates
@@ -25,10 +25,10 @@ pub record IsSearch (s : Search) : Type 0 where
   pub rates : All (λ c. (2 ^ s.problem.space.variables ≤ c) × (c ≤ size_of s.problem.space)) s.kept
   pub few_rows : s.limits.rows ≤ 65535
 
--- what a search ends with is right
+-- the end of a search is right
 abbrev pub EndsAreRight : Type 0
 EndsAreRight = (s : Search) (end : OuterView) → IsSearch s → SearchEnds s end → IsRightOuter s.problem s.kept end
 
--- where no quick run comes first a search has one end
+-- without a quick run a search has one end
 abbrev pub OneSearchEnd : Type 0
 OneSearchEnd = (s : Search) (end other : OuterView) → s.limits.effort.quick ≡ false → SearchEnds s end → SearchEnds s other → end ≡ other

@@ -15,7 +15,7 @@ ghost use Rattle.it_outer.specs.Search.{AllFit};
 use it_space::{Point, Row, RowFault, Space, normal, push_some, value};
 use std::alloc::{AllocError, Global};
 
-/// A point's value at a coordinate.
+/// The value of `point` at coordinate `at`.
 fn number_at(point: &Point, at: u32) -> i128
     requires some { 1 ≤ at }
     requires few { at ≤ length point.now }
@@ -25,7 +25,7 @@ fn number_at(point: &Point, at: u32) -> i128
     point.at(at)
 }
 
-/// A point's kept rates in lowest terms, as a row.
+/// The values of `point` at the coordinates in `kept`, in lowest terms, as a row.
 fn direction(alloc: Global, kept: &[u32], point: &Point) -> Result<Row, AllocError>
     requires { ArePlaces (length point.now) kept.now }
     ensures { IfOk result (λ r. r ≡ direction kept.now point.now) }
@@ -37,21 +37,21 @@ fn direction(alloc: Global, kept: &[u32], point: &Point) -> Result<Row, AllocErr
     Ok(normal(Row::new(terms)))
 }
 
-/// Whether two rows have the same coefficient at a coordinate.
+/// Whether two rows have the same coefficient at coordinate `at`.
 fn is_same_at(row: &Row, other: &Row, at: u32) -> bool
     ensures { result ≡ int_eq (coefficient row.now at) (coefficient other.now at) }
 {
     row.coefficient(at) == other.coefficient(at)
 }
 
-/// Whether a row's coefficient at a coordinate is above that of another one.
+/// Whether the coefficient of `row` at coordinate `at` is above that of `other`.
 fn is_above_at(row: &Row, other: &Row, at: u32) -> bool
     ensures { result ≡ lt_z (coefficient other.now at) (coefficient row.now at) }
 {
     other.coefficient(at) < row.coefficient(at)
 }
 
-/// Whether of two rows the first is greater at the first of these coordinates at which they differ.
+/// Whether `row` is greater than `other` at the first coordinate in `kept` at which they differ.
 fn is_greater(kept: &[u32], row: &Row, other: &Row) -> bool
     ensures { result ≡ is_greater kept.now row.now other.now }
 {
@@ -63,7 +63,7 @@ fn is_greater(kept: &[u32], row: &Row, other: &Row) -> bool
     false
 }
 
-/// Whether a point comes before another one in the order of their directions.
+/// Whether `point` comes before `other` in the order of their directions.
 fn comes_before(
     alloc: Global,
     kept: &[u32],
@@ -79,7 +79,7 @@ fn comes_before(
     Ok(is_greater(kept, &own, &bound))
 }
 
-/// The place of a point among points in order: before the first one that comes after it.
+/// The place of `point` among `points`, which are in order: before the first one that comes after it.
 fn place_of(
     alloc: Global,
     kept: &[u32],
@@ -99,7 +99,7 @@ fn place_of(
     Ok(points.len())
 }
 
-/// Puts a point among points in order.
+/// Inserts `point` among `points`, which are in order.
 fn put_in_order(
     alloc: Global,
     kept: &[u32],
@@ -115,7 +115,7 @@ fn put_in_order(
     Ok(())
 }
 
-/// The same point once more.
+/// A copy of the point.
 fn copy_point(alloc: Global, space: Space, point: &Point) -> Result<Point, AllocError>
     requires space { IsSpace space }
     requires point { length point.now ≡ size_of space }
@@ -125,7 +125,7 @@ fn copy_point(alloc: Global, space: Space, point: &Point) -> Result<Point, Alloc
     Ok(Point::new(space, values))
 }
 
-/// For each row whether it is 0 at a ray.
+/// For each row whether it is 0 at `ray`. `Wide` if the value of a row passes the limit.
 fn tight_at(alloc: Global, rows: &[Row], ray: &Point) -> Result<Vec<bool>, RowFault>
     requires rows { All (IsOver (length ray.now)) rows.now }
     ensures list { IfOk result (λ v. v.items ≡ tight_at rows.now ray.now) }
@@ -140,7 +140,7 @@ fn tight_at(alloc: Global, rows: &[Row], ray: &Point) -> Result<Vec<bool>, RowFa
     Ok(tight)
 }
 
-/// The same at each ray.
+/// The lists of `tight_at` for each of `rays`.
 fn tight_lists(alloc: Global, rows: &[Row], rays: &[Point]) -> Result<Vec<Vec<bool>>, RowFault>
     requires { All (λ ray. All (IsOver (length ray)) rows.now) rays.now }
     ensures lists { IfOk result (λ v. lists_of v.items ≡ map (tight_at rows.now) rays.now) }
@@ -157,7 +157,7 @@ fn tight_lists(alloc: Global, rows: &[Row], rays: &[Point]) -> Result<Vec<Vec<bo
     Ok(lists)
 }
 
-/// What a list says of a place, `false` past its end.
+/// The flag at `place`, `false` past the end.
 fn flag_at(list: &[bool], place: usize) -> bool
     ensures { result ≡ get_or list.now place false }
 {
@@ -168,7 +168,7 @@ fn flag_at(list: &[bool], place: usize) -> bool
     }
 }
 
-/// Whether each row that is tight in the first list is tight in the second.
+/// Whether each row that is tight in `list` is tight in `other`.
 fn is_within(list: &[bool], other: &[bool]) -> bool
     ensures { result ≡ is_within list.now other.now }
 {
@@ -192,14 +192,14 @@ fn has_loose(list: &[bool]) -> bool
     false
 }
 
-/// Whether the second list has all tight rows of the first and more, but not all rows.
+/// Whether `other` has all tight rows of `list` and more, but not all rows.
 fn is_outdone(list: &[bool], other: &[bool]) -> bool
     ensures { result ≡ is_outdone list.now other.now }
 {
     is_within(list, other) && !is_within(other, list) && has_loose(other)
 }
 
-/// Whether none of the lists outdoes this one.
+/// Whether none of `lists` outdoes `list`.
 fn is_extreme(list: &[bool], lists: &[Vec<bool>]) -> bool
     ensures { result ≡ not (list_any (is_outdone list.now) (lists_of lists.now)) }
 {
@@ -211,7 +211,7 @@ fn is_extreme(list: &[bool], lists: &[Vec<bool>]) -> bool
     true
 }
 
-/// Puts a ray among rays in order, if it is wanted.
+/// Inserts a copy of `ray` among `ordered`, which are in order, if `is_wanted`.
 fn put_wanted(
     alloc: Global,
     space: Space,
@@ -234,8 +234,8 @@ fn put_wanted(
     Ok(())
 }
 
-/// The rays whose tight rows aren't all tight, with others, at another ray, in the order of their directions. `Wide` where the value
-/// of a row at a ray passes the limit.
+/// The extreme rays, in the order of their directions: those whose tight rows aren't all tight, together with others, at another ray.
+/// `Wide` if the value of a row at a ray passes the limit.
 pub fn extreme_rays(
     alloc: Global,
     space: Space,

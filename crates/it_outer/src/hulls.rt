@@ -12,7 +12,7 @@ use it_redundant::{kept_system, reduce};
 use it_space::{Point, System};
 use std::alloc::{AllocError, Global};
 
-/// The hull of no ray: each kept coordinate is 0.
+/// The hull of no rays: each kept coordinate is 0.
 fn first_hull(alloc: Global, frame: &Frame<'_>) -> Result<System, AllocError>
     requires { IsFrame frame.now }
     ensures rows { IfOk result (λ s. s.rows.items ≡ first_rows frame.now.kept.items) }
@@ -20,12 +20,12 @@ fn first_hull(alloc: Global, frame: &Frame<'_>) -> Result<System, AllocError>
 {
     let rows = first_rows(alloc, frame.kept.as_slice())?;
     Ok(System {
-        space: frame.problem.space,
+        space: frame.problem.space(),
         rows,
     })
 }
 
-/// The hull with one more ray, without the rows that follow from the others.
+/// The hull of the rays of `hull` and of `ray`, reduced: without rows that follow from the others.
 pub fn next_hull(
     alloc: Global,
     frame: &Frame<'_>,
@@ -49,7 +49,7 @@ pub fn next_hull(
     }
 }
 
-/// What one more ray makes of a hull, if there is one.
+/// The hull `next` with `ray` added, if there is a hull.
 fn after_ray(alloc: Global, frame: &Frame<'_>, next: Next, ray: &Point) -> Result<Next, AllocError>
     requires frame { IsFrame frame.now }
     requires next { IsNext (search_of frame.now) next }
@@ -64,7 +64,7 @@ fn after_ray(alloc: Global, frame: &Frame<'_>, next: Next, ray: &Point) -> Resul
     }
 }
 
-/// The hull of rays.
+/// The hull of `rays`.
 pub fn hull_of(alloc: Global, frame: &Frame<'_>, rays: &[Point]) -> Result<Next, AllocError>
     requires frame { IsFrame frame.now }
     requires rays { AreOfSpace (search_of frame.now) rays.now }

@@ -1,4 +1,4 @@
-//! What the gate proves of bounds.
+//! Laws of bounds, each as the contract of a function.
 ghost use Rattle.it_outer.specs.Theorems.{BoundsAreProjection, EndsAreRight, OneSearchEnd};
 
 /// Bounds are the projection.
@@ -6,7 +6,7 @@ pub fn bounds_are_projection()
     ensures { BoundsAreProjection }
 {}
 
-/// What a search ends with is right, and where no quick run comes first it has one end.
+/// The end of a search is right, and without a quick run it has one end.
 pub fn searches_are_determined()
     ensures right { EndsAreRight }
     ensures one { OneSearchEnd }

@@ -1,6 +1,6 @@
-//! The certificates of rows that were proved once: they stay valid with each ray that comes.
+//! The certificates of rows that were proved once: they stay valid when rays are added.
 ghost use Rattle.std.specs.Prelude.{◌≡◌, IfOk, OnOk};
-ghost use Rattle.it_space.specs.Problems.{IsProblem, ProblemView, problem_view};
+ghost use Rattle.it_space.specs.Problems.{ProblemView};
 ghost use Rattle.it_space.specs.Rows.{IsOver};
 ghost use Rattle.it_space.specs.Spaces.{size_of};
 ghost use Rattle.it_prove.specs.declared.types.Effort.{Effort};
@@ -12,7 +12,7 @@ use it_prove::{ClosedProblem, Effort, Proof};
 use it_space::{Certificate, Problem, Row};
 use std::alloc::{AllocError, Global};
 
-/// Rows that are proved under one problem, each with its certificate, and what is made once of the problem for all runs.
+/// Rows that are proved under one problem, each with its certificate, and the problem over closed sets, for all runs.
 pub struct Outcomes {
     pub by_row: IndexMap<Vec<(u32, i128)>, Certificate>,
     pub closed: ClosedProblem,
@@ -28,10 +28,9 @@ impl Drop for Outcomes {
 }
 
 impl Outcomes {
-    /// Those of a problem before any run.
+    /// The outcomes of `problem`, before any run.
     pub fn new(alloc: Global, problem: &Problem, effort: Effort) -> Result<Outcomes, AllocError>
-        requires { IsProblem (problem_view problem.now) }
-        ensures { IfOk result (AreOutcomes (problem_view problem.now) effort) }
+        ensures { IfOk result (AreOutcomes problem.now effort) }
     {
         let closed = ClosedProblem::read(alloc, problem, effort)?;
         Ok(Outcomes {
@@ -40,7 +39,7 @@ impl Outcomes {
         })
     }
 
-    /// Keeps the certificate of a row that is proved.
+    /// Keeps the certificate of `row`, if `proof` is one.
     fn keep(&mut self, alloc: Global, row: &Row, proof: &Proof) -> Result<(), AllocError>
         ensures { OnOk result ((q : ProblemView) (effort : Effort) → AreOutcomes q effort self.old → EndsWith q row.now effort (proof_view proof.now) → AreOutcomes q effort self.new) }
     {
@@ -52,7 +51,7 @@ impl Outcomes {
         Ok(())
     }
 
-    /// What the run about a row ends with; without a run where it is proved already.
+    /// The outcome about `row`: the one that is kept, if it is proved already, else that of a run.
     pub fn outcome(
         &mut self,
         alloc: Global,
@@ -60,11 +59,10 @@ impl Outcomes {
         row: &Row,
         effort: Effort,
     ) -> Result<Proof, AllocError>
-        requires problem { IsProblem (problem_view problem.now) }
         requires row { IsOver (size_of problem.now.space) row.now }
-        requires outcomes { AreOutcomes (problem_view problem.now) effort self.old }
-        ensures ends { IfOk result (λ proof. EndsWith (problem_view problem.now) row.now effort (proof_view proof)) }
-        ensures outcomes { OnOk result (AreOutcomes (problem_view problem.now) effort self.new) }
+        requires outcomes { AreOutcomes problem.now effort self.old }
+        ensures ends { IfOk result (λ proof. EndsWith problem.now row.now effort (proof_view proof)) }
+        ensures outcomes { OnOk result (AreOutcomes problem.now effort self.new) }
     {
         if let Some(certificate) = self.by_row.get(row.terms()) {
             let kept = certificate.copy(alloc)?;

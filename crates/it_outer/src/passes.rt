@@ -1,4 +1,4 @@
-//! One pass of the search: while a row of the hull is refuted, its point is one more ray.
+//! One pass of the search: while a row of the hull is refuted, its point is added as a ray.
 ghost use Rattle.std.specs.Prelude.{◌≡◌, ◌-◌, zero, length, IfOk, OnOk};
 ghost use Rattle.it_space.specs.Spaces.{size_of};
 ghost use Rattle.it_outer.specs.Outer.{outer_view};
@@ -12,7 +12,7 @@ use crate::visits::visit;
 use it_space::{Point, System};
 use std::alloc::{AllocError, Global};
 
-/// Puts one more ray into the hull.
+/// Adds `point` as a ray to `hull` and `rays`.
 fn with_point(
     alloc: Global,
     frame: &Frame<'_>,
@@ -38,7 +38,7 @@ fn with_point(
     }
 }
 
-/// One round of a pass that may find one ray more.
+/// One round of a pass that may still add a ray.
 fn round(
     alloc: Global,
     frame: &Frame<'_>,
@@ -67,7 +67,7 @@ fn round(
     }
 }
 
-/// The end of a pass that may find no further ray.
+/// The end of a pass that may add no further ray.
 fn last_round(
     alloc: Global,
     frame: &Frame<'_>,
@@ -94,7 +94,7 @@ fn last_round(
     }
 }
 
-/// A pass from a hull and its rays.
+/// The end of a pass from `hull` and its `rays`.
 fn rounds(
     alloc: Global,
     frame: &Frame<'_>,
@@ -121,7 +121,7 @@ fn rounds(
     last_round(alloc, frame, outcomes, hull, rays)
 }
 
-/// A pass that begins with rays.
+/// The end of a pass that begins with `rays`.
 pub fn pass(
     alloc: Global,
     frame: &Frame<'_>,

@@ -2,7 +2,6 @@
 ghost use Rattle.std.specs.Prelude.{◌≡◌, ◌<◌, ◌≤◌, [], length, All, IfOk};
 ghost use Rattle.it_space.specs.Rows.{IsOver};
 ghost use Rattle.it_space.specs.Spaces.{size_of};
-ghost use Rattle.it_space.specs.Problems.{IsProblem, problem_view};
 ghost use Rattle.it_outer.specs.Bounds.{IsRightOuter};
 ghost use Rattle.it_hull.specs.KeptRates.{kept_coordinates};
 ghost use Rattle.it_outer.specs.Outer.{outer_view, search_without};
@@ -18,22 +17,22 @@ use it_hull::{constants, kept_coordinates};
 use it_space::{Problem, RowFault};
 use std::alloc::{AllocError, Global};
 
-/// What a search without some rates is about.
+/// The frame of the search for bounds of `problem` without the rates in `gone`.
 fn frame<'a>(
     alloc: Global,
     problem: &'a Problem,
     gone: &[u8],
     limits: Limits,
 ) -> Result<Frame<'a>, AllocError>
-    requires problem { IsProblem (problem_view problem.now) }
     requires gone { All (λ r. r < problem.now.space.rates) gone.now }
     requires some { 1 ≤ length gone.now }
     requires few_rows { limits.rows ≤ 65535 }
     ensures frame { IfOk result IsFrame }
-    ensures search { IfOk result (λ f. search_of f ≡ search_without (problem_view problem.now) gone.now limits) }
+    ensures search { IfOk result (λ f. search_of f ≡ search_without problem.now gone.now limits) }
 {
-    let constants = constants(alloc, problem.space)?;
-    let kept = kept_coordinates(alloc, problem.space, gone)?;
+    problem.facts();
+    let constants = constants(alloc, problem.space())?;
+    let kept = kept_coordinates(alloc, problem.space(), gone)?;
     Ok(Frame {
         problem,
         constants,
@@ -43,7 +42,7 @@ fn frame<'a>(
     })
 }
 
-/// The second pass, from the extreme rays of the first.
+/// The second pass, from the extreme rays of the first. `Width` if the value of a row at a ray passes the limit.
 fn second_pass(
     alloc: Global,
     frame: &Frame<'_>,
@@ -58,7 +57,7 @@ fn second_pass(
 {
     match extreme_rays(
         alloc,
-        frame.problem.space,
+        frame.problem.space(),
         frame.kept.as_slice(),
         first.hull.rows.as_slice(),
         first.rays.as_slice(),
@@ -98,23 +97,23 @@ fn both_passes(alloc: Global, frame: &Frame<'_>) -> Result<Outer, AllocError>
     Ok(end)
 }
 
-/// The bounds that a problem gives on its rates but for those of `gone`, counted from 0: rows with certificates, which are the hull
-/// of rays, each of which meets the problem. The search goes on while a row of the hull of the rays so far is refuted: that point is
-/// one more ray. It is made twice, the second time from the extreme rays that it found first, so that neither rays that aren't
-/// extreme nor the order in which they were found show in the bounds.
+/// The bounds of `problem` on its rates but those in `gone`, counted from 0: rows with certificates, which are the hull of rays, each of
+/// which meets the problem. The search goes on while a row of the hull of the rays so far is refuted: that point is added as a ray. It
+/// is made twice, the second time from the extreme rays that it found first, so that the bounds depend neither on rays that aren't
+/// extreme nor on the order in which rays were found.
 pub fn outer(
     alloc: Global,
     problem: &Problem,
     gone: &[u8],
     limits: Limits,
 ) -> Result<Outer, AllocError>
-    requires problem { IsProblem (problem_view problem.now) }
     requires gone { All (λ r. r < problem.now.space.rates) gone.now }
     requires some { 1 ≤ length gone.now }
     requires few_rows { limits.rows ≤ 65535 }
-    ensures ends { IfOk result (λ o. SearchEnds (search_without (problem_view problem.now) gone.now limits) (outer_view o)) }
-    ensures right { IfOk result (λ o. IsRightOuter (problem_view problem.now) (kept_coordinates problem.now.space gone.now) (outer_view o)) }
+    ensures ends { IfOk result (λ o. SearchEnds (search_without problem.now gone.now limits) (outer_view o)) }
+    ensures right { IfOk result (λ o. IsRightOuter problem.now (kept_coordinates problem.now.space gone.now) (outer_view o)) }
 {
+    problem.facts();
     let frame = frame(alloc, problem, gone, limits)?;
     let end = both_passes(alloc, &frame)?;
     Ok(end)

@@ -1,15 +1,15 @@
-//! What a search for outer bounds may take, and what it ends with.
+//! The limits and the results of a search for outer bounds.
 use it_prove::Effort;
 use it_space::{Cause, Certificate, Point, Problem, Row, System};
 
-/// What a search may take.
+/// The limits of a search.
 #[derive(Clone, Copy, Debug, PartialEq, Eq)]
 pub struct Limits {
-    /// The most rows that one more ray may leave, before those that follow are dropped.
+    /// The most rows that a further ray may leave, before those that follow from others are dropped.
     pub rows: usize,
     /// The most rays.
     pub rays: usize,
-    /// What is done for each run.
+    /// The effort to decide each row.
     pub effort: Effort,
 }
 
@@ -18,11 +18,11 @@ pub struct Limits {
 pub enum OuterCause {
     /// The run about this row of a hull has no end within its bounds, and why.
     Run(Row, Cause),
-    /// One more ray leaves more rows than are allowed.
+    /// A further ray leaves more rows than are allowed.
     Rows,
     /// A number of a hull passes 2^127 - 1.
     Width,
-    /// So many rays were found, and a row of their hull is still refuted.
+    /// As many rays as are allowed were found, and a row of their hull is still refuted.
     Rays,
 }
 
@@ -35,15 +35,15 @@ pub struct Bounds {
     pub rays: Vec<Point>,
 }
 
-/// What a search ends with.
+/// The result of a search.
 #[derive(Debug, Drop)]
 pub enum Outer {
     Bounds(Bounds),
     Undecided(OuterCause),
 }
 
-/// What a search is about: the problem, the one of its space in which all variables are constant, the kept coordinates, the rate at
-/// which multipliers of rays stand, and what it may take.
+/// The input of a search: the problem, the problem over its space in which all variables are constant, the kept coordinates, the rate at
+/// which multipliers of rays are, and the limits.
 #[derive(Drop)]
 pub struct Frame<'a> {
     pub problem: &'a Problem,
@@ -53,13 +53,13 @@ pub struct Frame<'a> {
     pub limits: Limits,
 }
 
-/// What a visit of rows comes to: a certificate of each, or the first one that has none.
+/// The result of a visit of rows: a certificate of each, or the first row that has none.
 #[derive(Debug, Drop)]
 pub enum Visit {
     Proved(Vec<Certificate>),
-    /// A point refutes it.
+    /// A point refutes the row.
     Refuted(Point),
-    /// The run about it has no end within its bounds.
+    /// The run about the row has no end within its bounds.
     Left(Row, Cause),
 }
 
@@ -71,7 +71,7 @@ pub enum Next {
     TooWide,
 }
 
-/// A pass that goes on with a hull and its rays, or its end.
+/// The result of a round: a hull and its rays with which the pass goes on, or the end of the pass.
 #[derive(Debug, Drop)]
 pub enum Round {
     Goes(System, Vec<Point>),

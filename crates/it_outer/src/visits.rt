@@ -1,6 +1,5 @@
 //! A visit of the rows of a hull.
 ghost use Rattle.std.specs.Prelude.{◌≡◌, All, IfOk, OnOk};
-ghost use Rattle.it_space.specs.Problems.{IsProblem, problem_view};
 ghost use Rattle.it_space.specs.Rows.{IsOver};
 ghost use Rattle.it_space.specs.Spaces.{size_of};
 ghost use Rattle.it_outer.specs.Rounds.{AreOutcomes, visit_view};
@@ -12,7 +11,7 @@ use it_prove::{Effort, Proof};
 use it_space::{Problem, Row};
 use std::alloc::{AllocError, Global};
 
-/// Proves the rows one after the other, up to the first that has no proof.
+/// Proves `rows` one after the other, up to the first that has no proof.
 pub fn visit(
     alloc: Global,
     problem: &Problem,
@@ -20,11 +19,10 @@ pub fn visit(
     effort: Effort,
     outcomes: &mut Outcomes,
 ) -> Result<Visit, AllocError>
-    requires problem { IsProblem (problem_view problem.now) }
     requires rows { All (IsOver (size_of problem.now.space)) rows.now }
-    requires outcomes { AreOutcomes (problem_view problem.now) effort outcomes.old }
-    ensures ends { IfOk result (λ v. VisitEnds (problem_view problem.now) effort rows.now (visit_view v)) }
-    ensures outcomes { OnOk result (AreOutcomes (problem_view problem.now) effort outcomes.new) }
+    requires outcomes { AreOutcomes problem.now effort outcomes.old }
+    ensures ends { IfOk result (λ v. VisitEnds problem.now effort rows.now (visit_view v)) }
+    ensures outcomes { OnOk result (AreOutcomes problem.now effort outcomes.new) }
 {
     let mut proofs = Vec::new(alloc);
     for row in rows {

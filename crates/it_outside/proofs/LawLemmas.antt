@@ -1,4 +1,4 @@
--- The laws of a source that tells its bytes, and of a count that stays.
+-- The laws of a source whose bytes are known, and of a count that doesn't change.
 use Rattle.std.proofs.Common.{ap, sym, ◌∙◌, Some, None, ◌++◌, append-nil, length, length-append, arith}
 use Rattle.it_outside.specs.Laws.{EndComesLast, MoreWasThere, StayedIsNoFault}
 

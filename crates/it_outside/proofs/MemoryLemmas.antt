@@ -4,7 +4,7 @@ use Rattle.std.proofs.lemmas.List.{take_all, take-append-le, length-take, length
 use Rattle.std.proofs.Math.ListN.{drop_of_length-le}
 use Rattle.it_outside.proofs.Moved.{from_start}
 
--- what was copied to the front of a buffer stands there
+-- the bytes copied to the front of a buffer are there
 take-copied : (from to new : List ℕ) (n : ℕ) → n ≤ length from → new ≡ take n from ++ drop n to → take n new ≡ take n from
 take-copied from to new n within copied =
     ap (take n) copied ∙ take-append-le n (take n from) (drop n to) (simp length-take (omega arith)) ∙ take_all n (take n from) (simp length-take (omega arith))

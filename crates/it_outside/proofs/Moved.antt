@@ -24,7 +24,7 @@ Gains-trans (Some x) None (Some z) bs cs p q = absurd q
 Gains-trans (Some x) (Some y) None bs cs p q = tt
 Gains-trans (Some x) (Some y) (Some z) bs cs p q = q ∙ ap (λ l. l ++ cs) p ∙ append_assoc x bs cs
 
--- one write more: after the first i bytes of a piece the next n
+-- a further write: after the first i bytes of a piece the next n
 pub Gains-take : (a b c : Option (List ℕ)) (piece : List ℕ) (i n : ℕ) → Gains a b (take i piece)
     → Gains b c (take n (take (length piece - i) (drop i piece))) → Gains a c (take (i + n) piece)
 Gains-take a b c piece i n before now =
@@ -38,7 +38,7 @@ took_prefix a b c piece i before now = record {
   prefix = (drop i piece, sym (take-append-drop i piece));
 }
 
--- one read more, which still fits the limit
+-- a further read, which still fits the limit
 pub gave_at_most : (a b c : Option (List ℕ)) (bytes buf : List ℕ) (n limit : ℕ) → Consumes a b bytes → Consumes b c (take n buf) → n ≤ length buf
     → length bytes + n ≤ limit → GaveAtMost a c limit
 gave_at_most a b c bytes buf n limit before now within few = record {
@@ -47,7 +47,7 @@ gave_at_most a b c bytes buf n limit before now within few = record {
   few = simp (length-append, length-take) (omega arith);
 }
 
--- one read more, which passes the limit
+-- a further read, which passes the limit
 pub gave_more : (a b c : Option (List ℕ)) (bytes buf : List ℕ) (n limit : ℕ) → Consumes a b bytes → Consumes b c (take n buf) → n ≤ length buf
     → limit < length bytes + n → GaveMore a c limit
 gave_more a b c bytes buf n limit before now within more = record {

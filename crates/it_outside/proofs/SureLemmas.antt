@@ -1,10 +1,10 @@
--- A write of more than there was room for.
+-- A write of more bytes than there was space for.
 use Rattle.std.proofs.Common.{◌≡◌, ℕ, ◌+◌, ◌<◌, ◌||◌, true, List, ◌++◌, length, take, nat_lt, sym, ap, ◌∙◌, arith, length-append}
 use Rattle.std.proofs.Math.Seq.{take-append-add}
 use Rattle.std.proofs.lemmas.Bool.{lt-ltb}
 use Rattle.it_outside.specs.Sure.{SureSinkView, after_sure_write}
 
--- what was kept, and as much of the piece as there was room for, are the first bytes of both
+-- the bytes kept, and as many of the piece as there was space for, are the first bytes of both
 kept_prefix : (limit : ℕ) (kept piece : List ℕ) (n : ℕ) → length kept + n ≡ limit → kept ++ take n piece ≡ take limit (kept ++ piece)
 kept_prefix limit kept piece n room = sym (take-append-add kept piece n) ∙ ap (λ k. take k (kept ++ piece)) room
 

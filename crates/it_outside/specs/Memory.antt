@@ -1,4 +1,4 @@
--- Sources and sinks in memory, as contracts see them, and what a call leaves of them.
+-- Sources and sinks in memory, as contracts see them, and their states after a call.
 use Rattle.std.specs.Prelude.{ℕ, ◌≡◌, ◌-◌, ◌<◌, ◌⊎◌, List, [], ◌++◌, length, min, take, drop, Contains, Result, Ok, Err}
 use Rattle.it_outside.specs.Causes.{next_count}
 use Rattle.it_outside.specs.declared.ends.Failed.{Failed}
@@ -7,11 +7,11 @@ use Rattle.it_outside.specs.declared.ends.Failed.{Failed}
 pub record MemorySourceView : Type 0 where
   -- the bytes that are left
   pub left : List ℕ
-  -- how many a call gives at most
+  -- the most bytes that a call gives
   pub step : ℕ
   -- the numbers of the calls that fail, from 1
   pub failing : List ℕ
-  -- how many calls there were, and how many of them failed
+  -- the numbers of calls and of failed calls so far
   pub calls : ℕ
   pub faults : ℕ
 
@@ -19,11 +19,11 @@ pub record MemorySourceView : Type 0 where
 abbrev pub new_source : List ℕ → ℕ → List ℕ → MemorySourceView
 new_source bytes step failing = record { left = bytes; step = step; failing = failing; calls = 0; faults = 0 }
 
--- the next call is a listed one
+-- the next call is one of those that fail
 abbrev pub ReadFails : MemorySourceView → Type 0
 ReadFails s = Contains s.failing (next_count s.calls)
 
--- how many bytes a read into a buffer of this length gives
+-- the number of bytes that a read into a buffer of length room gives
 abbrev pub read_count : MemorySourceView → ℕ → ℕ
 read_count s room = min (min s.step room) (length s.left)
 
@@ -36,13 +36,13 @@ after_read s (Err failed) = record s { calls = next_count s.calls; faults = next
 pub record MemorySinkView : Type 0 where
   -- the bytes that it took
   pub bytes : List ℕ
-  -- how many more it has room for
+  -- the number of further bytes that space is reserved for
   pub room : ℕ
-  -- how many a call takes at most
+  -- the most bytes that a call takes
   pub step : ℕ
   -- the numbers of the calls that fail, from 1
   pub failing : List ℕ
-  -- how many calls there were, and how many of them failed
+  -- the numbers of calls and of failed calls so far
   pub calls : ℕ
   pub faults : ℕ
 
@@ -50,11 +50,11 @@ pub record MemorySinkView : Type 0 where
 abbrev pub new_sink : ℕ → List ℕ → MemorySinkView
 new_sink step failing = record { bytes = []; room = 0; step = step; failing = failing; calls = 0; faults = 0 }
 
--- the next call is a listed one, or has bytes and no room for them
+-- the next call is one of those that fail, or has bytes and no space for them
 abbrev pub WriteFails : MemorySinkView → List ℕ → Type 0
 WriteFails s piece = Contains s.failing (next_count s.calls) ⊎ ((0 < length piece) × (s.room ≡ 0))
 
--- how many bytes of a piece a write takes
+-- the number of bytes of a piece that a write takes
 abbrev pub write_count : MemorySinkView → List ℕ → ℕ
 write_count s piece = min (min s.step (length piece)) s.room
 

@@ -1,12 +1,12 @@
--- Sources and sinks that never fail, as contracts see them, and what a call leaves of them. A source is seen by the bytes that
+-- Sources and sinks that never fail, as contracts see them, and their states after a call. Contracts see a source as the bytes that
 -- are left.
 use Rattle.std.specs.Prelude.{ℕ, Bool, false, ◌||◌, List, [], ◌++◌, length, take, nat_lt, Option, Some, None, if◌then◌else◌}
 
 -- a sink
 pub record SureSinkView : Type 0 where
-  -- how many bytes it keeps at most
+  -- the most bytes that it keeps
   pub limit : ℕ
-  -- the first ones of those that it took
+  -- the first bytes that it took, up to the limit
   pub kept : List ℕ
   -- whether it took more
   pub more : Bool

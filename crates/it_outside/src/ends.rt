@@ -5,20 +5,20 @@ ghost use Rattle.std.specs.Io.KnownBytes.{ReadConsumes};
 ghost use Rattle.it_outside.specs.Traffic.{WriteGains};
 ghost use Rattle.it_outside.specs.Causes.{faults_after};
 
-/// A read or a write that failed: nothing of it was taken, and the count of faults tells of it.
+/// A read or a write that failed: none of its bytes count as moved, and the count of faults goes up by one.
 #[derive(Clone, Copy, Debug, PartialEq, Eq)]
 pub struct Failed;
 
 /// Where bytes come from.
 pub trait Source {
-    /// The bytes that are left, where the source tells them.
+    /// The bytes that are left, where the source's contract says them.
     ghost left: { Self → Option (List ℕ) };
 
-    /// How many calls failed so far. It stays at the last `u64` once it is there.
+    /// The number of calls that failed so far. It saturates at the greatest `u64`.
     ghost faults: { Self → ℕ };
 
-    /// Puts the next bytes at the front of `buf` and answers how many they are.
-    /// None into a buffer that has room means the end: nothing is left.
+    /// Puts the next bytes at the front of `buf` and returns their number.
+    /// 0 for a buffer that isn't empty means the end: nothing is left.
     fn read(&mut self, buf: &mut [u8]) -> Result<usize, Failed>
         ensures bound { ReadsAtMost result buf.new }
         ensures bytes { ReadConsumes (left self.old) (left self.new) result buf.new }
@@ -27,13 +27,13 @@ pub trait Source {
 
 /// Where bytes go to.
 pub trait Sink {
-    /// The bytes that were taken, where the sink tells them. It may stop telling and never begins to.
+    /// The bytes that were taken, where the sink's contract says them. It may stop saying them, and never begins to.
     ghost taken: { Self → Option (List ℕ) };
 
-    /// How many calls failed so far. It stays at the last `u64` once it is there.
+    /// The number of calls that failed so far. It saturates at the greatest `u64`.
     ghost faults: { Self → ℕ };
 
-    /// Appends the front of `piece` and answers how many bytes that is, at least one of a piece that has one.
+    /// Takes the first bytes of `piece` and returns their number, at least 1 if `piece` isn't empty.
     fn write(&mut self, piece: &[u8]) -> Result<usize, Failed>
         ensures bound { WritesAtMost result piece.now }
         ensures moves { IfOk result (λ n. 0 < length piece.now → 0 < n) }

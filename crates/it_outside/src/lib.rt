@@ -1,4 +1,4 @@
-//! Where bytes come from and go to: sources and sinks, each with a count of its calls that failed.
+//! Where bytes come from and go to: sources and sinks, each with a count of its failed calls.
 #![tactic(auto)]
 
 mod ends;

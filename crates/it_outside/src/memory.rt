@@ -1,4 +1,4 @@
-//! Sources and sinks in memory, whose calls fail where they are told to.
+//! Sources and sinks in memory, with calls that fail on request.
 ghost use Rattle.std.specs.Prelude.{◌≡◌, ◌<◌, ◌≤◌, ◌++◌, ◌↔◌, length, max, take, drop, Some, IsErr, IsOk, IsTrue, IfOk, OnOk, OnErr};
 ghost use Rattle.std.specs.Io.{ReadsAtMost, WritesAtMost};
 ghost use Rattle.std.specs.Io.KnownBytes.{ReadConsumes};
@@ -10,7 +10,7 @@ use crate::ends::{Failed, Sink, Source};
 use std::alloc::{AllocError, Global};
 use std::marker::Model;
 
-/// Bytes in memory, given in steps, with reads that fail.
+/// A source over bytes in memory, given in steps, with given reads that fail.
 #[derive(Drop)]
 pub struct MemorySource {
     bytes: Vec<u8>,
@@ -39,8 +39,8 @@ impl Model for MemorySource {
 }
 
 impl MemorySource {
-    /// Gives `bytes`, at most `step` at a call, and fails at the calls whose numbers stand in `failing`.
-    /// Calls are counted from 1, and the number stays at the last `u64` once it is there.
+    /// A source that gives `bytes`, at most `step` in a call, and fails in the calls whose numbers are in `failing`.
+    /// Calls are counted from 1, and the count saturates at the greatest `u64`.
     pub fn new(bytes: Vec<u8>, step: usize, failing: Vec<u64>) -> MemorySource
         requires { 0 < step }
         ensures { result ≡ new_source bytes.items step failing.items }
@@ -56,7 +56,7 @@ impl MemorySource {
     }
 }
 
-/// Copies the first `count` bytes of one slice over those of another.
+/// Copies the first `count` bytes of `from` to the front of `to`.
 pub fn copy_front(from: &[u8], to: &mut [u8], count: usize)
     requires source { count ≤ length from.now }
     requires target { count ≤ length to.old }
@@ -75,7 +75,7 @@ impl Source for MemorySource {
         ensures bytes { ReadConsumes (Some self.old.left) (Some self.new.left) result buf.new }
         ensures counted { self.new.faults ≡ faults_after self.old.faults result }
 
-        // Exactly what is given, and exactly when the call fails.
+        // Which bytes are given, and when the call fails.
         ensures fails { IsErr result ↔ ReadFails self.old }
         ensures gives { IfOk result (λ count. count ≡ read_count self.old (length buf.old)) }
         ensures filled { IfOk result (λ count. buf.new ≡ take count self.old.left ++ drop count buf.old) }
@@ -95,7 +95,7 @@ impl Source for MemorySource {
     }
 }
 
-/// A sink in memory, with writes that fail. It takes no more than the room that was reserved.
+/// A sink in memory, with given writes that fail. It takes no more than the space that was reserved.
 #[derive(Drop)]
 pub struct MemorySink {
     bytes: Vec<u8>,
@@ -125,9 +125,9 @@ impl Model for MemorySink {
 }
 
 impl MemorySink {
-    /// Takes at most `step` bytes at a call, and fails at the calls whose numbers stand in `failing`.
-    /// Calls are counted from 1, and the number stays at the last `u64` once it is there.
-    /// There is no room at first.
+    /// A sink that takes at most `step` bytes in a call, and fails in the calls whose numbers are in `failing`.
+    /// Calls are counted from 1, and the count saturates at the greatest `u64`.
+    /// At first no space is reserved.
     pub fn new(alloc: Global, step: usize, failing: Vec<u64>) -> MemorySink
         requires { 0 < step }
         ensures { result ≡ new_sink step failing.items }
@@ -149,7 +149,7 @@ impl MemorySink {
         self.bytes.as_slice()
     }
 
-    /// Makes room for at least `more` bytes, counting the room that is spare already.
+    /// Reserves space for at least `more` bytes, the space that is free already included.
     pub fn reserve(&mut self, more: usize) -> Result<(), AllocError>
         ensures ok { OnOk result (self.new ≡ record self.old { room = max self.old.room more }) }
         ensures err { OnErr result (self.new ≡ self.old) }
@@ -160,7 +160,7 @@ impl MemorySink {
         Ok(())
     }
 
-    /// Whether the next write fails.
+    /// Whether the next write fails, if it is of `piece`.
     fn write_fails(&self, piece: &[u8]) -> bool
         ensures { IsTrue result ↔ WriteFails self.now piece.now }
     {
@@ -180,7 +180,7 @@ impl Sink for MemorySink {
         ensures bytes { WriteGains (Some self.old.bytes) (Some self.new.bytes) result piece.now }
         ensures counted { self.new.faults ≡ faults_after self.old.faults result }
 
-        // Exactly what is taken, and exactly when the call fails.
+        // Which bytes are taken, and when the call fails.
         ensures fails { IsErr result ↔ WriteFails self.old piece.now }
         ensures takes { IfOk result (λ count. count ≡ write_count self.old piece.now) }
         ensures after { self.new ≡ after_write self.old piece.now result }
@@ -192,7 +192,7 @@ impl Sink for MemorySink {
             return Err(Failed);
         }
         let count = self.step.min(piece.len()).min(self.room);
-        // The room was reserved, so this takes no memory and doesn't fail.
+        // The space was reserved, so this allocates nothing and doesn't fail.
         let Ok(()) = self.bytes.extend_from_slice(&piece[..count]) else {
             return Err(Failed);
         };

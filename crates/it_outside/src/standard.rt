@@ -11,7 +11,7 @@ use crate::streams::{Reader, Writer};
 use std::io;
 use std::marker::Model;
 
-/// A source over any reader. It doesn't tell its bytes.
+/// A source over any reader. Its contract doesn't say its bytes.
 #[derive(Drop)]
 pub struct StdSource<R: Reader + Drop> {
     reader: R,
@@ -27,7 +27,7 @@ impl<R: Reader + Drop> Model for StdSource<R> {
 }
 
 impl<R: Reader + Drop> StdSource<R> {
-    /// A source over this reader, before its first call.
+    /// The source over `reader`, before its first call.
     pub fn new(reader: R) -> StdSource<R>
         ensures { result ≡ record { inner = reader; faults = 0 } }
     {
@@ -35,7 +35,7 @@ impl<R: Reader + Drop> StdSource<R> {
     }
 }
 
-/// The count of faults after a call with this answer.
+/// The count of faults after a call that returned `answer`.
 fn faults_after(faults: u64, answer: &Result<usize, Failed>) -> u64
     ensures { result ≡ faults_after faults answer.now }
 {
@@ -45,7 +45,7 @@ fn faults_after(faults: u64, answer: &Result<usize, Failed>) -> u64
     }
 }
 
-/// The answer to a read with this outcome.
+/// The result of a read with `outcome`.
 fn read_answer(outcome: io::Result<usize>) -> Result<usize, Failed>
     ensures { result ≡ read_answer outcome }
 {
@@ -61,7 +61,7 @@ impl<R: Reader + Drop> Source for StdSource<R> {
         ensures bound { ReadsAtMost result buf.new }
         ensures bytes { ReadConsumes None None result buf.new }
 
-        // The reader was called once. What is given is what it gave, and the read fails exactly where it failed.
+        // The reader was called once. The read gives what the reader gave, and fails exactly if it failed.
         ensures once { ReadsOnce R.Reads self.old.inner result buf.new self.new.inner }
         ensures handed_on { ReadConsumes (R.remaining self.old.inner) (R.remaining self.new.inner) result
             buf.new }
@@ -74,7 +74,7 @@ impl<R: Reader + Drop> Source for StdSource<R> {
     }
 }
 
-/// A sink over any writer, which is flushed after each write. It doesn't tell its bytes.
+/// A sink over any writer, which is flushed after each write. Its contract doesn't say its bytes.
 #[derive(Drop)]
 pub struct StdSink<W: Writer + Drop> {
     writer: W,
@@ -90,7 +90,7 @@ impl<W: Writer + Drop> Model for StdSink<W> {
 }
 
 impl<W: Writer + Drop> StdSink<W> {
-    /// A sink over this writer, before its first call.
+    /// The sink over `writer`, before its first call.
     pub fn new(writer: W) -> StdSink<W>
         ensures { result ≡ record { inner = writer; faults = 0 } }
     {
@@ -98,7 +98,7 @@ impl<W: Writer + Drop> StdSink<W> {
     }
 }
 
-/// The answer to a write and a flush with these outcomes, of a piece that is empty or not.
+/// The result of a write with outcome `written` and a flush with outcome `flushed`; `is_empty` says whether the piece was empty.
 fn write_answer(
     written: io::Result<usize>,
     is_empty: bool,
@@ -122,8 +122,8 @@ impl<W: Writer + Drop> Sink for StdSink<W> {
         ensures moves { IfOk result (λ count. 0 < length piece.now → 0 < count) }
         ensures bytes { WriteGains None None result piece.now }
 
-        // The writer was called once and then flushed, and the write fails exactly where one of them failed or nothing was
-        // taken of a piece that has a byte. The writer may have taken a prefix of the piece in a write that fails.
+        // The writer was called once and then flushed, and the write fails exactly if one of the two failed, or if nothing was
+        // taken of a piece that isn't empty. In a write that fails, the writer may have taken a prefix of the piece.
         ensures once { WritesAndFlushes W.Writes W.Flushes (nat_eq (length piece.now) 0) self.old.inner piece.now
             result self.new.inner }
         ensures handed_on { PassesOn (W.contents self.old.inner) (W.contents self.new.inner) result piece.now }

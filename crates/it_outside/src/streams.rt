@@ -1,5 +1,5 @@
-//! Readers and writers whose calls a contract can name. std's `Read` and `Write` say which bytes a call moves, and not when
-//! it fails; so each of their implementors is one of these by a bare call, and the adapters stand on these.
+//! Readers and writers whose calls a contract can name. The contracts of std's `Read` and `Write` say which bytes a call moves, and
+//! not when it fails; so each implementor of these implements the traits here by a plain call, and the adapters use the traits here.
 ghost use Rattle.std.specs.Prelude.{ℕ, List, Option, Result, ⊤};
 ghost use Rattle.std.specs.Io.{ReadsAtMost, WritesAtMost};
 ghost use Rattle.std.specs.Io.KnownBytes.{Keeps, ReadConsumes, WriteAppends};
@@ -13,7 +13,7 @@ pub trait Reader {
     /// The bytes that reads will give, where they are known.
     ghost remaining: { Self → Option (List ℕ) };
 
-    /// A read in one state may have this outcome, with the buffer as it then is, and lead to the other state.
+    /// A read in the first state may have this outcome and leave this buffer and the second state.
     ghost Reads: { Self → Result ℕ Error → List ℕ → Self → Type 0 };
 
     /// One call of `Read::read`.
@@ -38,10 +38,10 @@ pub trait Writer {
     /// The bytes that the writer holds, where they are known.
     ghost contents: { Self → Option (List ℕ) };
 
-    /// A write of a piece in one state may have this outcome and lead to the other state.
+    /// A write of this piece in the first state may have this outcome and leave the second state.
     ghost Writes: { Self → List ℕ → Result ℕ Error → Self → Type 0 };
 
-    /// A flush in one state may have this outcome and lead to the other state.
+    /// A flush in the first state may have this outcome and leave the second state.
     ghost Flushes: { Self → Result ⊤ Error → Self → Type 0 };
 
     /// One call of `Write::write`.

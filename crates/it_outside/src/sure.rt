@@ -10,7 +10,7 @@ use crate::ends::{Failed, Sink, Source};
 use crate::memory::copy_front;
 use std::marker::Model;
 
-/// Bytes in memory, of which a call gives as many as there is room for.
+/// A source over bytes in memory, of which a call gives as many as the buffer holds.
 #[derive(Drop)]
 pub struct SureSource {
     bytes: Vec<u8>,
@@ -28,7 +28,7 @@ impl Model for SureSource {
 }
 
 impl SureSource {
-    /// A source of these bytes.
+    /// A source that gives `bytes`.
     pub fn new(bytes: Vec<u8>) -> SureSource
         ensures { result ≡ bytes.items }
     {
@@ -46,7 +46,7 @@ impl Source for SureSource {
         ensures bytes { ReadConsumes (Some self.old) (Some self.new) result buf.new }
         ensures counted { 0 ≡ faults_after 0 result }
 
-        // Exactly what is given: as much as there is, and as fits the buffer.
+        // Which bytes are given: as many as are left and fit the buffer.
         ensures gives { result ≡ Ok (min (length buf.old) (length self.old)) }
         ensures filled { buf.new ≡ take (length buf.old) self.old ++ drop (length self.old) buf.old }
         ensures after { self.new ≡ drop (length buf.old) self.old }
@@ -59,8 +59,8 @@ impl Source for SureSource {
     }
 }
 
-/// A sink that takes everything and keeps the first bytes, up to a limit. Of the bytes after these it keeps only whether there
-/// are any, and then doesn't tell what it took. It takes no memory.
+/// A sink that takes everything and keeps the first bytes, up to a limit. Of later bytes it keeps only whether there are any, and if
+/// there are, its contract no longer says what it took. It allocates nothing.
 #[derive(Drop)]
 pub struct SureSink {
     room: Vec<u8>,
@@ -80,7 +80,7 @@ impl Model for SureSink {
 }
 
 impl SureSink {
-    /// A sink that keeps the first `limit` bytes, in a room that was reserved for them.
+    /// A sink that keeps the first `limit` bytes, in `room`, where space is reserved for them.
     pub fn new(room: Vec<u8>, limit: usize) -> SureSink
         requires empty { room.items ≡ [] }
         requires reserved { limit ≤ vec_capacity room }
@@ -93,14 +93,14 @@ impl SureSink {
         }
     }
 
-    /// The bytes that it kept.
+    /// The bytes that the sink kept.
     pub fn bytes(&self) -> &[u8]
         ensures { result.now ≡ self.now.kept }
     {
         self.room.as_slice()
     }
 
-    /// Whether it took more bytes than it kept.
+    /// Whether the sink took more bytes than it kept.
     pub fn has_more(&self) -> bool
         ensures { result ≡ self.now.more }
     {
@@ -119,13 +119,13 @@ impl Sink for SureSink {
         ensures bytes { WriteGains (bytes_told self.old) (bytes_told self.new) result piece.now }
         ensures counted { 0 ≡ faults_after 0 result }
 
-        // Exactly what is taken: everything.
+        // Which bytes are taken: all.
         ensures takes { result ≡ Ok (length piece.now) }
         ensures after { self.new ≡ after_sure_write self.old piece.now }
     {
         let spare = self.limit - self.room.len();
         let count = spare.min(piece.len());
-        // The room was reserved, so this takes no memory and doesn't fail.
+        // The space was reserved, so this allocates nothing and doesn't fail.
         let Ok(()) = self.room.extend_from_slice(&piece[..count]) else {
             return Err(Failed);
         };

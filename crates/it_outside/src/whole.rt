@@ -13,7 +13,7 @@ pub enum InFault {
     ReadFault,
     /// There were more bytes than the limit allows.
     TooLong,
-    /// There was no memory for the bytes.
+    /// Allocation failed.
     Memory,
 }
 
@@ -24,20 +24,20 @@ pub enum OutFault {
     WriteFault,
 }
 
-/// How many bytes `read_all` asks for at a time.
+/// The number of bytes that `read_all` asks for at a time.
 const CHUNK: usize = 4096;
 
-/// All that the source gives up to its end, of at most `limit` bytes.
+/// All bytes that the source gives up to its end; `TooLong` if they are more than `limit`.
 pub fn read_all<S: Source>(alloc: Global, source: &mut S, limit: usize) -> Result<Vec<u8>, InFault>
     ensures whole { IfOk result (λ bytes. Gave (S.left source.old) (S.left source.new) bytes.items) }
     ensures fits { IfOk result (λ bytes. length bytes.items ≤ limit) }
     ensures long { IsErrOf result InFault.TooLong → GaveMore (S.left source.old) (S.left source.new) limit }
 
-    // One read failed where that is the answer, and else none did.
+    // One read failed if that is the result, and otherwise none did.
     ensures read { IsErrOf result InFault.ReadFault → S.faults source.new ≡ next_count (S.faults source.old) }
     ensures stayed { (IsErrOf result InFault.ReadFault → ⊥) → S.faults source.new ≡ S.faults source.old }
 
-    // What was given before a failed read or a want of memory is lost.
+    // Bytes that were given before a failed read or a failed allocation are lost.
     ensures lost { IfErr result (λ fault. fault ≢ InFault.TooLong →
         GaveAtMost (S.left source.old) (S.left source.new) limit) }
 {
@@ -59,13 +59,13 @@ pub fn read_all<S: Source>(alloc: Global, source: &mut S, limit: usize) -> Resul
     }
 }
 
-/// Writes the whole piece, and takes no memory of its own.
+/// Writes the whole of `piece`, and allocates nothing itself. If it fails, the sink took a prefix of `piece`.
 #[tactic(auto, using(crate::proofs::Moved::took_prefix))]
 pub fn write_all<K: Sink>(sink: &mut K, piece: &[u8]) -> Result<(), OutFault>
     ensures whole { OnOk result (Gains (K.taken sink.old) (K.taken sink.new) piece.now) }
     ensures part { OnErr result (TookPrefix (K.taken sink.old) (K.taken sink.new) piece.now) }
 
-    // One write failed where this does, and else none did.
+    // One write failed if this function does, and otherwise none did.
     ensures counted { K.faults sink.new ≡ faults_after (K.faults sink.old) result }
 {
     let mut at = 0;

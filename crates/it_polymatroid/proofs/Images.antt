@@ -1,4 +1,4 @@
--- What sets of variables stand for, and polymatroids pulled back.
+-- The sets that sets of variables stand for, and polymatroids pulled back.
 use Rattle.std.proofs.Common.{◌≡◌, ℕ, zero, suc, ◌+◌, ◌^◌, ◌<◌, ◌≤◌, ◌⊎◌, inl, inr, ℤ, pos, ◌≤ℤ◌, bit_and, bit_or, max, refl, sym, ap, ap₂, subst₂, ◌∙◌, arith, List, [], ◌∷◌, ◌++◌, Bool, true, false, cond, nat_eq, length, drop, get_or, All}
 use Rattle.std.proofs.lemmas.Int.{ints}
 use Rattle.std.proofs.lemmas.List.{get_or_append_left, get_or-append-add}

@@ -1,4 +1,4 @@
--- Certificates: what makes a yes right, with nothing of a solver in it.
+-- Certificates: the evidence for a yes, independent of any solver.
 use Rattle.std.specs.Prelude.{◌≡◌, ℕ, zero, suc, ◌<◌, ℤ, pos, ◌+ℤ◌, ◌*ℤ◌, ◌≤ℤ◌, List, [], ◌∷◌, Bool, true, false, All}
 use Rattle.it_space.specs.Rows.{one_at}
 use Rattle.it_space.specs.Answers.{CertificateView}
@@ -7,18 +7,18 @@ use Rattle.it_space.specs.Answers.{CertificateView}
 abbrev pub Form : Type 0
 Form = (ℕ → ℤ) → ℤ
 
--- what an answer may be built from: for each number below `count` a form that is to be at least 0, or to be 0 where it is an equation
+-- the forms that a certificate may weigh: for each number below `count` one that must be at least 0, or be 0 where it is an equation
 pub record Generators : Type 0 where
   pub count : ℕ
   pub form : ℕ → Form
   pub is_equation : ℕ → Bool
 
--- the sum over a list of numbered weights
+-- the sum over a list of numbered weights of each weight times the value of f at its number
 abbrev pub combination : List (ℕ × ℤ) → (ℕ → ℤ) → ℤ
 combination [] f = pos 0
 combination (w ∷ ws) f = w.1 *ℤ f w.0 +ℤ combination ws f
 
--- a weight that may stand in a certificate: of a generator that is there, and not negative unless that is an equation
+-- a weight that is allowed in a certificate: its generator exists, and it isn't negative unless that is an equation
 abbrev pub IsAllowed : Generators → ℕ × ℤ → Type 0
 IsAllowed g w = (w.0 < g.count) × (g.is_equation w.0 ≡ false → pos 0 ≤ℤ w.1)
 

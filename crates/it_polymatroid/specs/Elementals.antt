@@ -8,17 +8,17 @@ pub data Elemental : Type 0 where
   Conditional : (i : ℕ) → Elemental
   Mutual : (i j k : ℕ) → Elemental
 
--- the value at h: what the inequality says to be at least 0
+-- the value at h that the inequality says is at least 0
 abbrev pub elemental_value : ℕ → (ℕ → ℤ) → Elemental → ℤ
 elemental_value n h (Conditional i) = h (2 ^ n - 1) -ℤ h (2 ^ n - 1 - 2 ^ i)
 elemental_value n h (Mutual i j k) = (h (k + 2 ^ i) +ℤ h (k + 2 ^ j)) -ℤ (h (k + 2 ^ i + 2 ^ j) +ℤ h k)
 
--- from, from + 1 and so on, count of them
+-- the count numbers from, from + 1 and so on
 abbrev pub span : ℕ → ℕ → List ℕ
 span from zero = []
 span from (suc count) = from ∷ span (from + 1) count
 
--- whether variable i is no member of k
+-- whether variable i isn't a member of k
 abbrev pub lacks : ℕ → ℕ → Bool
 lacks k i = not (has_member k i)
 
@@ -31,7 +31,7 @@ abbrev pub elementals : ℕ → List Elemental
 elementals n = map Conditional (span 0 n)
     ++ flat_map (λ i. flat_map (mutuals_of n i) (span (i + 1) (n - (i + 1)))) (span 0 n)
 
--- the inequality of a number, counted from 0
+-- inequality i of the list, counted from 0
 abbrev pub elemental_at : ℕ → ℕ → Elemental
 elemental_at n i = slice_index_or (elementals n) i (Conditional 0)
 

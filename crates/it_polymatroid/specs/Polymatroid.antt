@@ -3,7 +3,7 @@
 use Rattle.std.specs.Prelude.{◌≡◌, ℕ, ◌^◌, ◌<◌, bit_and, bit_or, ℤ, pos, ◌+ℤ◌, ◌≤ℤ◌}
 use Rattle.it_space.specs.Sets.{IsInside}
 
--- h is 0 at the empty set, rises with its set, and is submodular, over all pairs of sets
+-- h is 0 at the empty set, monotone and submodular, over all pairs of sets
 pub record IsPolymatroid (n : ℕ) (h : ℕ → ℤ) : Type 0 where
   pub empty : h 0 ≡ pos 0
   pub rises : (s t : ℕ) → t < 2 ^ n → IsInside s t → h s ≤ℤ h t

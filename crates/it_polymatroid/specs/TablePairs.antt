@@ -7,6 +7,6 @@ pub record PairHolds (h : ℕ → ℤ) (s t : ℕ) : Type 0 where
   pub rises : IsInside s t → h s ≤ℤ h t
   pub submodular : (h (bit_or s t) +ℤ h (bit_and s t)) ≤ℤ (h s +ℤ h t)
 
--- and at one set with each other
+-- the axioms of polymatroids at s and each other set
 abbrev pub PairsHoldAt : ℕ → (ℕ → ℤ) → ℕ → Type 0
 PairsHoldAt n h s = (t : ℕ) → t < 2 ^ n → PairHolds h s t

@@ -1,4 +1,4 @@
-//! Theorems on the definitions, each as the contract of a function.
+//! Theorems about the definitions, each as the contract of a function.
 ghost use Rattle.it_polymatroid.specs.Certificates.{CertificatesProve};
 ghost use Rattle.it_polymatroid.specs.Elementals.{ElementalsGenerate};
 

@@ -25,21 +25,21 @@ impl Model for Substitution {
 }
 
 impl Substitution {
-    /// The substitution of these sets for the variables 0, 1, 2, .. in order.
+    /// The substitution of `sets` for the variables 0, 1, 2, .. in order.
     pub fn new(sets: Vec<VarSet>) -> Substitution
         ensures { result ≡ sets.items }
     {
         Substitution { sets }
     }
 
-    /// How many variables it is of.
+    /// The number of variables that are replaced.
     fn len(&self) -> usize
         ensures { result ≡ length self.now }
     {
         self.sets.len()
     }
 
-    /// The union of what the members stand for.
+    /// The union of the sets that the members of `set` stand for.
     fn union_of_images(&self, set: VarSet) -> VarSet
         requires { length self.now ≤ 16 }
         ensures { result ≡ union_of_images self.now set }
@@ -48,13 +48,13 @@ impl Substitution {
     }
 }
 
-/// The union of the sets that the members of a set stand for, each variable for one of the sets in order.
+/// The union of the sets that the members of `of` stand for, where variable i stands for `sets[i]`.
 pub fn union_of_images(sets: &[VarSet], of: VarSet) -> VarSet
     requires { length sets.now ≤ 16 }
     ensures { result ≡ union_of_images sets.now of }
 {
     let mut union = VarSet::empty();
-    // by index, since it is the variable's number, and the invariant speaks of the sets from i on
+    // by index, since it is the variable's number, and the invariant is about the sets from i on
     for i in 0..sets.len() {
         if of.has(i as u8) {
             union = union.union(sets[i]);
@@ -63,8 +63,7 @@ pub fn union_of_images(sets: &[VarSet], of: VarSet) -> VarSet
     union
 }
 
-/// The function on the sets of the substitution's variables that has at each set the table's value at the set that it
-/// stands for.
+/// The function on the sets of the variables of `by` that has at each set the value of `table` at the set that it stands for.
 pub fn pull_back(alloc: Global, table: &Table, by: &Substitution) -> Result<Table, AllocError>
     requires some { 1 ≤ length by.now }
     requires few { length by.now ≤ 10 }
@@ -78,7 +77,7 @@ pub fn pull_back(alloc: Global, table: &Table, by: &Substitution) -> Result<Tabl
     Ok(Table::new(variables, values))
 }
 
-/// The values of the table at what each set stands for, by ascending set.
+/// The values of `table` at the sets that the sets of the variables of `by` stand for, by ascending set.
 fn pulled_values(alloc: Global, table: &Table, by: &Substitution) -> Result<Vec<i128>, AllocError>
     requires few { length by.now ≤ 10 }
     requires within { All (λ s. s < 2 ^ table.now.variables) by.now }

@@ -35,7 +35,7 @@ impl Table {
         Table { variables, values }
     }
 
-    /// How many variables there are.
+    /// The number of variables.
     pub fn variables(&self) -> u8
         ensures value { result ≡ self.now.variables }
         ensures table { IsTable self.now }
@@ -65,7 +65,7 @@ pub fn is_polymatroid(table: &Table) -> bool
     true
 }
 
-/// Whether the axioms hold at this set with each other.
+/// Whether the axioms hold at `set` and each other set.
 fn pairs_hold_at(table: &Table, set: VarSet) -> bool
     requires { set < 2 ^ table.now.variables }
     ensures yes { OnTrue result (PairsHoldAt table.now.variables (value_at table.now) set) }
@@ -79,7 +79,7 @@ fn pairs_hold_at(table: &Table, set: VarSet) -> bool
     true
 }
 
-/// Whether the axioms hold at these two sets.
+/// Whether the axioms hold at the sets `s` and `t`.
 #[tactic(auto, using(crate::proofs::TableLemmas::union_below, crate::proofs::TableLemmas::meet_below))]
 fn pair_holds(table: &Table, s: VarSet, t: VarSet) -> bool
     requires left { s < 2 ^ table.now.variables }

@@ -1,4 +1,4 @@
--- No public clause cites this module: what the writers of certificates append, by a problem's constraints.
+-- What the writers of certificates append, by a problem's constraints. No public clause cites this module.
 use Rattle.std.specs.Prelude.{ℕ, ℤ, List, length, map}
 use Rattle.it_space.specs.Answers.{certificate_view}
 use Rattle.it_space.specs.Rows.{Terms}
@@ -10,15 +10,15 @@ use Rattle.it_syntax.specs.NamesViews.{NamesView}
 use Rattle.it_print.specs.Lines.{certificate_text, origins_of, proofs_text}
 use Rattle.it_print.specs.ProofLines.{certificate_lines, generator_row_text, generator_rows, proof_lines, weight_line}
 
--- a certificate
+-- the text of a certificate
 abbrev pub certificate_text_by : NamesView → List Constraint → Certificate → List ℕ
 certificate_text_by v cs w = certificate_text v.variables (origins_of cs) (certificate_view w)
 
--- certificates with ` and ` between them
+-- the text of certificates with ` and ` between them
 abbrev pub proofs_text_by : NamesView → List Constraint → List Certificate → List ℕ
 proofs_text_by v cs ws = proofs_text v.variables (origins_of cs) (map certificate_view ws)
 
--- the row of the elemental inequality of this number
+-- the row of elemental inequality number i
 abbrev pub elemental_row_text : NamesView → ℕ → List ℕ
 elemental_row_text v i = generator_row_text v (of_elemental (length v.variables) (elemental_at (length v.variables) i))
 
@@ -30,6 +30,6 @@ weight_line_by k v cs = weight_line k v (origins_of cs) (generator_rows v cs)
 abbrev pub certificate_lines_by : ℕ → NamesView → List Constraint → Certificate → Terms → List ℕ
 certificate_lines_by k v cs w target = certificate_lines k v (origins_of cs) (generator_rows v cs) (certificate_view w) target
 
--- those of each certificate with its target
+-- the lines of each certificate and its target
 abbrev pub proof_lines_by : ℕ → NamesView → List Constraint → List Certificate → List Terms → List ℕ
 proof_lines_by k v cs ws targets = proof_lines k v (origins_of cs) (generator_rows v cs) (map certificate_view ws) targets

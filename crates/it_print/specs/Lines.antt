@@ -22,12 +22,12 @@ use Rattle.it_question.specs.Questions.{BodyView, VerbView, Contain}
 use Rattle.it_canon.specs.TrueLines.{variable_count}
 use Rattle.it_question.specs.ProblemLines.{problem_names}
 
--- texts with a separator between them; `some`: one stands before them
+-- texts with a separator between them, and before them if `some`: another text stands before
 abbrev pub joined_texts : List ℕ → Bool → List (List ℕ) → List ℕ
 joined_texts separator some [] = []
 joined_texts separator some (text ∷ texts) = (if some then separator else []) ++ text ++ joined_texts separator true texts
 
--- the names of a set's members from variable i on
+-- the names of a set's members, from variable i on
 abbrev pub members_from : ℕ → List (List ℕ) → ℕ → List (List ℕ)
 members_from i [] set = []
 members_from i (name ∷ names) set = (if has_member set i then name ∷ [] else []) ++ members_from (i + 1) names set
@@ -56,7 +56,7 @@ origin_text (Rate line) = codes "row " ++ decimal line
 abbrev pub origins_of : List Constraint → List Origin
 origins_of cs = map (λ c. c.origin) cs
 
--- the generator of this number, by the variables' names and the origins of the constraints
+-- generator number g, by the variables' names and the origins of the constraints
 unfoldable pub generator_text : List (List ℕ) → List Origin → ℕ → List ℕ
 generator_text names origins g =
     if nat_lt g (length (elementals (length names))) then elemental_text names (elemental_at (length names) g)
@@ -66,7 +66,7 @@ generator_text names origins g =
 unfoldable pub weight_text : List (List ℕ) → List Origin → ℕ × ℤ → List ℕ
 weight_text names origins weight = signed_decimal weight.1 ++ codes " " ++ generator_text names origins weight.0
 
--- `0` where there is none
+-- the texts, or `0` alone where there are none
 abbrev pub or_zero : List (List ℕ) → List (List ℕ)
 or_zero [] = codes "0" ∷ []
 or_zero texts = texts
@@ -97,7 +97,7 @@ pair_texts v c (x ∷ xs) = (coordinate_text v c ++ codes "=" ++ signed_decimal 
 unfoldable pub values_text : NamesView → List ℤ → List ℕ
 values_text v values = joined_texts (codes " ") false (pair_texts v 1 values)
 
--- why a question stays undecided
+-- the cause why a question is undecided
 unfoldable pub cause_text : NamesView → Cause → List ℕ
 cause_text v (Pivots steps) = codes "pivots " ++ decimal steps
 cause_text v (Width step) = codes "width " ++ decimal step
@@ -117,12 +117,12 @@ unfoldable pub term_text : NamesView → Bool → ℕ × ℤ → List ℕ
 term_text v is_first t =
     sign_text is_first (int_lt t.1 (pos 0)) ++ (if unsigned_abs t.1 == 1 then [] else decimal (unsigned_abs t.1) ++ codes " ") ++ coordinate_text v t.0
 
--- terms in order, the first of them as such or not
+-- terms in order; `is_first` says whether the first of them is the first of its row
 abbrev pub terms_text : NamesView → Bool → Terms → List ℕ
 terms_text v is_first [] = []
 terms_text v is_first (t ∷ ts) = term_text v is_first t ++ terms_text v false ts
 
--- what a row is to be
+-- ` >= 0` or ` = 0`, by the kind of a row
 abbrev pub kind_text : Kind → List ℕ
 kind_text Inequality = codes " >= 0"
 kind_text Equation = codes " = 0"
@@ -169,7 +169,7 @@ substitution_text q sets = parts_for (variable_names q) (auxiliary_names q.names
 unfoldable pub contained_line : ℕ → BodyView → List ℕ → List ℕ
 contained_line k q sets = decimal k ++ codes " contained" ++ substitution_text q sets ++ codes "\n"
 
--- `open`, and how many candidates were tried
+-- `open`, and the number of candidates tried
 unfoldable pub open_line : ℕ → ℕ → List ℕ
 open_line k tried = decimal k ++ codes " open " ++ decimal tried ++ codes "\n"
 
@@ -177,7 +177,7 @@ open_line k tried = decimal k ++ codes " open " ++ decimal tried ++ codes "\n"
 abbrev pub IsCauseOf : ℕ → Cause → Type 0
 IsCauseOf m cause = IfRate (λ r. r < m) cause
 
--- the coordinates of a row are sets of the variables and rates
+-- the coordinates of a row are those of the names
 abbrev pub IsRowOver : NamesView → Terms → Type 0
 IsRowOver v terms = All (λ t. t.0 < 2 ^ length v.variables + length v.rates) terms
 
@@ -194,8 +194,8 @@ answer_line k q origins (Open tried) = open_line k tried
 abbrev pub AreListed : ℕ → ℕ → List Certificate → Type 0
 AreListed n m proofs = All (λ c. All (λ w. w.0 < length (elementals n) + m) c.weights.items) proofs
 
--- with m constraints: the generators of each certificate are there, the point's values, the cause's rate and the rows are of the
--- question's names, and there is a set for each auxiliary variable
+-- The answer can be printed with m constraints: the generators of each certificate are there, the point's values, the cause's rate and
+-- the rows are of the question's names, and there is a set for each auxiliary variable.
 abbrev pub IsPrintable : BodyView → ℕ → Answer → Type 0
 IsPrintable q m (answers.Yes proofs) = AreListed (variable_count q) m proofs.items
 IsPrintable q m (answers.No back point) = (length point < 2 ^ variable_count q + length (problem_names q).rates) × (length point < 2 ^ 16)

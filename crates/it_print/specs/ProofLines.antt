@@ -13,11 +13,11 @@ use Rattle.it_question.specs.Questions.{BodyView}
 use Rattle.it_question.specs.ProblemLines.{problem_names}
 use Rattle.it_print.specs.Lines.{answer_line, origins_of, weight_text, row_text}
 
--- what each generator says, by its number: an elemental inequality, or a constraint
+-- generator number g: an elemental inequality, or a constraint
 abbrev pub generator_rows : NamesView → List Constraint → ℕ → Generator
 generator_rows v cs g = generator_at (generator_list (length v.variables) cs) g
 
--- the row of what a generator says
+-- the row of a generator
 abbrev pub generator_row_text : NamesView → Generator → List ℕ
 generator_row_text v g = row_text v g.kind g.row
 
@@ -34,7 +34,7 @@ sum_line k v scale target = decimal k ++ codes " sum " ++ signed_decimal scale +
 unfoldable pub certificate_lines : ℕ → NamesView → List Origin → (ℕ → Generator) → CertificateView → Terms → List ℕ
 certificate_lines k v origins rows w target = flat_map (weight_line k v origins rows) (filter is_nonzero_weight w.weights) ++ sum_line k v w.scale target
 
--- each certificate with its target
+-- the lines of each certificate with its target
 abbrev pub proof_lines : ℕ → NamesView → List Origin → (ℕ → Generator) → List CertificateView → List Terms → List ℕ
 proof_lines k v origins rows (w ∷ ws) (target ∷ targets) = certificate_lines k v origins rows w target ++ proof_lines k v origins rows ws targets
 proof_lines k v origins rows ws targets = []
@@ -49,6 +49,6 @@ proofs_in answer = []
 abbrev pub proof_text : ℕ → BodyView → List Origin → (ℕ → Generator) → List Terms → AnswerView → List ℕ
 proof_text k q origins rows targets answer = answer_line k q origins answer ++ proof_lines k (problem_names q) origins rows (proofs_in answer) targets
 
--- the same by the constraints of the question's problem
+-- the lines of an answer and of its certificates, by the constraints of the question's problem
 abbrev pub proof_text_by : ℕ → BodyView → List Constraint → List Terms → AnswerView → List ℕ
 proof_text_by k q cs targets answer = proof_text k q (origins_of cs) (generator_rows (problem_names q) cs) targets answer

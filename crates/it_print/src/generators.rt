@@ -10,7 +10,7 @@ use it_space::{Constraint, Origin, VarSet};
 use it_syntax::Names;
 use std::alloc::AllocError;
 
-/// The generator of this number: the elemental inequalities, then the constraints.
+/// Appends generator number `generator`: the elemental inequalities come first, then the constraints.
 #[tactic(auto, unfolding(crate::specs::Lines::generator_text))]
 pub fn write_generator(
     out: &mut Vec<u8>,
@@ -30,7 +30,7 @@ pub fn write_generator(
     }
 }
 
-/// The elemental inequality of this number, as `H(X|Y,Z)` or `I(X;Y|Z)`.
+/// Appends elemental inequality number `index`, as `H(X|Y,Z)` or `I(X;Y|Z)`.
 pub fn write_elemental(out: &mut Vec<u8>, names: &Names, index: u32) -> Result<(), AllocError>
     requires some { 1 ≤ length names.now.variables }
     requires listed { index < length (elementals (length names.now.variables)) }
@@ -42,7 +42,7 @@ pub fn write_elemental(out: &mut Vec<u8>, names: &Names, index: u32) -> Result<(
     }
 }
 
-/// `H(Xi|all others)`.
+/// Appends `H(Xi|all others)`.
 #[tactic(auto, unfolding(crate::specs::Lines::elemental_text))]
 fn write_conditional(out: &mut Vec<u8>, names: &Names, i: u8) -> Result<(), AllocError>
     requires { i < length names.now.variables }
@@ -55,7 +55,7 @@ fn write_conditional(out: &mut Vec<u8>, names: &Names, i: u8) -> Result<(), Allo
     out.extend_from_slice(b")")
 }
 
-/// The set of the other variables.
+/// The set of all `variables` variables but `i`.
 fn other_variables(i: u8, variables: u8) -> VarSet
     requires there { i < variables }
     requires few { variables ≤ 10 }
@@ -64,7 +64,7 @@ fn other_variables(i: u8, variables: u8) -> VarSet
     VarSet::from_number((1u16 << variables) - 1 - (1u16 << i))
 }
 
-/// `I(Xi;Xj|given)`.
+/// Appends `I(Xi;Xj|given)`.
 #[tactic(auto, unfolding(crate::specs::Lines::elemental_text))]
 fn write_mutual(
     out: &mut Vec<u8>,
@@ -87,17 +87,17 @@ fn write_mutual(
     out.extend_from_slice(b")")
 }
 
-/// The set of one of the variables.
+/// The set of the variable `i` alone.
 fn variable_set(names: &Names, i: u8) -> VarSet
     requires { i < length names.now.variables }
     ensures { result ≡ 2 ^ i }
 {
-    // asked for its clause, that there are at most ten variables
+    // called for its clause, that there are at most ten variables
     let _space = names.space();
     VarSet::single(i)
 }
 
-/// The line that a constraint comes from: `given J`, `given J.I` where the line gives several, or `row J`.
+/// Appends the line that a constraint comes from: `given J`, `given J.I` where the line gives several constraints, or `row J`.
 #[tactic(auto, unfolding(crate::specs::Lines::origin_text))]
 pub fn write_origin(out: &mut Vec<u8>, origin: Origin) -> Result<(), AllocError>
     ensures { OnOk result (out.new.items ≡ out.old.items ++ origin_text origin) }
@@ -115,7 +115,7 @@ pub fn write_origin(out: &mut Vec<u8>, origin: Origin) -> Result<(), AllocError>
     }
 }
 
-/// `.I` where a line gives several constraints.
+/// Appends `.I`, where the line gives several constraints.
 fn write_part_number(out: &mut Vec<u8>, part: u16, parts: u16) -> Result<(), AllocError>
     ensures { OnOk result (out.new.items ≡ out.old.items ++ (if nat_lt 1 parts then codes "." ++ decimal part else [])) }
 {

@@ -41,7 +41,7 @@ pub fn answer_line(
     }
 }
 
-/// The line of a yes.
+/// The line of the answer yes.
 fn yes_line(
     alloc: Global,
     k: usize,
@@ -61,7 +61,7 @@ fn yes_line(
     Ok(out)
 }
 
-/// The line of a no.
+/// The line of the answer no.
 fn no_line(alloc: Global, k: usize, names: &Names, point: &Point) -> Result<Vec<u8>, AllocError>
     requires there { length point.now < 2 ^ length names.now.variables + length names.now.rates }
     requires few { length point.now < 2 ^ 16 }
@@ -95,7 +95,7 @@ fn undecided_line(
     Ok(out)
 }
 
-/// The line with the number of a region's rows, and the line of each.
+/// The line with the number of a region's rows, and then the line of each.
 fn region_lines(
     alloc: Global,
     k: usize,
@@ -146,7 +146,7 @@ fn open_line(alloc: Global, k: usize, tried: u32) -> Result<Vec<u8>, AllocError>
     Ok(out)
 }
 
-/// Why a question stays undecided.
+/// Appends the cause why a question is undecided.
 #[tactic(auto, unfolding(crate::specs::Lines::cause_text))]
 fn write_cause(out: &mut Vec<u8>, names: &Names, cause: Cause) -> Result<(), AllocError>
     requires { IsCauseOf (length names.now.rates) cause }

@@ -6,7 +6,7 @@ ghost use Rattle.it_print.specs.Lines.{joined_texts};
 use itoa::Buffer;
 use std::alloc::AllocError;
 
-/// The decimal digits of a number, after what stands.
+/// Appends `number` in decimal digits.
 pub fn write_number(out: &mut Vec<u8>, number: usize) -> Result<(), AllocError>
     ensures { OnOk result (out.new.items ≡ out.old.items ++ decimal number) }
 {
@@ -14,7 +14,7 @@ pub fn write_number(out: &mut Vec<u8>, number: usize) -> Result<(), AllocError>
     out.extend_from_slice(buffer.format(number).as_bytes())
 }
 
-/// The same after `-` for a number below 0.
+/// Appends `number` in decimal digits, after `-` if it is below 0.
 pub fn write_signed(out: &mut Vec<u8>, number: i128) -> Result<(), AllocError>
     ensures { OnOk result (out.new.items ≡ out.old.items ++ signed_decimal number) }
 {
@@ -22,7 +22,7 @@ pub fn write_signed(out: &mut Vec<u8>, number: i128) -> Result<(), AllocError>
     out.extend_from_slice(buffer.format(number).as_bytes())
 }
 
-/// A separator, where something stands before.
+/// Appends the separator, if `some`: a text stands before.
 fn write_between(out: &mut Vec<u8>, some: bool, separator: &[u8]) -> Result<(), AllocError>
     ensures { OnOk result (out.new.items ≡ out.old.items ++ (if some then separator.now else [])) }
 {
@@ -32,7 +32,7 @@ fn write_between(out: &mut Vec<u8>, some: bool, separator: &[u8]) -> Result<(), 
     Ok(())
 }
 
-/// The text, where it is wanted, after the separator where something stands before. Answers whether something stands now.
+/// Appends `text` if it is wanted, after the separator if `some`: a text stands before. Gives whether a text stands there now.
 pub fn write_if(
     out: &mut Vec<u8>,
     some: bool,

@@ -20,9 +20,9 @@ use it_space::{Answer, Certificate, Constraint, Kind, Row, is_nonzero_weight};
 use it_syntax::Names;
 use std::alloc::{AllocError, Global};
 
-/// The lines of an answer to question k, as `answer_line` tells them, and after them what its certificates add up. For
-/// each certificate, with the target of its number: a line for each weight other than 0 with its generator's row, and one with
-/// the scale and the target's row.
+/// The lines of an answer to question k, those of `answer_line`, and after them what its certificates add up: for each
+/// certificate, with the target of its number, a line for each weight other than 0 with its generator's row, and one with the
+/// scale and the target's row.
 pub fn proof_text(
     alloc: Global,
     k: usize,
@@ -56,7 +56,7 @@ pub fn proof_text(
     Ok(out)
 }
 
-/// The lines of certificates, each with its target.
+/// Appends the lines of certificates, each with its target.
 fn write_proof_lines(
     alloc: Global,
     out: &mut Vec<u8>,
@@ -79,7 +79,7 @@ fn write_proof_lines(
     Ok(())
 }
 
-/// The lines of a certificate and its target.
+/// Appends the lines of a certificate and its target.
 #[tactic(auto, unfolding(crate::specs::ProofLines::certificate_lines))]
 fn write_certificate_lines(
     alloc: Global,
@@ -101,7 +101,7 @@ fn write_certificate_lines(
     write_sum_line(out, k, names, certificate, target)
 }
 
-/// The lines of weights.
+/// Appends the lines of the weights other than 0.
 fn write_weight_lines(
     alloc: Global,
     out: &mut Vec<u8>,
@@ -123,7 +123,7 @@ fn write_weight_lines(
     Ok(())
 }
 
-/// The line of a weight: with its generator, and the generator's row.
+/// Appends the line of a weight: the weight, its generator, and the generator's row.
 #[tactic(auto, unfolding(crate::specs::ProofLines::weight_line))]
 fn write_weight_line(
     alloc: Global,
@@ -146,7 +146,7 @@ fn write_weight_line(
     out.extend_from_slice(b"\n")
 }
 
-/// The row of the generator of this number: of an elemental inequality, or of a constraint.
+/// Appends the row of generator number `generator`, an elemental inequality or a constraint.
 fn write_generator_row(
     alloc: Global,
     out: &mut Vec<u8>,
@@ -167,7 +167,7 @@ fn write_generator_row(
     }
 }
 
-/// The row of an elemental inequality.
+/// Appends the row of elemental inequality number `index`.
 fn write_elemental_row(
     alloc: Global,
     out: &mut Vec<u8>,
@@ -182,7 +182,7 @@ fn write_elemental_row(
     write_constraint(out, names, Kind::Inequality, &row)
 }
 
-/// The row of a constraint.
+/// Appends the row of a constraint.
 fn write_constraint_row(
     out: &mut Vec<u8>,
     names: &Names,
@@ -194,7 +194,7 @@ fn write_constraint_row(
     write_constraint(out, names, constraint.kind, &constraint.row)
 }
 
-/// The line of the scale and the target.
+/// Appends the line of the scale and the target.
 fn write_sum_line(
     out: &mut Vec<u8>,
     k: usize,

@@ -9,7 +9,7 @@ use it_syntax::Names;
 use itoa::Buffer;
 use std::alloc::{AllocError, Global};
 
-/// The line of each row of the region that answers question k, in order.
+/// Appends the line of each row of the region that answers question k, in order.
 pub fn write_row_lines(
     out: &mut Vec<u8>,
     k: usize,
@@ -25,7 +25,7 @@ pub fn write_row_lines(
     Ok(())
 }
 
-/// The line of a row.
+/// Appends the line of a row.
 #[tactic(auto, unfolding(crate::specs::Lines::row_line))]
 fn write_row_line(
     out: &mut Vec<u8>,
@@ -44,7 +44,7 @@ fn write_row_line(
     out.extend_from_slice(b"\n")
 }
 
-/// A row by its terms in order of the coordinates, with ` >= 0` or ` = 0` after them. The row without terms has `0` in
+/// The text of a row: its terms in order of the coordinates, with ` >= 0` or ` = 0` after them. A row without terms has `0` in
 /// their place.
 pub fn row_text(alloc: Global, row: &Row, kind: Kind, names: &Names) -> Result<Vec<u8>, AllocError>
     requires { IsRowOver names.now row.now }
@@ -55,7 +55,7 @@ pub fn row_text(alloc: Global, row: &Row, kind: Kind, names: &Names) -> Result<V
     Ok(out)
 }
 
-/// The same after what stands.
+/// Appends the text of a row, like `row_text`.
 #[tactic(auto, unfolding(crate::specs::Lines::row_text))]
 pub fn write_constraint(
     out: &mut Vec<u8>,
@@ -70,7 +70,7 @@ pub fn write_constraint(
     out.extend_from_slice(kind_text(kind))
 }
 
-/// What the value of a row is to be.
+/// ` >= 0` or ` = 0`, by the kind of a row.
 fn kind_text(kind: Kind) -> &'static [u8]
     ensures { result.now ≡ kind_text kind }
 {
@@ -80,7 +80,7 @@ fn kind_text(kind: Kind) -> &'static [u8]
     }
 }
 
-/// The terms of a row in order, or `0`.
+/// Appends the terms of a row in order, or `0` if it has none.
 fn write_form(out: &mut Vec<u8>, names: &Names, terms: &[(u32, i128)]) -> Result<(), AllocError>
     requires { IsRowOver names.now terms.now }
     ensures { OnOk result (out.new.items ≡ out.old.items ++ (if length terms.now == 0 then codes "0" else terms_text names.now true terms.now)) }
@@ -94,7 +94,7 @@ fn write_form(out: &mut Vec<u8>, names: &Names, terms: &[(u32, i128)]) -> Result
     }
 }
 
-/// Terms after another one.
+/// Appends terms that follow another one.
 fn write_terms(out: &mut Vec<u8>, names: &Names, terms: &[(u32, i128)]) -> Result<(), AllocError>
     requires { IsRowOver names.now terms.now }
     ensures { OnOk result (out.new.items ≡ out.old.items ++ terms_text names.now false terms.now) }
@@ -105,7 +105,7 @@ fn write_terms(out: &mut Vec<u8>, names: &Names, terms: &[(u32, i128)]) -> Resul
     Ok(())
 }
 
-/// A term: its sign, its coefficient and its coordinate.
+/// Appends a term: its sign, its coefficient and its coordinate.
 #[tactic(auto, unfolding(crate::specs::Lines::term_text))]
 fn write_term(
     out: &mut Vec<u8>,
@@ -122,14 +122,14 @@ fn write_term(
     Ok(())
 }
 
-/// Whether a number is below 0.
+/// Whether `number` is below 0.
 fn is_below_zero(number: i128) -> bool
     ensures { result ≡ int_lt number (pos 0) }
 {
     number < 0
 }
 
-/// The sign of a term: directly before the first one, between blanks before a later one.
+/// Appends the sign of a term: directly before the first one, between blanks before a later one.
 fn write_sign(out: &mut Vec<u8>, is_first: bool, is_negative: bool) -> Result<(), AllocError>
     ensures { OnOk result (out.new.items ≡ out.old.items ++ sign_text is_first is_negative) }
 {
@@ -141,7 +141,7 @@ fn write_sign(out: &mut Vec<u8>, is_first: bool, is_negative: bool) -> Result<()
     }
 }
 
-/// A coefficient without its sign, unless it is 1.
+/// Appends a coefficient without its sign, unless it is 1.
 fn write_factor(out: &mut Vec<u8>, factor: u128) -> Result<(), AllocError>
     ensures { OnOk result (out.new.items ≡ out.old.items ++ (if factor == 1 then [] else decimal factor ++ codes " ")) }
 {

@@ -7,7 +7,7 @@ use it_space::VarSet;
 use it_syntax::Names;
 use std::alloc::AllocError;
 
-/// The name of a variable.
+/// Appends the name of a variable.
 pub fn write_variable(out: &mut Vec<u8>, names: &Names, variable: u8) -> Result<(), AllocError>
     requires { variable < length names.now.variables }
     ensures { OnOk result (out.new.items ≡ out.old.items ++ slice_index_or names.now.variables variable []) }
@@ -15,7 +15,7 @@ pub fn write_variable(out: &mut Vec<u8>, names: &Names, variable: u8) -> Result<
     out.extend_from_slice(names.variable_name(variable))
 }
 
-/// The names of a set's members with `,` between them, in order of declaration.
+/// Appends the names of a set's members with `,` between them, in order of declaration.
 #[tactic(auto, unfolding(crate::specs::Lines::set_text))]
 pub fn write_set(out: &mut Vec<u8>, names: &Names, set: VarSet) -> Result<(), AllocError>
     ensures { OnOk result (out.new.items ≡ out.old.items ++ set_text names.now.variables set) }
@@ -27,7 +27,7 @@ pub fn write_set(out: &mut Vec<u8>, names: &Names, set: VarSet) -> Result<(), Al
     Ok(())
 }
 
-/// The same, or `0` for the empty set.
+/// Appends the names of a set's members, or `0` for the empty set.
 pub fn write_set_or_zero(out: &mut Vec<u8>, names: &Names, set: VarSet) -> Result<(), AllocError>
     ensures { OnOk result (out.new.items ≡ out.old.items ++ (if set == 0 then codes "0" else set_text names.now.variables set)) }
 {
@@ -38,7 +38,7 @@ pub fn write_set_or_zero(out: &mut Vec<u8>, names: &Names, set: VarSet) -> Resul
     }
 }
 
-/// `|` and the names of a set that isn't empty.
+/// Appends `|` and the names of a set's members, or nothing for the empty set.
 pub fn write_given(out: &mut Vec<u8>, names: &Names, set: VarSet) -> Result<(), AllocError>
     ensures { OnOk result (out.new.items ≡ out.old.items ++ given_set_text names.now.variables set) }
 {

@@ -9,7 +9,7 @@ use it_space::VarSet;
 use it_syntax::Names;
 use std::alloc::AllocError;
 
-/// The sets for the auxiliary variables of a question's second region, each after its variable's name, in order.
+/// Appends the sets for the auxiliary variables of a question's second region, each after its variable's name, in order.
 pub fn write_substitution(
     out: &mut Vec<u8>,
     question: &Question,
@@ -27,7 +27,7 @@ pub fn write_substitution(
     }
 }
 
-/// The sets for the variables of the second region from one on, by the names of the first one.
+/// Appends the sets for the variables of the second region from `from` on, by the names of the first one.
 fn write_parts(
     out: &mut Vec<u8>,
     names: &Names,
@@ -38,7 +38,7 @@ fn write_parts(
     requires { length sets.now ≡ length (drop from second.now.variables) }
     ensures { OnOk result (out.new.items ≡ out.old.items ++ parts_for names.now.variables (drop from second.now.variables) sets.now) }
 {
-    // asked for its clause, that there are at most ten variables
+    // called for its clause, that there are at most ten variables
     let _space = second.space();
     for (i, set) in sets.iter().enumerate() {
         write_part_for(out, names, second, from + i as u8, *set)?;
@@ -46,7 +46,7 @@ fn write_parts(
     Ok(())
 }
 
-/// A variable of the second region, and the set that it stands for.
+/// Appends a variable of the second region, and the set that it stands for.
 #[tactic(auto, unfolding(crate::specs::Lines::part_for))]
 fn write_part_for(
     out: &mut Vec<u8>,

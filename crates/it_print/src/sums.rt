@@ -14,7 +14,7 @@ use it_space::{Certificate, Constraint, is_nonzero_weight};
 use it_syntax::Names;
 use std::alloc::{AllocError, Global};
 
-/// The certificates with ` and ` between them.
+/// Appends the certificates with ` and ` between them.
 pub fn write_proofs(
     alloc: Global,
     out: &mut Vec<u8>,
@@ -35,7 +35,7 @@ pub fn write_proofs(
     Ok(())
 }
 
-/// The scale and the sum of a certificate.
+/// Appends the scale and the sum of a certificate.
 #[tactic(auto, unfolding(crate::specs::Lines::certificate_text))]
 fn write_certificate(
     alloc: Global,
@@ -59,7 +59,7 @@ fn write_certificate(
     )
 }
 
-/// The weights other than 0 with ` + ` between them, or `0`.
+/// Appends the weights other than 0 with ` + ` between them, or `0`.
 #[tactic(auto, using(crate::proofs::LineLemmas::sum_begins, crate::proofs::LineLemmas::sum_step))]
 fn write_sum(
     alloc: Global,
@@ -89,7 +89,7 @@ fn write_sum(
     Ok(())
 }
 
-/// A weight before its generator.
+/// The text of a weight before its generator.
 fn weight_text(
     alloc: Global,
     names: &Names,
@@ -105,7 +105,7 @@ fn weight_text(
     Ok(out)
 }
 
-/// The same after what stands.
+/// Appends a weight before its generator.
 #[tactic(auto, unfolding(crate::specs::Lines::weight_text))]
 pub fn write_weight(
     out: &mut Vec<u8>,

@@ -46,7 +46,7 @@ same_after_push old new k l r t is kind e front xs s =
     subst (λ (ys : List Terms). SameRows ys (xs ++ columns_by l t)) (append_assoc front old (columns_by k r) ∙ ap (λ ys. front ++ ys) (sym is))
     (subst (λ (m : Kind). SameRows ((front ++ old) ++ columns_by k r) (xs ++ columns_by m t)) kind (same-append (front ++ old) xs (columns_by k r) (columns_by k t) s (same_columns k r t e)))
 
--- the columns of so many generators over closed sets
+-- the columns of the first generators over closed sets
 take_more : (gs : List Generator) (i : ℕ) → i < length gs → take (suc i) gs ≡ take i gs ++ generator_at gs i ∷ []
 take_more [] i h = absurd (omega arith)
 take_more (g ∷ gs) zero h = refl

@@ -83,7 +83,7 @@ module _ (c : ℕ) where
       ∙ ap₂ (λ x y. weight_by g.kind f j *ℤ x +ℤ y) (sym (ap (λ (g : Generator). coefficient g.row c) here)) (total_by_generators all gs (i + 1) (j + column_count g.kind) f (λ k l. ap (generator_at all) (next_index i k) ∙ h (suc k) (omega arith)))
       ∙ sym (value-single_term i (weight_by g.kind f j) (weights_from (i + 1) (j + column_count g.kind) gs f) (column all c))
 
--- ---- the weights that stand in the certificate may stand there
+-- ---- the weights in the certificate are allowed
 
 every-single_term : (P : ℕ × ℤ → Type 0) (i : ℕ) (x : ℤ) → P (i, x) → Every P (single_term i x)
 every-single_term P i (pos zero) h = tt

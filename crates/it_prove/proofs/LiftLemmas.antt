@@ -1,4 +1,4 @@
--- Weights over closed sets that sum to the collapsed target are what a lift is given, and what it gives certifies the target.
+-- Weights over closed sets that sum to the collapsed target meet the requirements of a lift, and its result certifies the target.
 use Rattle.std.proofs.Common.{◌≡◌, ◌≢◌, ◌⊎◌, inl, inr, ℕ, suc, ◌+◌, ◌^◌, ◌<◌, ◌≤◌, ℤ, pos, ◌+ℤ◌, ◌-ℤ◌, ◌*ℤ◌, ◌≤ℤ◌, List, [], ◌∷◌, ◌++◌, length, Bool, true, false, cond, nat_eq, refl, sym, ap, ap₂, subst, ◌∙◌, arith, All, map}
 use Rattle.std.proofs.lemmas.Int.{ints}
 use Rattle.std.proofs.lemmas.Bool.{eqb-true, false≢true}
@@ -108,7 +108,7 @@ value_null (w ∷ ws) f e = ap₂ (λ x y. w.1 *ℤ x +ℤ y) (e w.0) (value_nul
 pub below_size : (size m : ℕ) (row : Terms) → size < m → IsOver size row → Every (λ (t : ℕ × ℤ). t.0 < m) row
 below_size size m row h u = every-same (λ (t : ℕ × ℤ). (1 ≤ t.0) × (t.0 ≤ size)) (λ (t : ℕ × ℤ). t.0 < m) row (λ t b. omega (arith, b.1)) (every_of (λ (t : ℕ × ℤ). (1 ≤ t.0) × (t.0 ≤ size)) row u)
 
--- ---- what a lift is given
+-- ---- the input of a lift
 
 -- the dependences of a problem
 abbrev pub read_of : ProblemView → DependencesView
@@ -175,7 +175,7 @@ module _ (q : ProblemView) (target : Terms) (k : IsProblem q) (u : IsOver (size_
     pub lift_given : (d : DependencesView) (w : CertificateView) → read_of q ≡ d → w ≡ certificate_of (generators q) ws → IsCertificateOverClosed q d target w
     lift_given d w e s = subst (λ (x : DependencesView). IsCertificateOverClosed q x target w) e (subst (IsCertificateOverClosed q (read_of q) target) (sym s) closed_certificate)
 
-    -- what it gives certifies the target
+    -- the result certifies the target
     pub lift_certifies : (d : DependencesView) (w new : CertificateView) → w ≡ certificate_of (generators q) ws → IsLiftOf q d target w new → CertifiesRow q target new
     lift_certifies d w new s i = record {
       scale_from_one = subst (λ (x : ℤ). pos 1 ≤ℤ x) (sym (i.scale ∙ ap (λ (x : CertificateView). x.scale) s)) (scale_least (closed_generators q) (closed_places q) (closed_target q target) ws a);
@@ -183,11 +183,11 @@ module _ (q : ProblemView) (target : Terms) (k : IsProblem q) (u : IsOver (size_
       adds_up = λ c h l. i.adds_up (one_at c) (one_at-zero c h);
     }
 
-    -- so does whatever is the lift by its coefficients
+    -- so does each certificate with the coefficients of the lift
     pub lifted_certifies : (w : CertificateView) → IsLifted q target ws w → CertifiesRow q target w
     lifted_certifies w l = lift_certifies (read_of q) (certificate_of (generators q) ws) w refl (canonical_lift q (read_of q) target (certificate_of (generators q) ws) k (are_dependences_of q k) u closed_certificate w l.scale l.canonical l.weights)
 
--- ---- what it gives is the lift
+-- ---- the result is the lift
 
 none_before : (from : ℕ) (ts : Terms) (c : ℕ) → WeightsAscend from ts → c < from → coefficient ts c ≡ pos 0
 none_before from [] c a h = refl
@@ -236,7 +236,7 @@ module _ (q : ProblemView) (target : Terms) (k : IsProblem q) (u : IsOver (size_
       → (d.list ≢ [] → FitsLift q d target w) → IsLifted q target ws new
   lift_is d w new e s = subst (λ (x : DependencesView). IsLiftOf q x target w new → (x.list ≡ [] → new ≡ w) → (x.list ≢ [] → All (λ (p : ℕ × ℤ). p.1 ≢ pos 0) new.weights) → (x.list ≢ [] → FitsLift q x target w) → IsLifted q target ws new) e (is_lifted w new s)
 
--- a lift is one alone
+-- there is only one lift
 pub one_lift : (q : ProblemView) (target : Terms) (ws : List (ℕ × Rational)) (v w : CertificateView) → IsLifted q target ws v → IsLifted q target ws w → v ≡ w
 one_lift q target ws v w a b = ap₂ (λ x y. record { scale = x; weights = y }) (a.scale ∙ sym b.scale) (rows_by_coefficients 0 v.weights w.weights a.canonical b.canonical (λ i. a.weights i ∙ sym (b.weights i)))
 

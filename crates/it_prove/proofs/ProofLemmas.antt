@@ -135,7 +135,7 @@ module _ (q : ProblemView) (target : Terms) (coords : List ℕ) (at : coords ≡
 pub wide_start : (q : ProblemView) (target : Terms) (budget : Option ℕ) → ¬ (CollapsesFit q target) → EndsByRun q target budget (Undecided (causes.Width 0))
 wide_start q target budget n = record { end = Width 0; run = inl (n, refl); follows = refl }
 
--- what the answer of the run shows, by its end
+-- the outcome by the run's answer
 abbrev IsRightEnd : List ℕ → List Terms → Terms → RunEndView (List (ℕ × Rational)) (List Rational) → Type 0
 IsRightEnd coords rs r end = EndIsRight field_ℚ (length coords) (length rs) (feasibility_problem coords rs r) end
 
@@ -261,7 +261,7 @@ pub never_out_of_steps : NeverOutOfSteps
 never_out_of_steps q target effort k none (inl e) = run_never_out q target k (subst (λ b. EndsByRun q target b (Undecided (causes.Pivots k))) none e)
 never_out_of_steps q target effort k none (inr (quick, settled)) = settled
 
--- so is it of what the code gives
+-- so is the result of the code
 pub never_pivots : {E : Type 0} (q : ProblemView) (target : Terms) (effort : Effort) (r : Result Proof E) → IfOk r (λ proof. EndsWith q target effort (proof_view proof))
     → IfNone effort.pivots (IfOk r (λ proof. (k : ℕ) → proof_view proof ≢ Undecided (causes.Pivots k)))
 never_pivots q target effort r h = by effort.pivots refl r h
@@ -272,7 +272,7 @@ never_pivots q target effort r h = by effort.pivots refl r h
     by None e (Err fault) h = tt
     by None e (Ok proof) h = λ k is. never_out_of_steps q target effort k e (subst (EndsWith q target effort) is h)
 
--- what the code gives by the defined run is what the target may end with
+-- the result of the code by the defined run is a possible outcome about the target
 pub defined_ends : {E : Type 0} (q : ProblemView) (target : Terms) (effort : Effort) (r : Result Proof E) → IfOk r (λ proof. EndsByRun q target effort.pivots (proof_view proof)) → IfOk r (λ proof. EndsWith q target effort (proof_view proof))
 defined_ends q target effort (Err fault) h = tt
 defined_ends q target effort (Ok proof) h = inl h

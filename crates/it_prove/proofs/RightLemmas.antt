@@ -1,4 +1,4 @@
--- What a run ends with is right: of weights the lift certifies the target, and a point that is spread out refutes it.
+-- The end of a run is right: the lift of weights certifies the target, and a point that is spread out refutes it.
 use Rattle.std.proofs.Common.{inl, inr, ℕ, ℤ, pos, neg_ℤ, ◌≤ℤ◌, List, Option, Result, Ok, Err, length, sym, subst, arith}
 use Rattle.std.proofs.lemmas.Int.{ints}
 use Rattle.std.specs.Result.{IfOk}
@@ -56,7 +56,7 @@ pub ends_are_right : EndsAreRight
 ends_are_right q target effort o k u (inl e) = run_right q target effort.pivots o k u e
 ends_are_right q target effort o k u (inr (quick, settled)) = settled_right q target o settled
 
--- so is what the code gives
+-- so is the result of the code
 pub right_result : {E : Type 0} (q : ProblemView) (target : Terms) (effort : Effort) (r : Result Proof E) → IsProblem q → IsOver (size_of q.space) target
     → IfOk r (λ proof. EndsWith q target effort (proof_view proof)) → IfOk r (λ proof. IsRightProof q target (proof_view proof))
 right_result q target effort (Err e) k u h = tt

@@ -112,7 +112,7 @@ pub columns_small : (gs : List Generator) → Every (λ g. SmallRow g.row) gs �
 unfolding columns
 columns_small gs e = every-flat_map SmallRow (λ (g : Generator). columns_by g.kind g.row) gs (every-same (λ g. SmallRow g.row) (λ g. Every SmallRow (columns_by g.kind g.row)) gs (λ g s. by_kind g.kind g.row s) e)
 
--- a row turned stays small
+-- the negation of a small row is small
 pub small-negated_terms : (row : Terms) → IsSmall row → IsSmall (negated_terms row)
 small-negated_terms row s = record {
   few = omega (arith, length-map {B = ℕ × ℤ} row (λ t. (t.0, neg_ℤ t.1)), s.few);

@@ -41,7 +41,7 @@ pub scaled_sum : (l : ℕ) (ws : List (ℕ × Rational)) (f : ℕ → ℤ) (t : 
 scaled_sum l ws f t d e = whole_same (value (scaled_by l ws) f) (pos l *ℤ t)
     (weighted_scaled l ws f d ∙ ap (Q.times (Q.integer (pos l))) e ∙ sym (whole_times (pos l) t))
 
--- so many of the weights are scaled, as the code puts them one after the other
+-- the first i weights are scaled, as the code appends them one after the other
 pub record AreTerms (l : ℕ) (ws : List (ℕ × Rational)) (i : ℕ) (out : Terms) : Type 0 where
   pub fits : Every (λ q. IsWithin (scaled_number l q)) (numbers_of (drop i ws)) ↔ Every (λ q. IsWithin (scaled_number l q)) (numbers_of ws)
   pub same : out ++ scaled_by l (drop i ws) ≡ scaled_by l ws

@@ -1,5 +1,5 @@
--- The run over the sets that are closed under a problem's functional dependences: its coordinates, its columns and its target,
--- and the point that comes back from it.
+-- The run over the sets that are closed under a problem's functional dependences: its coordinates, its columns and its target, and
+-- the point over all sets by its point.
 use Rattle.std.specs.Prelude.{ℕ, ℤ, List, map, filter, nat_lt, All}
 use Rattle.std.specs.List.{zip}
 use Rattle.it_rational.specs.Rational.{Rational}
@@ -39,7 +39,7 @@ pub record CollapsesFit (q : ProblemView) (target : Terms) : Type 0 where
   pub each : All (λ g. CollapseFits q.space.variables (dependences_of q) g.row) (generators q)
   pub own : CollapseFits q.space.variables (dependences_of q) target
 
--- A point of the run made one over all coordinates: scaled to whole numbers, then spread out. A set has the value of its closure, and
--- 0 where that is the closure of the empty set.
+-- The point over all coordinates by a point of the run: scaled to whole numbers, then spread out. A set has the value of its closure,
+-- or 0 if that is the closure of the empty set.
 abbrev pub spread_point : ProblemView → List Rational → List ℤ
 spread_point q qs = map (spread_out q.space.variables (dependences_of q) (coefficient (zip (closed_places q) (scaled_point qs)))) (span 1 (size_of q.space))

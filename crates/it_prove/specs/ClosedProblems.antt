@@ -1,4 +1,4 @@
--- What is made once of a problem, for runs about many targets under it and under the problems that begin with its generators.
+-- Problems over closed sets, made once for runs about many targets under a problem and under those that begin with its generators.
 use Rattle.std.specs.Prelude.{◌≡◌, ℕ, ◌<◌, ◌≤◌, List, [], ◌∷◌, length, take, map}
 use Rattle.it_space.specs.Problems.{ProblemView}
 use Rattle.it_space.specs.Rows.{Terms, coefficient}
@@ -10,7 +10,7 @@ use Rattle.it_columns.specs.Columns.{columns}
 use Rattle.it_prove.specs.Closed.{collapsed_generator, closed_places}
 use Rattle.it_prove.specs.declared.closed.ClosedProblem.{ClosedProblem}
 
--- rows with the same coefficients, one by one
+-- two lists of rows have the same coefficients, row for row
 abbrev pub SameRows : List Terms → List Terms → Type 0
 SameRows [] [] = Unit {0}
 SameRows [] (s ∷ ss) = ⊥

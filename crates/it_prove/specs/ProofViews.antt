@@ -1,5 +1,5 @@
--- How a question about one target ends: by weights of the run over closed sets, which are lifted to a certificate, by a point of
--- it, which is spread out, or by neither; and where a quick run comes first, by what the check finds valid of its proposal.
+-- The outcome about one target: by weights of the run over closed sets, which are lifted to a certificate, by a point of it, which is
+-- spread out, or by neither; and if a quick run comes first, by its proposal, if the check finds it valid.
 use Rattle.std.specs.Prelude.{◌≡◌, ◌≢◌, ◌⊎◌, ℕ, ◌+◌, ◌*◌, ℤ, List, [], length, All, Option, None, true, false}
 use Rattle.std.specs.List.{AllZip}
 use Rattle.it_number.specs.Limit.{IsWithin}
@@ -41,21 +41,21 @@ proof_view (proofs.Yes c) = Yes (certificate_view c)
 proof_view (proofs.No p) = No p
 proof_view (proofs.Undecided cause) = Undecided cause
 
--- the lift of the certificate over closed sets, which has the weights of the columns: the scale stays, and each generator has its
--- weight with all that the lift adds; they ascend, and none is 0
+-- w is the lift of the certificate over closed sets by the weights of columns: it has the same scale, and each generator has its weight
+-- with all amounts that the lift adds; the weights ascend, and none is 0
 pub record IsLifted (q : ProblemView) (target : Terms) (ws : List (ℕ × Rational)) (w : CertificateView) : Type 0 where
   pub scale : w.scale ≡ (certificate_of (generators q) ws).scale
   pub canonical : IsCanonical w.weights
   pub weights : (i : ℕ) → coefficient w.weights i
       ≡ coefficient (lifted_weights q.space.variables (dependences_of q) (value target) (generators_of q) (certificate_of (generators q) ws)) i
 
--- the numbers of the scaled weights are within the limit, and so are those of the lift, which has none where no dependence is
+-- the numbers of the scaled weights are within the limit, and so are those of the lift, which forms none if there are no dependences
 pub record LiftedFit (q : ProblemView) (target : Terms) (ws : List (ℕ × Rational)) : Type 0 where
   pub numbers : NumbersFit (numbers_of ws)
   pub lift : dependences_of q ≢ [] → LiftFits q.space.variables (dependences_of q) (value target) (generators_of q) (certificate_of (generators q) ws)
 
--- The outcome that an end of the run has. Weights are a proof, and a point is a refutation, where their numbers fit and those of their
--- check; else they leave the question open for the scale.
+-- o is the outcome by an end of the run. Weights give a proof, and a point a refutation, if their numbers and those of their check are
+-- within the limit; else they leave the target open with cause `Scale`.
 abbrev pub Follows : ProblemView → Terms → RunEndView (List (ℕ × Rational)) (List Rational) → ProofView → Type 0
 Follows q target (Weights ws) o =
     ((w : CertificateView) × IsLifted q target ws w × (LiftedFit q target ws × CertificateFits q target w) × (o ≡ Yes w))
@@ -66,7 +66,7 @@ Follows q target (Point qs) o =
 Follows q target (Pivots k) o = o ≡ Undecided (causes.Pivots k)
 Follows q target (Width k) o = o ≡ Undecided (causes.Width k)
 
--- the run over closed sets with a budget of steps or without one ends so; where the collapse doesn't fit it ends before step 0, its start
+-- the run over closed sets, with a budget of steps or without one, ends with e; if the collapse doesn't fit, it ends with `Width` 0
 abbrev pub Runs : ProblemView → Terms → Option ℕ → RunEndView (List (ℕ × Rational)) (List Rational) → Type 0
 Runs q target budget e =
     (¬ (CollapsesFit q target) × (e ≡ Width 0))
@@ -78,41 +78,41 @@ pub record EndsByRun (q : ProblemView) (target : Terms) (budget : Option ℕ) (o
   pub run : Runs q target budget end
   pub follows : Follows q target end o
 
--- a certificate certifies the target, and a point refutes it
+-- an outcome is right: a certificate certifies the target, and a point refutes it
 abbrev pub IsRightProof : ProblemView → Terms → ProofView → Type 0
 IsRightProof q target (Yes w) = CertifiesRow q target w × CertificateFits q target w
 IsRightProof q target (No values) = RefutesRow q target values × PointFits q target values
 IsRightProof q target (Undecided cause) = Unit {0}
 
--- a certificate of the target that ascends, or a point that refutes it, with numbers within the limit; whichever run it comes from
+-- a certificate of the target that ascends, or a point that refutes it, with numbers within the limit, by any run
 abbrev pub IsSettled : ProblemView → Terms → ProofView → Type 0
 IsSettled q target (Yes w) = IsRightProof q target (Yes w) × IsCanonical w.weights × IsWithin w.scale
 IsSettled q target (No values) = IsRightProof q target (No values) × All IsWithin values
 IsSettled q target (Undecided cause) = ⊥
 
--- The outcome is that of the defined run, or where a quick run comes first one that is settled. So where the target is left open, the
+-- The outcome is that of the defined run, or, if a quick run comes first, one that is settled. So if the target is left open, the
 -- defined run leaves it open.
 abbrev pub EndsWith : ProblemView → Terms → Effort → ProofView → Type 0
 EndsWith q target effort o = EndsByRun q target effort.pivots o ⊎ ((effort.quick ≡ true) × IsSettled q target o)
 
--- each target ends with its certificate, in order
+-- the outcomes about the targets are the certificates, in order
 abbrev pub AreProofsOf : ProblemView → Effort → List Terms → List CertificateView → Type 0
 AreProofsOf q effort targets ws = AllZip (λ t w. EndsWith q t effort (Yes w)) targets ws
 
--- what a target ends with is right
+-- the outcome about a target is right
 abbrev pub EndsAreRight : Type 0
 EndsAreRight = (q : ProblemView) (target : Terms) (effort : Effort) (o : ProofView) → IsProblem q → IsOver (size_of q.space) target → EndsWith q target effort o → IsRightProof q target o
 
--- no two outcomes of a target say the opposite, whatever the effort for each
+-- no two outcomes about a target contradict each other, for any efforts
 abbrev pub EndsAgree : Type 0
 EndsAgree = (q : ProblemView) (target : Terms) (effort other : Effort) (w : CertificateView) (values : List ℤ) → IsProblem q → IsOver (size_of q.space) target
     → EndsWith q target effort (Yes w) → EndsWith q target other (No values) → ⊥
 
--- where no quick run comes first a target has one outcome
+-- without a quick run a target has one outcome
 abbrev pub OneProofView : Type 0
 OneProofView = (q : ProblemView) (target : Terms) (effort : Effort) (o p : ProofView) → effort.quick ≡ false → EndsWith q target effort o → EndsWith q target effort p → o ≡ p
 
--- where a quick run comes first, that outcome is one that may come
+-- the outcome without a quick run is one of the possible outcomes with one
 abbrev pub DefinedEndsMayCome : Type 0
 DefinedEndsMayCome = (q : ProblemView) (target : Terms) (budget : Option ℕ) (o : ProofView)
     → EndsWith q target (record { quick = false; pivots = budget }) o → EndsWith q target (record { quick = true; pivots = budget }) o
@@ -126,11 +126,11 @@ pub record AreSmall (q : ProblemView) (target : Terms) : Type 0 where
   pub constraints : All (λ c. IsSmall c.row) q.constraints
   pub own : IsSmall target
 
--- Where the rows are small the run doesn't end before step 0.
+-- If the rows are small, no run ends with `Width` at its start.
 abbrev pub NeverAtStart : Type 0
 NeverAtStart = (q : ProblemView) (target : Terms) (effort : Effort) → IsProblem q → AreSmall q target → EndsWith q target effort (Undecided (causes.Width 0)) → ⊥
 
--- without a budget no question is left open for want of steps
+-- without a budget no target is left open because steps ran out
 abbrev pub NeverOutOfSteps : Type 0
 NeverOutOfSteps = (q : ProblemView) (target : Terms) (effort : Effort) (k : ℕ) → effort.pivots ≡ None → EndsWith q target effort (Undecided (causes.Pivots k)) → ⊥
 

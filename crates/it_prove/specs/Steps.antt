@@ -1,4 +1,4 @@
--- What the contracts inside the crate speak of; no public clause cites it.
+-- Definitions for the contracts inside the crate; no public clause cites this module.
 use Rattle.std.specs.Prelude.{ℕ, ℤ, List, [], ◌∷◌, ◌++◌, length, All}
 use Rattle.it_rational.specs.Rational.{Rational}
 use Rattle.it_space.specs.Problems.{ProblemView}
@@ -16,7 +16,7 @@ use Rattle.it_columns.specs.Columns.{columns, columns_by}
 use Rattle.it_prove.specs.Closed.{closed_generators, closed_places, closed_target, collapsed_row}
 use Rattle.it_prove.specs.ClosedProblems.{SameRows}
 
--- values other than 0 at coordinates, as a row
+-- the nonzero ones of the values at coordinates, as a row
 abbrev pub terms_of_places : List ℕ → List ℤ → Terms
 terms_of_places [] vs = []
 terms_of_places (c ∷ cs) [] = []
@@ -28,36 +28,36 @@ spread_value ds row c = spread_out ds.space.variables ds.list (coefficient row) 
 
 -- ---- columns
 
--- the row of the generator with this number, over closed sets
+-- the row of generator i over closed sets
 abbrev pub closed_row : ProblemView → List Dependence → ℕ → Terms
 closed_row q ds i = collapsed_row q.space.variables ds (generator_at (generators q) i).row
 
--- the generator's columns there
+-- the columns of generator i over closed sets
 abbrev pub closed_columns : ProblemView → List Dependence → ℕ → List Terms
 closed_columns q ds i = columns_by (generator_at (generators q) i).kind (closed_row q ds i)
 
--- the partial sums of its collapse are within the limit
+-- the partial sums of the collapse of generator i are within the limit
 abbrev pub GeneratorFits : ProblemView → List Dependence → ℕ → Type 0
 GeneratorFits q ds i = CollapseFits q.space.variables ds (generator_at (generators q) i).row
 
--- those of all generators are
+-- the partial sums of the collapse of each generator are within the limit
 abbrev pub GeneratorsFit : ProblemView → Type 0
 GeneratorsFit q = All (λ g. CollapseFits q.space.variables (dependences_of q) g.row) (generators q)
 
--- columns go on by more of them, whatever columns stand in front
+-- new has more appended to old, up to equal coefficients, with any columns in front
 abbrev pub GoOnBy : List Terms → List Terms → List Terms → Type 0
 GoOnBy more old new = (front xs : List Terms) → SameRows (front ++ old) xs → SameRows (front ++ new) (xs ++ more)
 
--- ---- what the run over closed sets ends with
+-- ---- the ends of the run over closed sets
 
--- what the run is about: the columns are to make the target
+-- the feasibility problem of the run: whether the target is a sum of the columns
 abbrev pub closed_question : ProblemView → Terms → FeasibilityProblem Rational
 closed_question q target = feasibility_problem (closed_places q) (columns (closed_generators q)) (closed_target q target)
 
--- weights by which the columns sum up to the target
+-- the columns sum to the target by the weights ws
 abbrev pub ClosedSumsUp : ProblemView → Terms → List (ℕ × Rational) → Type 0
 ClosedSumsUp q target ws = SumsUp rationals (length (closed_places q)) (length (columns (closed_generators q))) (closed_question q target) ws
 
--- a point that separates the target from the columns
+-- the point qs separates the target from the columns
 abbrev pub ClosedSeparates : ProblemView → Terms → List Rational → Type 0
 ClosedSeparates q target qs = Separates rationals (length (closed_places q)) (length (columns (closed_generators q))) (closed_question q target) qs

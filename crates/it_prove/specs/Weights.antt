@@ -12,7 +12,7 @@ use Rattle.it_columns.specs.Scaling.{scale_of, scaled_number}
 abbrev pub numbers_of : List (ℕ × Rational) → List Rational
 numbers_of ws = map (λ w. w.1) ws
 
--- the weights of columns, each times L, for a multiple L of the denominators
+-- the weights of columns, each times l, for a multiple l of the denominators
 abbrev pub scaled_by : ℕ → List (ℕ × Rational) → Terms
 scaled_by l ws = map (λ w. (w.0, scaled_number l w.1)) ws
 

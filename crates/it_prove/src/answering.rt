@@ -1,8 +1,8 @@
-//! The answer about one target: by a quick run where one comes first, and where that settles nothing by the defined run.
+//! The answer about one target: by a quick run if one comes first, and if that doesn't settle it, by the defined run.
 ghost use Rattle.std.specs.Prelude.{◌≡◌, ◌≢◌, ℕ, true, IfOk, OnOk};
 ghost use Rattle.std.specs.Option.{IfNone, IfSome};
 ghost use Rattle.it_space.specs.declared.answers.Cause.TheVariants as causes;
-ghost use Rattle.it_space.specs.Problems.{IsProblem, ProblemView, problem_view};
+ghost use Rattle.it_space.specs.Problems.{ProblemView};
 ghost use Rattle.it_space.specs.Rows.{IsOver};
 ghost use Rattle.it_space.specs.Spaces.{size_of};
 ghost use Rattle.it_prove.specs.ClosedProblems.{IsClosedProblem};
@@ -14,11 +14,11 @@ use crate::types::{Effort, Proof};
 use it_space::{Problem, Row};
 use std::alloc::{AllocError, Global};
 
-/// A quick run has at most so many steps. Nobody sees it in an answer.
+/// The most steps of a quick run. Answers don't show it.
 pub const QUICK_STEPS: u32 = 4000;
 
 impl ClosedProblem {
-    /// What a quick run settles, where one comes first.
+    /// The proof by a quick run, if one comes first and settles the target.
     fn settled(
         &mut self,
         alloc: Global,
@@ -26,9 +26,8 @@ impl ClosedProblem {
         target: &Row,
         effort: Effort,
     ) -> Result<Option<Proof>, AllocError>
-        requires problem { IsProblem (problem_view problem.now) }
         requires target { IsOver (size_of problem.now.space) target.now }
-        ensures settled { IfOk result (λ o. IfSome o (λ proof. (effort.quick ≡ true) × IsSettled (problem_view problem.now) target.now (proof_view proof))) }
+        ensures settled { IfOk result (λ o. IfSome o (λ proof. (effort.quick ≡ true) × IsSettled problem.now target.now (proof_view proof))) }
         ensures stays { OnOk result ((q : ProblemView) → IsClosedProblem q self.old → IsClosedProblem q self.new) }
     {
         if !effort.quick {
@@ -40,9 +39,9 @@ impl ClosedProblem {
         }
     }
 
-    /// The answer of `prove` for a target under a problem that this one is of, or that goes on after the constraints of
-    /// such a problem by constraints of `row` lines. It is then of the same problems as before. A quick run comes first where the
-    /// effort has one here and had one when the problem was read.
+    /// The answer of `prove` about `target` under `problem`, which is the problem that was read, or has further constraints after those of
+    /// it, of `row` lines. Afterwards the closed problem serves the same problems as before. A quick run comes first if `effort` has one
+    /// here and had one when the problem was read.
     pub fn prove(
         &mut self,
         alloc: Global,
@@ -50,14 +49,14 @@ impl ClosedProblem {
         target: &Row,
         effort: Effort,
     ) -> Result<Proof, AllocError>
-        requires problem { IsProblem (problem_view problem.now) }
-        requires closed { IsClosedProblem (problem_view problem.now) self.old }
+        requires closed { IsClosedProblem problem.now self.old }
         requires target { IsOver (size_of problem.now.space) target.now }
-        ensures ends { IfOk result (λ proof. EndsWith (problem_view problem.now) target.now effort (proof_view proof)) }
+        ensures ends { IfOk result (λ proof. EndsWith problem.now target.now effort (proof_view proof)) }
         ensures unbound { IfNone effort.pivots (IfOk result (λ proof. (k : ℕ) → proof_view proof ≢ Undecided (causes.Pivots k))) }
-        ensures right { IfOk result (λ proof. IsRightProof (problem_view problem.now) target.now (proof_view proof)) }
+        ensures right { IfOk result (λ proof. IsRightProof problem.now target.now (proof_view proof)) }
         ensures stays { OnOk result ((q : ProblemView) → IsClosedProblem q self.old → IsClosedProblem q self.new) }
     {
+        problem.facts();
         match self.settled(alloc, problem, target, effort)? {
             Some(proof) => Ok(proof),
             None => self.defined(alloc, problem, target, effort.pivots),
@@ -65,23 +64,21 @@ impl ClosedProblem {
     }
 }
 
-/// Whether the target, a row over the coordinates of the problem's space, is at least 0 wherever a polymatroid and rates
-/// meet the problem. The answer is that of the defined run over closed sets with Bland's rule (Bland 1977): a certificate
-/// or a point that the check finds valid, `Pivots` with the budget where its steps don't suffice, which is never without
-/// one, `Width` with the step that has a number past the limit, 0 for the start, and `Scale` where the scaled answer has one.
-/// With an effort that has a quick run first, a certificate or a point that this run proposes and the check finds valid comes in
-/// the place of that answer.
+/// Whether `target`, a row over the coordinates of the problem's space, is at least 0 wherever a polymatroid and rates meet `problem`.
+/// The answer is that of the defined run over closed sets with Bland's rule (Bland 1977): a certificate or a point that the check finds
+/// valid; `Pivots` with the budget if its steps don't suffice, which never happens without one; `Width` with the step at which a number
+/// passes the limit, 0 for the start; or `Scale` if a number of the scaled answer passes the limit. If `effort` has a quick run first, a
+/// certificate or a point that this run proposes and the check finds valid is the answer instead.
 pub fn prove(
     alloc: Global,
     problem: &Problem,
     target: &Row,
     effort: Effort,
 ) -> Result<Proof, AllocError>
-    requires problem { IsProblem (problem_view problem.now) }
     requires target { IsOver (size_of problem.now.space) target.now }
-    ensures ends { IfOk result (λ proof. EndsWith (problem_view problem.now) target.now effort (proof_view proof)) }
+    ensures ends { IfOk result (λ proof. EndsWith problem.now target.now effort (proof_view proof)) }
     ensures unbound { IfNone effort.pivots (IfOk result (λ proof. (k : ℕ) → proof_view proof ≢ Undecided (causes.Pivots k))) }
-    ensures right { IfOk result (λ proof. IsRightProof (problem_view problem.now) target.now (proof_view proof)) }
+    ensures right { IfOk result (λ proof. IsRightProof problem.now target.now (proof_view proof)) }
 {
     let mut closed = ClosedProblem::read(alloc, problem, effort)?;
     let proof = closed.prove(alloc, problem, target, effort)?;

@@ -1,7 +1,6 @@
-//! A certificate from the weights of columns.
+//! Certificates from the weights of columns.
 ghost use Rattle.std.specs.Prelude.{◌≡◌, ◌<◌, ◌^◌, ℕ, ℤ, pos, ◌-ℤ◌, ◌≤ℤ◌, length, IfErr, IfOk, OnOk};
 ghost use Rattle.it_space.specs.Answers.{certificate_view};
-ghost use Rattle.it_space.specs.Problems.{IsProblem, problem_view};
 ghost use Rattle.it_space.specs.Rows.{coefficient};
 ghost use Rattle.it_space.specs.Sums.{terms_from};
 ghost use Rattle.it_run.specs.Readings.{AreWeights};
@@ -19,7 +18,8 @@ use it_fraction::Fraction;
 use it_space::{Certificate, Kind, Problem, Row, RowFault, push_some};
 use std::alloc::{AllocError, Global};
 
-/// The weight of a generator whose first column is given. The second one of an equation counts against the first.
+/// The weight of a generator of this kind whose first column is `column`, where `row` has the weights of columns: for an equation that
+/// of the second column is subtracted.
 fn weight_of(row: &Row, kind: Kind, column: u32) -> i128
     requires positive { (c : ℕ) → pos 0 ≤ℤ coefficient row.now c }
     requires few { column < 2 ^ 31 }
@@ -31,16 +31,16 @@ fn weight_of(row: &Row, kind: Kind, column: u32) -> i128
     }
 }
 
-/// The weights of generators, each after its number, by a row that has the weight of each column.
+/// The nonzero weights of generators, each after its number, where `row` has the weights of columns.
 fn generator_weights(
     alloc: Global,
     problem: &Problem,
     row: &Row,
 ) -> Result<Vec<(u32, i128)>, AllocError>
-    requires problem { IsProblem (problem_view problem.now) }
     requires positive { (c : ℕ) → pos 0 ≤ℤ coefficient row.now c }
-    ensures { IfOk result (λ v. v.items ≡ terms_from 0 (numbers_from (λ a b. a -ℤ b) 0 (generators (problem_view problem.now)) (coefficient row.now))) }
+    ensures { IfOk result (λ v. v.items ≡ terms_from 0 (numbers_from (λ a b. a -ℤ b) 0 (generators problem.now) (coefficient row.now))) }
 {
+    problem.facts();
     let mut weights = Vec::new(alloc);
     let mut column = 0;
     for index in 0..generator_count(problem) {
@@ -51,19 +51,19 @@ fn generator_weights(
     Ok(weights)
 }
 
-/// The certificate over the generators by the weights of their columns, which ascend by column: each weight times the
-/// least common multiple of the denominators. `Wide` where that multiple or a weight times it passes the limit.
+/// The certificate over the generators by the weights of their columns, which ascend by column: its scale is the least common multiple
+/// of the denominators, and each weight is multiplied by it. `Wide` if the scale or a multiplied weight passes the limit.
 pub fn certificate(
     alloc: Global,
     problem: &Problem,
     weights: &[(usize, Fraction)],
 ) -> Result<Certificate, RowFault>
-    requires problem { IsProblem (problem_view problem.now) }
-    requires ordered { AreWeights rationals (length (columns (generators (problem_view problem.now)))) 0 weights.now }
-    ensures value { IfOk result (λ c. certificate_view c ≡ certificate_of (generators (problem_view problem.now)) weights.now) }
+    requires ordered { AreWeights rationals (length (columns (generators problem.now))) 0 weights.now }
+    ensures value { IfOk result (λ c. certificate_view c ≡ certificate_of (generators problem.now) weights.now) }
     ensures fits { OnOk result (NumbersFit (numbers_of weights.now)) }
     ensures wide { IfErr result (λ f. f ≡ RowFault.Wide → ¬ (NumbersFit (numbers_of weights.now))) }
 {
+    problem.facts();
     let numbers = numbers(alloc, weights)?;
     let scale = common_scale(numbers.as_slice())?;
     let row = Row::new(terms(alloc, weights, scale)?);

@@ -1,6 +1,5 @@
-//! What is made once of a problem, for runs about many targets under it and under problems that go on after its constraints.
+//! A problem over closed sets, made once for runs about many targets under it and under problems with further constraints.
 ghost use Rattle.std.specs.Prelude.{◌≡◌, [], ◌++◌, IfErr, IfOk, OnOk};
-ghost use Rattle.it_space.specs.Problems.{IsProblem, problem_view};
 ghost use Rattle.it_prove.specs.Closed.{closed_generators};
 ghost use Rattle.it_prove.specs.ClosedProblems.{IsClosedProblem, SameRows};
 ghost use Rattle.it_prove.specs.Steps.{GeneratorsFit};
@@ -14,8 +13,8 @@ use it_quick::QuickProblem;
 use it_space::{Problem, Row, RowFault};
 use std::alloc::{AllocError, Global};
 
-/// A problem over closed sets: its dependences, its coordinates, and the columns of its first generators, so many as are counted; and
-/// what quick runs keep, where they come first. It serves each problem that has these dependences and begins with these generators.
+/// A problem over closed sets: its dependences, its coordinates, and the columns of its first `count` generators; and the state of quick
+/// runs, if they come first. It serves each problem that has these dependences and begins with these generators.
 pub struct ClosedProblem {
     pub(crate) dependences: Dependences,
     pub(crate) coordinates: Vec<u32>,
@@ -37,15 +36,14 @@ impl Drop for ClosedProblem {
 }
 
 impl ClosedProblem {
-    /// That of a problem, for targets on which this effort is spent. Where a quick run comes first no column is made before the
-    /// defined run needs it; else those of all generators are, and none where a partial sum of a coefficient passes the limit.
+    /// The closed problem of `problem`, for targets with this effort. If a quick run comes first, no column is made before the defined run
+    /// needs it; else those of all generators are made, or none if a partial sum of a coefficient passes the limit.
     pub fn read(
         alloc: Global,
         problem: &Problem,
         effort: Effort,
     ) -> Result<ClosedProblem, AllocError>
-        requires { IsProblem (problem_view problem.now) }
-        ensures { IfOk result (IsClosedProblem (problem_view problem.now)) }
+        ensures { IfOk result (IsClosedProblem problem.now) }
     {
         let mut closed = without_columns(alloc, problem)?;
         if effort.quick {
@@ -64,14 +62,13 @@ impl ClosedProblem {
     }
 }
 
-/// That of a problem, before any column is made.
+/// The closed problem of `problem`, before any column is made.
 fn without_columns(alloc: Global, problem: &Problem) -> Result<ClosedProblem, AllocError>
-    requires { IsProblem (problem_view problem.now) }
-    ensures closed { IfOk result (IsClosedProblem (problem_view problem.now)) }
+    ensures closed { IfOk result (IsClosedProblem problem.now) }
     ensures none { IfOk result (λ c. c.columns.items ≡ []) }
 {
     let dependences = Dependences::read(alloc, problem)?;
-    let coordinates = dependences.closed(alloc, problem.space)?;
+    let coordinates = dependences.closed(alloc, problem.space())?;
     Ok(ClosedProblem {
         dependences,
         coordinates,
@@ -81,18 +78,17 @@ fn without_columns(alloc: Global, problem: &Problem) -> Result<ClosedProblem, Al
     })
 }
 
-/// The columns of the problem's generators that aren't there yet, in order. `Wide` where a partial sum of a coefficient passes the
+/// The columns of the generators of `problem` that `closed` doesn't have, in order. `Wide` if a partial sum of a coefficient passes the
 /// limit.
 pub fn other_columns(
     alloc: Global,
     problem: &Problem,
     closed: &ClosedProblem,
 ) -> Result<Vec<Row>, RowFault>
-    requires problem { IsProblem (problem_view problem.now) }
-    requires closed { IsClosedProblem (problem_view problem.now) closed.now }
-    ensures same { IfOk result (λ v. SameRows (closed.now.columns.items ++ v.items) (columns (closed_generators (problem_view problem.now)))) }
-    ensures fits { OnOk result (GeneratorsFit (problem_view problem.now)) }
-    ensures wide { IfErr result (λ f. f ≡ RowFault.Wide → ¬ (GeneratorsFit (problem_view problem.now))) }
+    requires closed { IsClosedProblem problem.now closed.now }
+    ensures same { IfOk result (λ v. SameRows (closed.now.columns.items ++ v.items) (columns (closed_generators problem.now))) }
+    ensures fits { OnOk result (GeneratorsFit problem.now) }
+    ensures wide { IfErr result (λ f. f ≡ RowFault.Wide → ¬ (GeneratorsFit problem.now)) }
 {
     let mut columns = Vec::new(alloc);
     for index in closed.count..generator_count(problem) {

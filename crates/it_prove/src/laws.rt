@@ -1,22 +1,22 @@
-//! What the outcomes say, each theorem as the contract of a function.
+//! Theorems about the outcomes, each as the contract of a function.
 ghost use Rattle.it_prove.specs.ProofViews.{DefinedEndsMayCome, EndsAgree, EndsAreRight, NeverAtStart, NeverOutOfSteps, OneProofView, ProvenAscends, SizeIsOfStart};
 
-/// What a target ends with is right: a certificate certifies it, and a point refutes it.
+/// The outcome about a target is right: a certificate certifies it, and a point refutes it.
 pub fn ends_are_right()
     ensures { EndsAreRight }
 {}
 
-/// No two outcomes of a target say the opposite, whatever the effort for each.
+/// No two outcomes about a target contradict each other, for any efforts.
 pub fn ends_agree()
     ensures { EndsAgree }
 {}
 
-/// Where no quick run comes first, what the defined run ends with is one of the outcomes that may come where one does.
+/// The outcome without a quick run is one of the possible outcomes with one.
 pub fn defined_ends_may_come()
     ensures { DefinedEndsMayCome }
 {}
 
-/// Where no quick run comes first a target under a problem has one outcome.
+/// Without a quick run a target under a problem has one outcome.
 pub fn one_outcome()
     ensures { OneProofView }
 {}
@@ -27,12 +27,12 @@ pub fn proven_ascends()
     ensures { ProvenAscends }
 {}
 
-/// Where no coefficient is large no run ends at its start for want of width.
+/// If no coefficient is large, no run ends with `Width` at its start.
 pub fn never_at_start()
     ensures { NeverAtStart }
 {}
 
-/// Without a budget no target is left open for want of steps.
+/// Without a budget no target is left open because steps ran out.
 pub fn never_out_of_steps()
     ensures { NeverOutOfSteps }
 {}

@@ -1,7 +1,7 @@
 //! Whether a target is at least 0 wherever a polymatroid and rates meet the constraints of a problem: by a certificate over
 //! the elemental inequalities and the constraints, or by a point that refutes it (Yeung 1997). The run of the simplex
 //! method works on the sets that are closed under the problem's functional dependences; its weights are lifted back to
-//! all sets, and its point is spread out over them. A quick run may come first: what it proposes is the answer where the check
+//! all sets, and its point is spread out over them. A quick run may come first: its proposal is the answer if the check
 //! finds it valid.
 #![tactic(auto)]
 

@@ -1,6 +1,5 @@
 //! Points over all coordinates from points over closed sets.
 ghost use Rattle.std.specs.Prelude.{◌≡◌, ◌<◌, ◌++◌, ◌∷◌, [], ℕ, pos, length, slice_index_or, IfErr, IfOk, OnOk, map};
-ghost use Rattle.it_space.specs.Problems.{IsProblem, problem_view};
 ghost use Rattle.it_space.specs.Rows.{IsCanonical, single_term};
 ghost use Rattle.it_space.specs.Spaces.{size_of};
 ghost use Rattle.it_closure.specs.Coordinates.{RiseTo};
@@ -16,7 +15,7 @@ use it_fraction::Fraction;
 use it_space::{Point, Problem, Row, RowFault, push_some};
 use std::alloc::{AllocError, Global};
 
-/// Puts a coordinate with its value after the others, unless the value is 0.
+/// Appends coordinate number `k` with its value, unless that is 0.
 fn put_pair(
     terms: &mut Vec<(u32, i128)>,
     coordinates: &[u32],
@@ -30,7 +29,7 @@ fn put_pair(
     push_some(terms, coordinates[k], values[k])
 }
 
-/// The values other than 0, each after its coordinate.
+/// The nonzero values, each after its coordinate.
 fn terms_of_places(
     alloc: Global,
     coordinates: &[u32],
@@ -40,14 +39,14 @@ fn terms_of_places(
     ensures { IfOk result (λ v. v.items ≡ terms_of_places coordinates.now values.now) }
 {
     let mut terms = Vec::new(alloc);
-    // by index, since the invariant speaks of both lists from k on
+    // by index, since the invariant is about both lists from k on
     for k in 0..coordinates.len() {
         put_pair(&mut terms, coordinates, values, k)?;
     }
     Ok(terms)
 }
 
-/// Puts the value of a coordinate, which a row over the places has at its place, after the others.
+/// Appends the value at `coordinate`, where `row` has the values at places.
 fn put_value(
     values: &mut Vec<i128>,
     dependences: &Dependences,
@@ -60,7 +59,7 @@ fn put_value(
     Ok(())
 }
 
-/// The values at all coordinates from 1 on by a row that has the value at each place.
+/// The values at all coordinates, from 1 on, where `row` has the values at places.
 fn spread_values(
     alloc: Global,
     dependences: &Dependences,
@@ -76,7 +75,7 @@ fn spread_values(
     Ok(values)
 }
 
-/// The point over closed sets times its scale, as a row. `Wide` where the scale or a value passes the limit.
+/// The values of `point`, over closed sets, times their scale, as a row. `Wide` if the scale or a value passes the limit.
 fn whole_row(alloc: Global, coordinates: &[u32], point: &[Fraction]) -> Result<Row, RowFault>
     requires rise { (to : ℕ) × RiseTo 1 to coordinates.now }
     requires complete { length point.now ≡ length coordinates.now }
@@ -91,8 +90,8 @@ fn whole_row(alloc: Global, coordinates: &[u32], point: &[Fraction]) -> Result<R
     Ok(Row::new(terms))
 }
 
-/// The point over all coordinates by the run's point, which has one value for each coordinate of the run: the values are
-/// made whole and spread out. `Wide` where the scale or a value passes the limit.
+/// The point over all coordinates by the run's `point`, which has a value for each coordinate of the run: the values are made whole and
+/// spread out. `Wide` if the scale or a value passes the limit.
 pub fn whole_point(
     alloc: Global,
     problem: &Problem,
@@ -100,16 +99,16 @@ pub fn whole_point(
     coordinates: &[u32],
     point: &[Fraction],
 ) -> Result<Point, RowFault>
-    requires problem { IsProblem (problem_view problem.now) }
     requires space { dependences.now.space ≡ problem.now.space }
-    requires list { dependences.now.list ≡ dependences_of (problem_view problem.now) }
-    requires coordinates { coordinates.now ≡ closed_places (problem_view problem.now) }
+    requires list { dependences.now.list ≡ dependences_of problem.now }
+    requires coordinates { coordinates.now ≡ closed_places problem.now }
     requires complete { length point.now ≡ length coordinates.now }
-    ensures value { IfOk result (λ p. p ≡ spread_point (problem_view problem.now) point.now) }
+    ensures value { IfOk result (λ p. p ≡ spread_point problem.now point.now) }
     ensures fits { OnOk result (NumbersFit point.now) }
     ensures wide { IfErr result (λ f. f ≡ RowFault.Wide → ¬ (NumbersFit point.now)) }
 {
+    problem.facts();
     let row = whole_row(alloc, coordinates, point)?;
     let values = spread_values(alloc, dependences, &row)?;
-    Ok(Point::new(problem.space, values))
+    Ok(Point::new(problem.space(), values))
 }

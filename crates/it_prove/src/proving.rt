@@ -1,8 +1,8 @@
 //! The answer of the defined run about one target: collapse, run, lift or spread out, check.
-//! A last call is named before it is answered, so that its contract stands at the answer.
+//! The result of a last call is named before it is returned, so that its contract is available at the return.
 ghost use Rattle.std.specs.Prelude.{◌≡◌, ◌++◌, ℕ, IfErr, IfOk, OnOk};
 ghost use Rattle.it_space.specs.Answers.{certificate_view};
-ghost use Rattle.it_space.specs.Problems.{IsProblem, ProblemView, problem_view};
+ghost use Rattle.it_space.specs.Problems.{ProblemView};
 ghost use Rattle.it_space.specs.Rows.{IsOver, coefficient};
 ghost use Rattle.it_space.specs.Spaces.{size_of};
 ghost use Rattle.it_closure.specs.Reading.{dependences_of};
@@ -26,8 +26,8 @@ use it_simplex::{Budget, Solved, solve};
 use it_space::{Cause, Certificate, Problem, Row, RowFault};
 use std::alloc::{AllocError, Global};
 
-/// The certificate that weights of the columns over closed sets make, lifted to all sets. `Wide` where a number of the
-/// scaled weights or of the lift passes the limit.
+/// The certificate by weights of the columns over closed sets, lifted to all sets. `Wide` if a number of the scaled weights or of the
+/// lift passes the limit.
 fn lifted_certificate(
     alloc: Global,
     problem: &Problem,
@@ -35,22 +35,22 @@ fn lifted_certificate(
     target: &Row,
     weights: &[(usize, Fraction)],
 ) -> Result<Certificate, RowFault>
-    requires problem { IsProblem (problem_view problem.now) }
     requires space { dependences.now.space ≡ problem.now.space }
-    requires list { dependences.now.list ≡ dependences_of (problem_view problem.now) }
+    requires list { dependences.now.list ≡ dependences_of problem.now }
     requires target { IsOver (size_of problem.now.space) target.now }
-    requires sum { ClosedSumsUp (problem_view problem.now) target.now weights.now }
-    ensures lifted { IfOk result (λ c. IsLifted (problem_view problem.now) target.now weights.now (certificate_view c)) }
-    ensures certifies { IfOk result (λ c. CertifiesRow (problem_view problem.now) target.now (certificate_view c)) }
-    ensures fits { OnOk result (LiftedFit (problem_view problem.now) target.now weights.now) }
-    ensures wide { IfErr result (λ f. f ≡ RowFault.Wide → ¬ (LiftedFit (problem_view problem.now) target.now weights.now)) }
+    requires sum { ClosedSumsUp problem.now target.now weights.now }
+    ensures lifted { IfOk result (λ c. IsLifted problem.now target.now weights.now (certificate_view c)) }
+    ensures certifies { IfOk result (λ c. CertifiesRow problem.now target.now (certificate_view c)) }
+    ensures fits { OnOk result (LiftedFit problem.now target.now weights.now) }
+    ensures wide { IfErr result (λ f. f ≡ RowFault.Wide → ¬ (LiftedFit problem.now target.now weights.now)) }
 {
+    problem.facts();
     let collapsed = certificate(alloc, problem, weights)?;
     let certificate = lift(alloc, problem, dependences, target, &collapsed)?;
     Ok(certificate)
 }
 
-/// The answer by weights, a yes only where the check finds the certificate valid.
+/// The answer by weights: a yes only if the check finds the certificate valid.
 fn by_weights(
     alloc: Global,
     problem: &Problem,
@@ -58,13 +58,13 @@ fn by_weights(
     target: &Row,
     weights: &[(usize, Fraction)],
 ) -> Result<Proof, AllocError>
-    requires problem { IsProblem (problem_view problem.now) }
     requires space { dependences.now.space ≡ problem.now.space }
-    requires list { dependences.now.list ≡ dependences_of (problem_view problem.now) }
+    requires list { dependences.now.list ≡ dependences_of problem.now }
     requires target { IsOver (size_of problem.now.space) target.now }
-    requires sum { ClosedSumsUp (problem_view problem.now) target.now weights.now }
-    ensures { IfOk result (λ proof. Follows (problem_view problem.now) target.now (Weights weights.now) (proof_view proof)) }
+    requires sum { ClosedSumsUp problem.now target.now weights.now }
+    ensures { IfOk result (λ proof. Follows problem.now target.now (Weights weights.now) (proof_view proof)) }
 {
+    problem.facts();
     match lifted_certificate(alloc, problem, dependences, target, weights) {
         Ok(certificate) => match check_yes(problem, target, &certificate) {
             Verdict::Valid => Ok(Proof::Yes(certificate)),
@@ -75,7 +75,7 @@ fn by_weights(
     }
 }
 
-/// The answer by a point, a no only where the check finds the point valid.
+/// The answer by a point: a no only if the check finds the point valid.
 fn by_point(
     alloc: Global,
     problem: &Problem,
@@ -84,14 +84,14 @@ fn by_point(
     coordinates: &[u32],
     point: &[Fraction],
 ) -> Result<Proof, AllocError>
-    requires problem { IsProblem (problem_view problem.now) }
     requires space { dependences.now.space ≡ problem.now.space }
-    requires list { dependences.now.list ≡ dependences_of (problem_view problem.now) }
+    requires list { dependences.now.list ≡ dependences_of problem.now }
     requires target { IsOver (size_of problem.now.space) target.now }
-    requires coordinates { coordinates.now ≡ closed_places (problem_view problem.now) }
-    requires apart { ClosedSeparates (problem_view problem.now) target.now point.now }
-    ensures { IfOk result (λ proof. Follows (problem_view problem.now) target.now (Point point.now) (proof_view proof)) }
+    requires coordinates { coordinates.now ≡ closed_places problem.now }
+    requires apart { ClosedSeparates problem.now target.now point.now }
+    ensures { IfOk result (λ proof. Follows problem.now target.now (Point point.now) (proof_view proof)) }
 {
+    problem.facts();
     match whole_point(alloc, problem, dependences, coordinates, point) {
         Ok(point) => match check_no(problem, target, &point) {
             Verdict::Valid => Ok(Proof::No(point)),
@@ -102,34 +102,33 @@ fn by_point(
     }
 }
 
-/// What the run is given besides: the columns that aren't there yet, and the target over closed sets.
+/// The rest of the run's input: the columns that a closed problem doesn't have, and the target over closed sets.
 #[derive(Drop)]
 struct ClosedRows {
     columns: Vec<Row>,
     target: Row,
 }
 
-/// The columns that aren't there yet, and the target, over closed sets. `Wide` where a partial sum of a coefficient passes the limit.
+/// The columns that `closed` doesn't have, and `target`, over closed sets. `Wide` if a partial sum of a coefficient passes the limit.
 fn collapse_rows(
     alloc: Global,
     problem: &Problem,
     closed: &ClosedProblem,
     target: &Row,
 ) -> Result<ClosedRows, RowFault>
-    requires problem { IsProblem (problem_view problem.now) }
-    requires closed { IsClosedProblem (problem_view problem.now) closed.now }
+    requires closed { IsClosedProblem problem.now closed.now }
     requires target { IsOver (size_of problem.now.space) target.now }
-    ensures columns { IfOk result (λ c. SameRows (closed.now.columns.items ++ c.columns.items) (columns (closed_generators (problem_view problem.now)))) }
-    ensures target { IfOk result (λ c. (k : ℕ) → coefficient c.target k ≡ coefficient (closed_target (problem_view problem.now) target.now) k) }
-    ensures fits { OnOk result (CollapsesFit (problem_view problem.now) target.now) }
-    ensures wide { IfErr result (λ f. f ≡ RowFault.Wide → ¬ (CollapsesFit (problem_view problem.now) target.now)) }
+    ensures columns { IfOk result (λ c. SameRows (closed.now.columns.items ++ c.columns.items) (columns (closed_generators problem.now))) }
+    ensures target { IfOk result (λ c. (k : ℕ) → coefficient c.target k ≡ coefficient (closed_target problem.now target.now) k) }
+    ensures fits { OnOk result (CollapsesFit problem.now target.now) }
+    ensures wide { IfErr result (λ f. f ≡ RowFault.Wide → ¬ (CollapsesFit problem.now target.now)) }
 {
     let columns = other_columns(alloc, problem, closed)?;
     let target = closed.dependences.collapse(alloc, target)?;
     Ok(ClosedRows { columns, target })
 }
 
-/// The answer by the run over closed sets, where all columns are there.
+/// The answer by the run over closed sets, where `closed` has all columns.
 fn closed_proof(
     alloc: Global,
     problem: &Problem,
@@ -138,15 +137,14 @@ fn closed_proof(
     collapsed: &Row,
     budget: Budget,
 ) -> Result<Proof, AllocError>
-    requires problem { IsProblem (problem_view problem.now) }
     requires space { closed.now.dependences.space ≡ problem.now.space }
-    requires list { closed.now.dependences.list ≡ dependences_of (problem_view problem.now) }
-    requires coordinates { closed.now.coordinates.items ≡ closed_places (problem_view problem.now) }
+    requires list { closed.now.dependences.list ≡ dependences_of problem.now }
+    requires coordinates { closed.now.coordinates.items ≡ closed_places problem.now }
     requires target { IsOver (size_of problem.now.space) target.now }
-    requires columns { SameRows closed.now.columns.items (columns (closed_generators (problem_view problem.now))) }
-    requires collapsed { (k : ℕ) → coefficient collapsed.now k ≡ coefficient (closed_target (problem_view problem.now) target.now) k }
-    requires fits { CollapsesFit (problem_view problem.now) target.now }
-    ensures { IfOk result (λ proof. EndsByRun (problem_view problem.now) target.now budget (proof_view proof)) }
+    requires columns { SameRows closed.now.columns.items (columns (closed_generators problem.now)) }
+    requires collapsed { (k : ℕ) → coefficient collapsed.now k ≡ coefficient (closed_target problem.now target.now) k }
+    requires fits { CollapsesFit problem.now target.now }
+    ensures { IfOk result (λ proof. EndsByRun problem.now target.now budget (proof_view proof)) }
 {
     match solve(
         alloc,
@@ -175,7 +173,7 @@ fn closed_proof(
     }
 }
 
-/// The answer with more columns put after those that are there; they are taken off once the run is over.
+/// The answer by the run with the further columns of `rows`, which `closed` has only during the run.
 fn with_columns(
     alloc: Global,
     problem: &Problem,
@@ -184,13 +182,12 @@ fn with_columns(
     mut rows: ClosedRows,
     budget: Budget,
 ) -> Result<Proof, AllocError>
-    requires problem { IsProblem (problem_view problem.now) }
-    requires closed { IsClosedProblem (problem_view problem.now) closed.old }
+    requires closed { IsClosedProblem problem.now closed.old }
     requires target { IsOver (size_of problem.now.space) target.now }
-    requires columns { SameRows (closed.old.columns.items ++ rows.columns.items) (columns (closed_generators (problem_view problem.now))) }
-    requires collapsed { (k : ℕ) → coefficient rows.target k ≡ coefficient (closed_target (problem_view problem.now) target.now) k }
-    requires fits { CollapsesFit (problem_view problem.now) target.now }
-    ensures ends { IfOk result (λ proof. EndsByRun (problem_view problem.now) target.now budget (proof_view proof)) }
+    requires columns { SameRows (closed.old.columns.items ++ rows.columns.items) (columns (closed_generators problem.now)) }
+    requires collapsed { (k : ℕ) → coefficient rows.target k ≡ coefficient (closed_target problem.now target.now) k }
+    requires fits { CollapsesFit problem.now target.now }
+    ensures ends { IfOk result (λ proof. EndsByRun problem.now target.now budget (proof_view proof)) }
     ensures stays { OnOk result ((q : ProblemView) → IsClosedProblem q closed.old → IsClosedProblem q closed.new) }
 {
     let count = closed.columns.len();
@@ -209,10 +206,9 @@ impl ClosedProblem {
         target: &Row,
         pivots: Option<u32>,
     ) -> Result<Proof, AllocError>
-        requires problem { IsProblem (problem_view problem.now) }
-        requires closed { IsClosedProblem (problem_view problem.now) self.old }
+        requires closed { IsClosedProblem problem.now self.old }
         requires target { IsOver (size_of problem.now.space) target.now }
-        ensures ends { IfOk result (λ proof. EndsByRun (problem_view problem.now) target.now pivots (proof_view proof)) }
+        ensures ends { IfOk result (λ proof. EndsByRun problem.now target.now pivots (proof_view proof)) }
         ensures stays { OnOk result ((q : ProblemView) → IsClosedProblem q self.old → IsClosedProblem q self.new) }
     {
         match collapse_rows(alloc, problem, self, target) {

@@ -10,7 +10,7 @@ use it_fraction::Fraction;
 use it_space::RowFault;
 use std::alloc::{AllocError, Global};
 
-/// Appends a term: the column of a weight with the scale times the weight.
+/// Appends the column of `weight` with `scale` times the weight. `Wide` if the product passes the limit.
 fn put_term(
     terms: &mut Vec<(u32, i128)>,
     weight: &(usize, Fraction),
@@ -27,7 +27,7 @@ fn put_term(
     Ok(())
 }
 
-/// The scale times each weight, after its column. `Wide` where one of these passes the limit.
+/// `scale` times each weight, after its column. `Wide` if one of the products passes the limit.
 pub fn terms(
     alloc: Global,
     weights: &[(usize, Fraction)],

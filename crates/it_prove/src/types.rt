@@ -1,30 +1,30 @@
-//! What a proof is, and what may be done for one.
+//! Proofs, and the effort for one.
 ghost use Rattle.std.specs.Prelude.{◌≡◌};
 
 use it_simplex::Budget;
 use it_space::{Cause, Certificate, Point};
 
-/// What was found of a target, which is a row that is to be at least 0.
+/// The outcome about a target, a row that should be at least 0.
 #[derive(Debug, Drop)]
 pub enum Proof {
     /// A certificate of the target (Farkas): weights of generators that add up to a positive multiple of it.
     Yes(Certificate),
     /// A polymatroid and rates that meet the problem, at which the target is -1 or less.
     No(Point),
-    /// Neither, and why.
+    /// Neither is known, and why.
     Undecided(Cause),
 }
 
-/// What is done to decide a target.
+/// The effort to decide a target.
 #[derive(Clone, Copy, Debug, PartialEq, Eq)]
 pub struct Effort {
-    /// Whether a quick run comes first, whose proposal is the answer where the check finds it valid.
+    /// Whether a quick run comes first, whose proposal is the answer if the check finds it valid.
     pub quick: bool,
-    /// The most steps of the defined run, without which it goes on to its end.
+    /// The most steps of the defined run; without it the run goes on to its end.
     pub pivots: Option<u32>,
 }
 
-/// The budget of a run: so many steps, or as many as it takes.
+/// The budget of a run: at most `pivots` steps, or no bound.
 pub fn budget_of(pivots: Option<u32>) -> Budget
     ensures { result ≡ pivots }
 {

@@ -1,11 +1,11 @@
--- Letters that nothing is said against, and their parts.
+-- Letters without flags, and their parts.
 use Rattle.std.specs.Prelude.{None}
 use Rattle.std.proofs.Common.{◌≡◌, List, [], ◌∷◌, ◌++◌, Option, refl, sym, ap, ◌∙◌}
 use Rattle.it_forms.specs.declared.types.Code.{Code}
 use Rattle.it_forms.proofs.LetterLemmas.{letters_cleaned}
 use Rattle.it_forms.specs.Letters.{Letter, FlaggedLetters, letters, without_flags}
 
--- both parts of such letters
+-- both parts of letters without flags
 pub record CleanParts (p k : FlaggedLetters) (ls : List Letter) : Type 0 where
   pub prefix : p ≡ without_flags (letters p)
   pub after : k ≡ without_flags (letters k)
@@ -14,7 +14,7 @@ pub record CleanParts (p k : FlaggedLetters) (ls : List Letter) : Type 0 where
 clean_itself : (m : FlaggedLetters) (ls : List Letter) → m ≡ without_flags ls → (m ≡ without_flags (letters m)) × (ls ≡ letters m)
 clean_itself m ls e = let back : letters m ≡ ls = ap letters e ∙ letters_cleaned ls in (e ∙ ap without_flags (sym back), sym back)
 
--- one more such letter in front
+-- one more letter without a flag in front
 one_more_clean : (x : Letter × Option Code) (l : Letter) (p k : FlaggedLetters) (ls : List Letter) → x ≡ (l, None) → CleanParts p k ls → CleanParts (x ∷ p) k (l ∷ ls)
 one_more_clean x l p k ls e c =
     let letter : x.0 ≡ l = ap (λ (y : Letter × Option Code). y.0) e in

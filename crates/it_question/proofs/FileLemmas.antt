@@ -16,7 +16,7 @@ use Rattle.it_question.proofs.QuestionLines.{questions_lines}
 use Rattle.it_question.proofs.QuestionOutlines.{file_has}
 use Rattle.it_question.proofs.WholeFileLemmas.{the_end, EndsFile, form_is_one, form_has_one, whole_fault_is_one, whole_or_fault}
 
--- the file's end is one letter, against which nothing is said
+-- the file's end is one letter, without a flag
 pub end_is : (u : Unit {0}) (m k : FlaggedLetters) → IsTaken (just (FileEnd ∷ []) tt) u m k → k ≡ [] → m ≡ the_end
 end_is u m k s e = s.3 ∙ ap (λ (l : Letter). (l, None) ∷ k) (by_letter s.0 s.1) ∙ ap (λ (t : FlaggedLetters). (Bad Unfinished, None) ∷ t) e
   where

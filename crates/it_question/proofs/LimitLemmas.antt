@@ -83,7 +83,7 @@ some_allowed : (n : ℕ) → limit_flag n ≡ None → 1 ≤ n
 some_allowed zero e = absurd cc
 some_allowed (suc n) e = omega arith
 
--- at most so many constraints, over these names
+-- at most g `given` lines and r `row` lines, over these names
 record AreOwn (g r : ℕ) (v : NamesView) (own : OwnLinesView) : Type 0 where
   few_givens : length own.givens ≤ g
   few_rows : length own.rows ≤ r
@@ -263,7 +263,7 @@ region_keeps g r v few_g few_r few = λ l e m.
 
 -- ---- what a question wants
 
--- a table against which nothing is said
+-- a table that isn't flagged
 unflagged_is_small : (v : NamesView) (own : OwnLinesView) → size_flag v own ≡ None → table_size (problem_of_lines v own) ≤ most_entries
 unfolding size_flag
 unflagged_is_small v own e = by_test (nat_lt most_entries (table_size (problem_of_lines v own))) refl e

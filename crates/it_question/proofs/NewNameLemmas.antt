@@ -1,4 +1,4 @@
--- When a name is new, and what is said against it.
+-- When a name is new, and its flag.
 use Rattle.std.proofs.Common.{◌≡◌, ℕ, zero, suc, ◌-◌, ◌≤◌, false, List, Option, Some, None, refl, arith}
 use Rattle.std.specs.Prelude.{◌||◌, is_some}
 use Rattle.it_forms.specs.declared.types.Code.TheVariants.{Many}
@@ -15,7 +15,7 @@ new_of v w e = by_options (index_of v.variables w) (index_of v.rates w) e
     by_options None (Some j) h = absurd cc
     by_options (Some i) y h = absurd cc
 
--- ---- what is said against a new name, by how many there may be
+-- ---- the flag of a new name, by how many there may be
 
 pub too_many : (most n : ℕ) → most ≤ n → new_flag false false (most - n) ≡ Some Many
 too_many most n h = let e : most - n ≡ 0 = omega (arith, h) in rw e refl

@@ -15,7 +15,7 @@ AreTokens (End ∷ ls) = ⊥
 AreTokens (Bad c ∷ ls) = ⊥
 AreTokens (l ∷ ls) = AreTokens ls
 
--- tokens and an end, so many times
+-- the letters of n lines: tokens and an end, n times
 abbrev pub HasLines : ℕ → List Letter → Type 0
 HasLines zero [] = Unit {0}
 HasLines zero (l ∷ ls) = ⊥
@@ -110,7 +110,7 @@ in_line (While ks says step a) i y m k s = turns_in_line (λ a. record { kinds =
 pub no_lines : {m k : FlaggedLetters} → m ≡ k → Puts (HasLines 0) m k
 no_lines e = record { prefix = []; is = e; kind = tt }
 
--- an end, whatever is said against it
+-- an end, whatever its flag
 pub end_puts : {A : Type 0} (t : Terminal A) (a : A) (m k : FlaggedLetters) → t.kinds ≡ LineEnd ∷ [] → IsTaken t a m k → Puts (HasLines 1) m k
 end_puts t a m k e s = record { prefix = (s.0, (t.says s.0).0) ∷ []; is = s.3; kind = by_letter s.0 (subst (λ (ks : List Kind). is_among ks s.0 ≡ true) e s.1) }
   where

@@ -31,7 +31,7 @@ abbrev pub with_own : NameSortView → NamesView → List (List ℕ) → NamesVi
 with_own Variable v own = record { variables = v.variables ++ own; rates = v.rates }
 with_own Rate v own = record { variables = v.variables; rates = v.rates ++ own }
 
--- at least so many names more
+-- w has at least `least` more names of this sort than v
 pub record IsGrown (sort : NameSortView) (least : ℕ) (v w : NamesView) : Type 0 where
   pub own : List (List ℕ)
   pub is : w ≡ with_own sort v own

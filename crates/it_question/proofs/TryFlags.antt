@@ -1,4 +1,4 @@
--- What is said against the word `try`, by how many auxiliaries there are and how many lines were read.
+-- The flag of the word `try`, by the number of auxiliaries and the number of lines that were read.
 use Rattle.std.specs.Prelude.{is_some, if◌then◌else◌}
 use Rattle.std.specs.List.{list_all}
 use Rattle.std.proofs.Common.{◌≡◌, ℕ, zero, suc, ◌-◌, ◌≤◌, Bool, false, List, length, Option, Some, None, refl, ap, ◌∙◌, arith}

@@ -1,4 +1,5 @@
--- A file says one thing in a form or has one first fault, if the next letter tells what goes on, and whole lines and the file's end are written; how the file's letters are read tells which.
+-- A file says one thing in a form or has one first fault, if the next letter decides what goes on, and if whole lines and the file's end
+-- are written; how the file's letters are read tells which.
 use Rattle.std.specs.Prelude.{None, flat_map}
 use Rattle.std.proofs.Common.{◌≡◌, ℕ, zero, suc, ◌-◌, ◌<◌, ◌≤◌, ◌^◌, List, [], ◌∷◌, ◌++◌, length, get_or, Some, Ok, Err, refl, sym, ap, ◌∙◌, subst, inl, inr, ◌⊎◌, append_assoc, length-append, arith}
 use Rattle.std.proofs.lemmas.List.{append-nil}

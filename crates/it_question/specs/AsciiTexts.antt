@@ -3,7 +3,7 @@ use Rattle.std.specs.Prelude.{ℕ, List, All, IsAscii}
 use Rattle.it_question.specs.Questions.{QuestionView}
 use Rattle.it_question.specs.Files.{IsFile}
 
--- its text, and the names that it declares
+-- the question's text and the names that it declares are ASCII
 pub record IsAsciiQuestion (q : QuestionView) : Type 0 where
   pub text : IsAscii q.text
   pub variables : All IsAscii q.body.names.variables

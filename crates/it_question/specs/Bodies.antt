@@ -1,4 +1,4 @@
--- What is read of a question, as the readers' contracts compare it. No public clause cites it.
+-- Questions without their texts, as the readers' contracts compare them. No public clause cites it.
 use Rattle.it_question.specs.declared.bodies.Body.{Body}
 use Rattle.it_question.specs.Questions.{BodyView, own_lines_view, verb_view}
 

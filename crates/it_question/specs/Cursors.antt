@@ -25,15 +25,15 @@ left_of (Some rest) after = gives.letters_left rest ++ letters_of_lines (map lin
 unfoldable pub letters_left : Cursor → List Letter
 letters_left c = left_of c.rest c.after.now
 
--- from the cursor `before` on it gave what the form reads, seen by a view, and left the cursor `rest`
+-- from the cursor `before` on the code gave what f reads, its value seen by `view`, and left the cursor `rest`
 abbrev pub ParsesBy : {X Y : Type 0} → (X → Y) → Result X Stop → Form Y → Cursor → Cursor → Type 0
 ParsesBy view result f before rest = gives.GivesBy view result (letters_left rest) (read f (letters_left before))
 
--- from the cursor `before` on it gave what the form reads, and left the cursor `rest`
+-- from the cursor `before` on the code gave what f reads, and left the cursor `rest`
 abbrev pub Parses : {X : Type 0} → Result X Stop → Form X → Cursor → Cursor → Type 0
 Parses result f before rest = ParsesBy (λ x. x) result f before rest
 
--- after a line's end stands the next line
+-- a piece and the letters after it; after a line's end stands the next line
 abbrev pub with_letter : Piece → List Letter → List Letter
 with_letter (pieces.Word w) ls = Word w.now ∷ ls
 with_letter (pieces.Number n) ls = Number n ∷ ls

@@ -14,7 +14,7 @@ use Rattle.it_question.specs.WholeForms.{SaysInForm, FormFaultAt, IsFirstFormFau
 abbrev pub IsFile : List ℕ → List QuestionView → Type 0
 IsFile bytes qs = SaysInForm file with_texts bytes qs
 
--- Of these bytes the first fault is `code`, at this line and column.
+-- the first fault of these bytes is `code`, at this line and column
 abbrev pub FileFaultAt : List ℕ → ℕ → ℕ → Code → Type 0
 FileFaultAt bytes line column code = FormFaultAt file bytes line column code
 

@@ -1,4 +1,4 @@
--- What the questions of a file keep: sets of their variables, rates that there are, and the limits.
+-- The limits of a question, and that its sets are sets of its variables and its rates are among those that it declares.
 use Rattle.std.specs.Prelude.{◌≡◌, ℕ, ◌<◌, ◌≤◌, ◌^◌, List, ◌++◌, length, All, eqb}
 use Rattle.std.specs.List.{IsDistinct}
 use Rattle.it_syntax.specs.NamesViews.{NamesView}
@@ -6,7 +6,7 @@ use Rattle.it_syntax.specs.Givens.{IsRelationOf, IsGivenOf}
 use Rattle.it_question.specs.QuestionLimits.{most_auxiliaries, most_lines, most_rates, most_variables}
 use Rattle.it_question.specs.Questions.{OwnLinesView, RegionView, VerbView, Prove, Eliminate, Contain, BodyView}
 
--- lines over these names: no given has a rate
+-- at most 64 lines of each kind over the names of v, where no `given` line has a rate
 pub record AreLinesOver (v : NamesView) (own : OwnLinesView) : Type 0 where
   pub few_givens : length own.givens ≤ most_lines
   pub few_rows : length own.rows ≤ most_lines

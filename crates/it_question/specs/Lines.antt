@@ -11,7 +11,7 @@ use Rattle.it_syntax.specs.Misspellings.{SpellsUntil}
 use Rattle.it_syntax.specs.Lines.{column_after}
 use Rattle.it_forms.specs.declared.types.Code.TheVariants as codes
 
--- a byte in front of the first of these lines
+-- the lines with the byte b put in front of the first one
 abbrev pub in_front : ℕ → List (List ℕ) → List (List ℕ)
 in_front b [] = (b ∷ []) ∷ []
 in_front b (line ∷ lines) = (b ∷ line) ∷ lines
@@ -21,7 +21,7 @@ abbrev pub split_lines : List ℕ → List (List ℕ)
 split_lines [] = []
 split_lines (b ∷ bytes) = if b == 10 then [] ∷ split_lines bytes else in_front b (split_lines bytes)
 
--- without a last carriage return
+-- a line without a carriage return at its end
 abbrev pub without_return : List ℕ → List ℕ
 without_return [] = []
 without_return (b ∷ []) = if b == 13 then [] else b ∷ []
@@ -32,7 +32,7 @@ abbrev pub before_comment : List ℕ → List ℕ
 before_comment [] = []
 before_comment (b ∷ bytes) = if b == 35 then [] else b ∷ before_comment bytes
 
--- a tab is a space
+-- b, but a space for a tab
 abbrev pub without_tab : ℕ → ℕ
 without_tab b = if b == 9 then 32 else b
 
@@ -55,12 +55,12 @@ file_end = Bad codes.Unfinished
 abbrev pub end_line : ℕ → LineView
 end_line n = record { number = n; text = []; tokens = []; misspelling = Some (record { column = 1; code = codes.Unfinished }) }
 
--- there is a token or a misspelling
+-- a line with these tokens and this misspelling has a token or a misspelling
 abbrev pub IsFilled : List Token → Option Misspelling → Type 0
 IsFilled [] None = ⊥
 IsFilled ts m = Unit {0}
 
--- this line, of this number, is that one
+-- l is the line of these bytes, with the number n
 pub record IsLine (n : ℕ) (bytes : List ℕ) (l : LineView) : Type 0 where
   pub number : l.number ≡ n
   pub text : l.text ≡ plain_text bytes

@@ -1,6 +1,5 @@
--- The grammar of question files. `Word` stands against H or I in the place of a name, `Twice` against a name that is taken
--- or was named before, `Name` against one that is unknown, `Many` against the first letter past a limit, `Large` against the
--- word of a verb whose question's table is too large.
+-- The grammar of question files. `Word` flags H or I in the place of a name, `Twice` a name that is taken or was named before, `Name`
+-- one that is unknown, `Many` the first letter past a limit, `Large` the word of a verb whose question's table is too large.
 use Rattle.std.specs.Prelude.{ℕ, ◌+◌, ◌-◌, ◌==◌, Bool, true, false, List, [], ◌∷◌, ◌++◌, length, is_some, Option, Some, None, if◌then◌else◌, codes, unwrap_or, map}
 use Rattle.std.specs.List.{list_all, list_any}
 use Rattle.it_forms.specs.declared.types.Symbol.TheVariants.{Comma, Semicolon, Assign}
@@ -22,12 +21,12 @@ use Rattle.it_forms.specs.Words.{◌>>=◌, ◌>>◌, word, flagged_word, any_wo
 
 -- ---- names that are declared
 
--- how many names of this sort there are
+-- the number of names of this sort
 abbrev pub count : NameSortView → NamesView → ℕ
 count Variable v = length v.variables
 count Rate v = length v.rates
 
--- a new name, of which there may be so many in all
+-- a new name, the names of its sort being at most `most` with it
 unfoldable pub new_name : NameSortView → ℕ → NamesView → Form NamesView
 new_name sort most v = Take (any_word (λ w. (new_flag (is_measure w) (is_taken v w) (most - count sort v), with_name sort v w)))
 
@@ -62,29 +61,29 @@ own_line v own false = do
 abbrev pub own_words : List Kind
 own_words = Keyword (codes "given") ∷ Keyword (codes "row") ∷ []
 
--- `given` or `row`, where g and r of them are allowed
+-- `given` or `row`, with the flag of the limit: at most g `given` lines and r `row` lines in all
 abbrev pub own_keyword : ℕ → ℕ → OwnLinesView → Letter → Option Code × Bool
 own_keyword g r own l = let is_given = is_of (Keyword (codes "given")) l in (limit_flag (if is_given then givens_left g own else rows_left r own), is_given)
 
--- own lines in any order, after others
+-- the lines `own` and further own lines in any order, at most g and r in all
 unfoldable pub more_own_lines : ℕ → ℕ → NamesView → OwnLinesView → Form OwnLinesView
 more_own_lines g r v own = While own_words (own_keyword g r) (own_line v) own
 
--- own lines
+-- own lines in any order, at most g `given` lines and r `row` lines
 abbrev pub own_lines : ℕ → ℕ → NamesView → Form OwnLinesView
 own_lines g r v = more_own_lines g r v no_lines
 
 -- ---- the rates of an `eliminate` line
 
--- a rate that isn't among these
+-- a rate that isn't in `seen`
 unfoldable pub once : Environment → List ℕ → Form ℕ
 once env seen = Take (any_word (λ w. (once_flag (is_measure w) (λ i. list_any (λ j. j == i) seen) (env w), unwrap_or (env w) 0)))
 
--- further rates, each after a comma
+-- the rates `seen` and further ones, each after a comma, none twice
 unfoldable pub more_once : Environment → List ℕ → Form (List ℕ)
 more_once env seen = each_after Comma (once env) (λ seen i. seen ++ i ∷ []) seen
 
--- rates with commas between them, each once
+-- rates with commas between them, none twice
 unfoldable pub distinct : Environment → Form (List ℕ)
 distinct env = do
   first ← once env []
@@ -124,7 +123,7 @@ try_line aux env sets = do
   Take (try_end all)
   Give (map (λ s. unwrap_or s 0) all)
 
--- `try` lines, after others, of which a region without auxiliaries has none
+-- the `try` lines `ts` and further ones, at most 64 in all; a region without auxiliaries has none
 unfoldable pub more_tries : Environment → Environment → Sets → List (List ℕ) → Form (List (List ℕ))
 more_tries aux env sets ts =
     each_flagged (codes "try") (λ ts. if list_all is_some sets then Some codes.Word else limit_flag (most_lines - length ts))
@@ -132,7 +131,7 @@ more_tries aux env sets ts =
 
 -- ---- regions
 
--- after `region`
+-- a region after `region`, with at most g `given` lines and r `row` lines
 unfoldable pub region : ℕ → ℕ → NamesView → Form RegionView
 region g r v = do
   line_end
@@ -140,7 +139,7 @@ region g r v = do
   own ← own_lines g r names
   Give (record { names = names; auxiliaries = length names.variables - length v.variables; lines = own })
 
--- after the first `region`, in a question with these own lines
+-- two regions, `try` lines and `contain`, after the first `region`, in a question with the own lines `own`
 unfoldable pub containment : OwnLinesView → NamesView → Form VerbView
 containment own v = do
   first ← region (givens_left most_lines own) (rows_left most_lines own) v
@@ -153,7 +152,7 @@ containment own v = do
 
 -- ---- verbs, questions and files
 
--- `prove`, `eliminate` or regions, in a question with these own lines
+-- `prove`, `eliminate` or regions, in a question with the own lines `own`
 unfoldable pub verb : OwnLinesView → NamesView → Form VerbView
 verb own v =
     If (flagged_word (codes "prove") (size_flag v own)) (λ u. do
@@ -173,7 +172,7 @@ question = do
   aim ← verb own names
   Give (record { names = names; lines = own; verb = aim })
 
--- questions, after others
+-- the questions `qs` and further ones, at most 1000 in all
 unfoldable pub more_questions : List BodyView → Form (List BodyView)
 more_questions qs = each_flagged (codes "vars") (λ qs. limit_flag (most_questions - length qs)) (λ qs. question) (λ qs q. qs ++ q ∷ []) qs
 

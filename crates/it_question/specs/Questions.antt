@@ -19,7 +19,7 @@ pub record OwnLinesView : Type 0 where
 abbrev pub no_lines : OwnLinesView
 no_lines = record { givens = []; rows = [] }
 
--- a region by the names of its variables and of the rates, how many of the variables are its own, and its own lines
+-- a region: the names of its variables and of the rates, the number of its auxiliaries, its own lines
 pub record RegionView : Type 0 where
   pub names : NamesView
   pub auxiliaries : ℕ

@@ -1,4 +1,4 @@
--- What the readers' own functions say of their steps. No public clause cites it.
+-- What the contracts of the readers' own functions say of their steps. No public clause cites it.
 use Rattle.std.specs.Prelude.{◌≡◌, ℕ, ◌≤◌, ◌+◌, List, ◌++◌, length, ◌==◌, Bool, not, [], ◌∷◌, Option, Some, None, ◌⊎◌, if◌then◌else◌, codes}
 use Rattle.it_forms.specs.declared.types.Code.{Code}
 use Rattle.it_forms.specs.declared.types.Code.TheVariants as codes
@@ -18,27 +18,27 @@ use Rattle.it_syntax.specs.Scopes.{Environment, env_of}
 use Rattle.it_forms.specs.Forms.{Keyword, is_of, Terminal, Form, Take, Then}
 use Rattle.it_forms.specs.Words.{flagged_word, line_end}
 
--- what the number of lines of a question takes
+-- at most 64 lines of each kind, so that their number stays small
 abbrev pub FewLines : OwnLinesView → Type 0
 FewLines own = (length own.givens ≤ most_lines) × (length own.rows ≤ most_lines)
 
--- what the number of a verb's lines takes
+-- at most 64 lines of each kind in each region and at most 64 `try` lines, so that the number of a verb's lines stays small
 abbrev pub FewLinesOf : VerbView → Type 0
 FewLinesOf (Prove r) = Unit {0}
 FewLinesOf (Eliminate rates) = Unit {0}
 FewLinesOf (Contain first second tries) = FewLines first.lines × FewLines second.lines × (length tries ≤ most_lines)
 
--- any byte but one
+-- b is another byte than `stop`
 unfoldable pub is_other : ℕ → ℕ → Bool
 is_other stop b = not (b == stop)
 
--- a line was put after others, if it has tokens
+-- `new` is `old` with the line of `bytes` after it, if that line has a token or a misspelling; n is its number
 abbrev pub IsLineAdded : ℕ → List ℕ → List LineView → List LineView → Type 0
 IsLineAdded n bytes old new =
     (SpellsUntil 0 (plain_text bytes) [] None × (new ≡ old))
     ⊎ ((l : LineView) × (new ≡ old ++ l ∷ []) × IsLine n bytes l × IsFilled l.tokens l.misspelling)
 
--- against the word of a verb whose question's table is too large
+-- the flag of a verb's word: `Large` if the question's table is too large
 abbrev pub flag_if_large : Bool → Option Code
 flag_if_large large = if large then Some codes.Large else None
 
@@ -46,23 +46,23 @@ flag_if_large large = if large then Some codes.Large else None
 abbrev pub own_word : Terminal Bool
 own_word = record { kinds = own_words; says = λ l. (None, is_of (Keyword (codes "given")) l) }
 
--- own lines with one more `given` line
+-- the own lines with g as the last `given` line
 abbrev pub with_given : OwnLinesView → GivenView → OwnLinesView
 with_given own g = record own { givens = own.givens ++ g ∷ [] }
 
--- own lines with one more `row` line
+-- the own lines with r as the last `row` line
 abbrev pub with_row : OwnLinesView → RelationView → OwnLinesView
 with_row own r = record own { rows = own.rows ++ r ∷ [] }
 
--- how many variables a region of a question with these names may have
+-- the most variables of a region of a question with the names of v
 abbrev pub most_of_region : NamesView → ℕ
 most_of_region v = length v.variables + auxiliaries_left v
 
--- what is said against `contain`, in a question with these own lines about this first region
+-- the flag of `contain`, in a question with the own lines `own` and the first region `first`
 abbrev pub containment_flag : OwnLinesView → RegionView → Option Code
 containment_flag own first = size_flag first.names (lines_with own first)
 
--- the line of `contain` there
+-- the `contain` line, in a question with the own lines `own` and the first region `first`
 abbrev pub contain_line : OwnLinesView → RegionView → Form (Unit {0})
 contain_line own first = Then (Take (flagged_word (codes "contain") (containment_flag own first))) (λ u. line_end)
 

@@ -1,4 +1,4 @@
--- What the code calls the sorts of names, and the room for them. No public clause cites it.
+-- The sorts of names in the code, and the room for names of each sort. No public clause cites it.
 use Rattle.std.specs.Prelude.{ℕ, ◌<◌, ◌≤◌, length}
 use Rattle.it_syntax.specs.NamesViews.{NamesView}
 use Rattle.it_question.specs.declared.sorts.NameSort.{NameSort}
@@ -11,12 +11,12 @@ abbrev pub name_sort_view : NameSort → NameSortView
 name_sort_view sorts.Variable = Variable
 name_sort_view sorts.Rate = Rate
 
--- n names of the sort can be declared in all
+-- n is within the limit of names of this sort
 abbrev pub IsWithinLimit : NameSort → ℕ → Type 0
 IsWithinLimit sorts.Variable n = n ≤ most_variables
 IsWithinLimit sorts.Rate n = n ≤ most_rates
 
--- one more name of the sort can be declared
+-- the limit of names of this sort isn't reached
 abbrev pub HasRoom : NameSort → NamesView → Type 0
 HasRoom sorts.Variable v = length v.variables < most_variables
 HasRoom sorts.Rate v = length v.rates < most_rates

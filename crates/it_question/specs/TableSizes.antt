@@ -1,5 +1,5 @@
--- The problem that a question's lines pose, and the size of its table, with which the run about it begins. `Large` stands against
--- the word of a verb whose question's table is too large.
+-- The problem that a question's lines pose, and the size of its table, with which the run about it begins. `Large` flags the word of a
+-- verb whose question's table is too large.
 use Rattle.std.specs.Prelude.{ℕ, ◌≤◌, nat_lt, length, map, zip, Option, Some, None, if◌then◌else◌}
 use Rattle.it_space.specs.declared.spaces.Space.{Space}
 use Rattle.it_space.specs.declared.problems.Constraint.{Constraint}
@@ -22,15 +22,15 @@ use Rattle.it_question.specs.Questions.{OwnLinesView, BodyView}
 abbrev pub constraint_of : Space → Origin × Demand → Constraint
 constraint_of s (place, d) = record { row = terms_of_form (size_of s) d.form; kind = d.kind; origin = place }
 
--- the problem that lines pose under names
+-- the problem of the lines `own` under the names of v
 abbrev pub problem_of_lines : NamesView → OwnLinesView → ProblemView
 problem_of_lines v own = record { space = space_of v; constraints = map (constraint_of (space_of v)) (zip (line_origins (length v.variables) own) (line_demands (length v.variables) own)) }
 
--- how many entries the table of a question has, at most
+-- the most entries of the table of a question
 abbrev pub most_entries : ℕ
 most_entries = 4000000
 
--- against the word of a verb, where the question's table is the one of these lines
+-- the flag of the verb's word: `Large` if the table of the problem of these lines is too large
 unfoldable pub size_flag : NamesView → OwnLinesView → Option Code
 size_flag v own = if nat_lt most_entries (table_size (problem_of_lines v own)) then Some codes.Large else None
 

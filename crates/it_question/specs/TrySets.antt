@@ -4,7 +4,7 @@ use Rattle.std.specs.Option.{option_map_or}
 use Rattle.it_syntax.specs.NamesViews.{NamesView, index_of}
 use Rattle.it_syntax.specs.Scopes.{Environment}
 
--- for each auxiliary its set, or none where it isn't named yet
+-- the set of each auxiliary; none where it isn't named yet
 abbrev pub Sets : Type 0
 Sets = List (Option ℕ)
 
@@ -12,11 +12,11 @@ Sets = List (Option ℕ)
 abbrev pub unnamed_sets : ℕ → Sets
 unnamed_sets n = take 4 (replicate n None ++ replicate 4 (Some 0))
 
--- whether number i has its set; a place that isn't there counts as named
+-- whether auxiliary i has its set; a place that isn't there counts as named
 abbrev pub is_named : Sets → ℕ → Bool
 is_named sets i = option_map_or is_some (slice_get sets i) true
 
--- the sets with this one for auxiliary number i
+-- the sets, with `set` for auxiliary i
 abbrev pub with_set : Sets → ℕ → ℕ → Sets
 with_set [] i set = []
 with_set (s ∷ sets) zero set = Some set ∷ sets

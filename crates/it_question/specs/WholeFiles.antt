@@ -1,5 +1,5 @@
--- What a whole file says in a language that is told by what is written in it, by how each is spelled up to the file's end and
--- by what it says; and its first fault.
+-- Whole files in a language that is defined by how each tree is spelled, up to the file's end, and by the value of each tree; and the
+-- first fault of a file.
 use Rattle.std.specs.Prelude.{◌≡◌, ℕ, ◌-◌, List, length, Option, Some, slice_get, flat_map}
 use Rattle.it_forms.specs.declared.types.Code.{Code}
 use Rattle.it_forms.specs.Letters.{Letter, FlaggedLetters, without_flags}
@@ -8,7 +8,7 @@ use Rattle.it_question.specs.declared.types.FileFault.{FileFault}
 use Rattle.it_question.specs.declared.types.FileFault.TheVariants.{Memory, Fault}
 use Rattle.it_question.specs.Lines.{LineView, AreLinesOf, letters_of_lines, line_places}
 
--- the bytes say y: their letters are so written, nothing is said against one, and this is what is said in these lines
+-- the bytes say y: their letters spell a tree, none of them is flagged, and y is the value of the tree in these lines
 pub record SaysWhole {X Y : Type 0} (spell : X → FlaggedLetters) (value : List LineView → X → Y) (bytes : List ℕ) (y : Y) : Type 0 where
   pub lines : List LineView
   pub cut : AreLinesOf bytes lines
@@ -16,11 +16,11 @@ pub record SaysWhole {X Y : Type 0} (spell : X → FlaggedLetters) (value : List
   pub spelled : spell tree ≡ without_flags (letters_of_lines lines)
   pub says : value lines tree ≡ y
 
--- where the first of the letters that are left of these lines stands
+-- the line and the column of the first of the letters that are left of these lines
 abbrev pub place_of : List LineView → List Letter → Option (ℕ × ℕ)
 place_of lines left = slice_get (flat_map line_places lines) (length (letters_of_lines lines) - length left)
 
--- Of these bytes the first fault is `code`, at this line and column: where letters are left at it, in the place of the first of them.
+-- The first fault of these bytes is `code`, at this line and column: those of the first letter that is left at the fault.
 pub record WholeFaultAt {X : Type 0} (spell : X → FlaggedLetters) (bytes : List ℕ) (line column : ℕ) (code : Code) : Type 0 where
   pub lines : List LineView
   pub cut : AreLinesOf bytes lines

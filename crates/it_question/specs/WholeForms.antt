@@ -1,4 +1,4 @@
--- What whole files say in a form, and their first fault.
+-- Whole files in a form, and their first fault.
 use Rattle.std.specs.Prelude.{ℕ, List}
 use Rattle.it_forms.specs.declared.types.Code.{Code}
 use Rattle.it_question.specs.Lines.{LineView}
@@ -7,11 +7,11 @@ use Rattle.it_question.specs.WholeFiles.{SaysWhole, WholeFaultAt, IsFirstWholeFa
 use Rattle.it_forms.specs.Forms.{Form}
 use Rattle.it_forms.specs.FormTexts.{spelling}
 
--- The bytes say y in this form; `value` tells what is made in the file's lines of what the form says.
+-- The bytes say y in the form f; `value` makes it of the file's lines and of what the form says.
 abbrev pub SaysInForm : {A Y : Type 0} → Form A → (List LineView → A → Y) → List ℕ → Y → Type 0
 SaysInForm f value bytes y = SaysWhole (spelling f) (λ lines x. value lines x.0) bytes y
 
--- of these bytes the first fault is `code`, at this line and column
+-- the first fault of these bytes is `code`, at this line and column
 abbrev pub FormFaultAt : {A : Type 0} → Form A → List ℕ → ℕ → ℕ → Code → Type 0
 FormFaultAt f bytes line column code = WholeFaultAt (spelling f) bytes line column code
 

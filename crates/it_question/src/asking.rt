@@ -37,7 +37,7 @@ const MOST_QUESTIONS: usize = 1000;
 /// The most rates of a question.
 const MOST_RATES: usize = 16;
 
-/// What is to be proved, after its `prove`.
+/// The relation to be proved, after `prove`.
 #[tactic(auto, unfolding(it_forms::specs::FormReading::read))]
 fn proof(alloc: Global, cursor: &mut Cursor<'_>, names: &Names) -> Result<Verb, Stop>
     ensures { ParsesBy verb_view result (Then (relation_line names.now true) (λ x. Give (Prove x))) cursor.old cursor.new }
@@ -55,7 +55,7 @@ fn elimination(alloc: Global, cursor: &mut Cursor<'_>, names: &Names) -> Result<
     Ok(Verb::Eliminate(rates))
 }
 
-/// What is asked, in a question with these own lines.
+/// What is asked, in a question with the own lines `lines`.
 #[tactic(auto, unfolding(crate::specs::QuestionForms::verb, it_forms::specs::FormReading::read))]
 fn verb(
     alloc: Global,
@@ -119,7 +119,7 @@ pub fn file_end(cursor: &mut Cursor<'_>) -> Result<(), Stop>
     }
 }
 
-/// Puts a question after the others.
+/// Appends `next` to `bodies`.
 fn add(bodies: &mut Vec<Body>, next: Body) -> Result<(), Stop>
     ensures added { OnOk result (map body_view bodies.new.items ≡ map body_view bodies.old.items ++ body_view next ∷ []) }
     ensures memory { IfErr result (λ e. e ≡ Memory) }
@@ -146,7 +146,7 @@ fn questions(alloc: Global, cursor: &mut Cursor<'_>) -> Result<Vec<Body>, Stop>
     Ok(found)
 }
 
-/// The questions up to the end of the file.
+/// The questions of a file, up to its end.
 #[tactic(auto, unfolding(crate::specs::QuestionForms::file, it_forms::specs::FormReading::read))]
 pub fn bodies(alloc: Global, cursor: &mut Cursor<'_>) -> Result<Vec<Body>, Stop>
     ensures { ParsesBy (λ x. map body_view x.items) result forms.file cursor.old cursor.new }

@@ -1,4 +1,4 @@
-//! What is read of a question.
+//! Questions as they are read, without their texts.
 ghost use Rattle.std.specs.Prelude.{◌≡◌, map};
 ghost use Rattle.it_question.specs.Bodies.{body_view};
 ghost use Rattle.it_question.specs.LineTexts.{text_of_lines};
@@ -25,7 +25,7 @@ impl Drop for Body {
 }
 
 impl Body {
-    /// The question with these lines.
+    /// The question with the lines `source`.
     pub(crate) fn with_source(self, source: Vec<Vec<u8>>) -> Question
         ensures { question_view result ≡ record { body = body_view self; text = text_of_lines (map (λ v. v.items) source.items) } }
     {

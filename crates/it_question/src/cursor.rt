@@ -1,4 +1,4 @@
-//! What is left of a file.
+//! The rest of a file, which is still to be read.
 ghost use Rattle.std.specs.Prelude.{◌≡◌, ◌≤◌, length};
 ghost use Rattle.it_syntax.specs.Spans.{InLine, InLine-prop};
 

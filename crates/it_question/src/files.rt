@@ -18,7 +18,7 @@ use it_syntax::rest::Stop;
 use it_syntax::types::Code;
 use std::alloc::Global;
 
-/// The fault at what is left of these lines.
+/// The fault `code` at the first letter that `cursor` leaves of `lines`.
 fn fault(lines: &[Line], cursor: Cursor<'_>, code: Code) -> FileFault
     requires few { length (letters_of_lines (map line_view lines.now)) ≤ 2 ^ 32 }
     requires there { IsLeft (map line_view lines.now) (letters_left cursor) }
@@ -29,8 +29,8 @@ fn fault(lines: &[Line], cursor: Cursor<'_>, code: Code) -> FileFault
     FileFault::Fault { line, column, code }
 }
 
-/// Why reading stopped at what is left of these lines: the code of the fault with the line and the column of the piece that is left
-/// first, or that memory ran out.
+/// Why reading stopped with `cursor` left of `lines`: the code of the fault with the line and the column of the piece that is
+/// left first, or that memory ran out.
 pub fn stop_fault(lines: &[Line], cursor: Cursor<'_>, stop: Stop) -> FileFault
     requires few { length (letters_of_lines (map line_view lines.now)) ≤ 2 ^ 32 }
     requires there { IfFault stop (IsLeft (map line_view lines.now) (letters_left cursor)) }

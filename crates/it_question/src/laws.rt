@@ -20,7 +20,7 @@ pub fn text_reads_back()
     ensures { TextReadsBack }
 {}
 
-/// What says a question in a file says that question alone.
+/// What says a question in a file says that question alone, as a file of its own.
 pub fn questions_stand_alone()
     ensures { QuestionStandsAlone }
 {}

@@ -12,7 +12,7 @@ use it_syntax::line_tokens;
 use it_syntax::types::{Code, LineTokens, Misspelling};
 use std::alloc::{AllocError, Global};
 
-/// The line of a number with its tokens.
+/// The line number `number`, whose bytes are `bytes`, with its tokens.
 fn line_of(alloc: Global, number: u32, bytes: &[u8]) -> Result<Line, AllocError>
     requires { length bytes.now ≤ 1048577 }
     ensures { IfOk result (λ l. IsLine number bytes.now (line_view l)) }
@@ -26,7 +26,7 @@ fn line_of(alloc: Global, number: u32, bytes: &[u8]) -> Result<Line, AllocError>
     })
 }
 
-/// Whether there is a token or a misspelling.
+/// Whether the line has a token or a misspelling.
 fn has_tokens(line: &Line) -> bool
     ensures filled { OnTrue result (IsFilled (line_view line.now).tokens (line_view line.now).misspelling) }
     ensures no_tokens { OnFalse result (line.now.tokens.tokens.items ≡ []) }
@@ -41,7 +41,7 @@ fn has_tokens(line: &Line) -> bool
     }
 }
 
-/// Puts a line after the others, if it has tokens.
+/// Appends the line of `bytes` to `lines`, if it has tokens or a misspelling.
 fn add(alloc: Global, lines: &mut Vec<Line>, number: u32, bytes: &[u8]) -> Result<(), AllocError>
     requires { length bytes.now ≤ 1048577 }
     ensures { OnOk result (IsLineAdded number bytes.now (map line_view lines.old.items) (map line_view lines.new.items)) }
@@ -56,7 +56,7 @@ fn add(alloc: Global, lines: &mut Vec<Line>, number: u32, bytes: &[u8]) -> Resul
     Ok(())
 }
 
-/// The end of a file, with the number of the line after its last.
+/// The end of a file, as a line of its own with the number `number`, which is one more than the last line's.
 fn end(alloc: Global, number: u32) -> Line
     ensures { line_view result ≡ end_line number }
 {
@@ -73,7 +73,7 @@ fn end(alloc: Global, number: u32) -> Line
     }
 }
 
-/// The lines of a file that have tokens, in order, and then the file's end.
+/// The lines of a file that have tokens or a misspelling, in order, and then the file's end.
 pub fn file_lines(alloc: Global, bytes: &[u8]) -> Result<Vec<Line>, AllocError>
     requires { length bytes.now ≤ 1048577 }
     ensures { IfOk result (λ lines. AreLinesOf bytes.now (map line_view lines.items)) }

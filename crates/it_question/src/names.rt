@@ -14,7 +14,7 @@ use it_syntax::rest::{Piece, Stop};
 use it_syntax::types::Code;
 use it_syntax::{Names, is_measure};
 
-/// Whether a variable or a rate has this name.
+/// Whether a variable or a rate is named `word`.
 #[tactic(auto, unfolding(crate::specs::NewNames::is_taken))]
 fn is_taken(names: &Names, word: &[u8]) -> bool
     ensures { result ≡ is_taken names.now word.now }
@@ -22,7 +22,7 @@ fn is_taken(names: &Names, word: &[u8]) -> bool
     names.variable(word).is_some() || names.rate(word).is_some()
 }
 
-/// How many names of this sort there are.
+/// The number of names of this sort.
 fn count(names: &Names, sort: NameSort) -> usize
     ensures { result ≡ forms.count (name_sort_view sort) names.now }
 {
@@ -32,7 +32,7 @@ fn count(names: &Names, sort: NameSort) -> usize
     }
 }
 
-/// Declares one more name.
+/// Declares `word` as the next name of its sort.
 fn declare(names: &mut Names, sort: NameSort, word: &[u8]) -> Result<(), Stop>
     requires new { is_taken names.old word.now ≡ false }
     requires some { 1 ≤ length word.now }
@@ -80,7 +80,7 @@ pub fn new_name(
     }
 }
 
-/// Further new names, each after a comma.
+/// Reads further new names, each after a comma, and declares them.
 fn more_names(
     cursor: &mut Cursor<'_>,
     names: &mut Names,
@@ -117,7 +117,7 @@ pub fn names_to_end(
     line_end(cursor)
 }
 
-/// A line of new names after its keyword, if one stands there.
+/// Reads a line of new names after `keyword` and declares them, if the keyword stands there.
 #[tactic(auto, unfolding(crate::specs::QuestionForms::names_line, it_forms::specs::FormReading::read), using(it_syntax::proofs::Loops::front_lemmas))]
 pub fn names_line(
     cursor: &mut Cursor<'_>,

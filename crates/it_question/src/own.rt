@@ -24,14 +24,14 @@ use std::alloc::Global;
 pub const MOST_LINES: usize = 64;
 
 impl OwnLines {
-    /// How many more `given` lines may follow these.
+    /// The number of `given` lines that may still follow, of `most` in all.
     pub fn givens_left(&self, most: usize) -> usize
         ensures { result ≡ givens_left most (own_lines_view self.now) }
     {
         most.saturating_sub(self.givens.len())
     }
 
-    /// How many more `row` lines may follow these.
+    /// The number of `row` lines that may still follow, of `most` in all.
     pub fn rows_left(&self, most: usize) -> usize
         ensures { result ≡ rows_left most (own_lines_view self.now) }
     {
@@ -39,7 +39,7 @@ impl OwnLines {
     }
 }
 
-/// Puts the constraint of a `given` line after the others.
+/// Appends the constraint of a `given` line.
 fn add_given(own: &mut OwnLines, given: Given) -> Result<(), Stop>
     ensures added { OnOk result (own_lines_view own.new ≡ with_given (own_lines_view own.old) (given_view given)) }
     ensures memory { IfErr result (λ e. e ≡ Memory) }
@@ -48,7 +48,7 @@ fn add_given(own: &mut OwnLines, given: Given) -> Result<(), Stop>
     Ok(())
 }
 
-/// Puts the relation of a `row` line after the others.
+/// Appends the relation of a `row` line.
 fn add_row(own: &mut OwnLines, row: Relation) -> Result<(), Stop>
     ensures added { OnOk result (own_lines_view own.new ≡ with_row (own_lines_view own.old) (relation_view row)) }
     ensures memory { IfErr result (λ e. e ≡ Memory) }
@@ -57,7 +57,7 @@ fn add_row(own: &mut OwnLines, row: Relation) -> Result<(), Stop>
     Ok(())
 }
 
-/// Whether a `given` line stands there, or a `row` line, and what is after its word.
+/// Whether a `given` line (true) or a `row` line (false) begins there, and what is after its word; None where neither does.
 fn own_word(cursor: Cursor<'_>) -> Option<(bool, Cursor<'_>)>
     ensures found { IfSome result (λ x. after own_word (letters_left cursor.entry) ≡ Some ((None, x.0), letters_left x.1)) }
     ensures none { IfNone result (after own_word (letters_left cursor.entry) ≡ None) }
@@ -76,7 +76,7 @@ fn own_word(cursor: Cursor<'_>) -> Option<(bool, Cursor<'_>)>
     }
 }
 
-/// How many more lines of a kind may follow these.
+/// The number of lines of this kind that may still follow.
 fn lines_left(own: &OwnLines, is_given: bool, most_givens: usize, most_rows: usize) -> usize
     ensures { result ≡ (if is_given then givens_left most_givens (own_lines_view own.now) else rows_left most_rows (own_lines_view own.now)) }
 {
@@ -87,7 +87,7 @@ fn lines_left(own: &OwnLines, is_given: bool, most_givens: usize, most_rows: usi
     }
 }
 
-/// A `given` line or a `row` line, after its word.
+/// Reads a `given` line or a `row` line after its word, and appends it to `own`.
 #[tactic(auto, unfolding(crate::specs::QuestionForms::own_line, it_forms::specs::FormReading::read))]
 fn own_line(
     alloc: Global,
@@ -111,7 +111,7 @@ fn own_line(
     }
 }
 
-/// The lines that stand there, at most so many of each kind.
+/// The own lines that stand there: at most `most_givens` `given` lines and `most_rows` `row` lines.
 pub fn own_lines(
     alloc: Global,
     cursor: &mut Cursor<'_>,

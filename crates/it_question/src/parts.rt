@@ -16,8 +16,8 @@ use it_syntax::rest::Stop;
 use it_syntax::types::{Code, Given, Relation};
 use std::alloc::Global;
 
-/// Reads a relation of variables and rates, with the line's end. The fault is the relation's first, as `relation` of `it_syntax`
-/// tells it, or `Word` at what stands after it.
+/// Reads a relation of variables and rates, with the line's end. The fault is the first: one that `relation` of `it_syntax` lists, or
+/// `Word` at what stands after the relation.
 pub fn relation(alloc: Global, cursor: &mut Cursor<'_>, names: &Names) -> Result<Relation, Stop>
     ensures { ParsesBy relation_view result (relation_line names.now true) cursor.old cursor.new }
 {

@@ -1,4 +1,4 @@
-//! The pieces of a file, one after the other.
+//! The pieces of a file, one by one.
 ghost use Rattle.std.specs.Prelude.{◌≡◌, [], map, IfSome, IfNone};
 ghost use Rattle.it_syntax.specs.declared.rest.Stop.TheVariants.{Fault};
 ghost use Rattle.it_forms.specs.FirstFault.{own_code};
@@ -11,7 +11,7 @@ use it_syntax::rest::{Piece, Rest, Stop};
 use it_syntax::types::Code;
 
 impl<'a> Cursor<'a> {
-    /// At the first of some lines.
+    /// A cursor at the first of `lines`.
     #[tactic(auto, unfolding(crate::specs::Cursors::letters_left))]
     pub fn at(lines: &'a [Line]) -> Cursor<'a>
         ensures { letters_left result ≡ letters_of_lines (map line_view lines.entry.now) }

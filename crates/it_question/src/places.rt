@@ -6,7 +6,7 @@ ghost use Rattle.it_question.specs.Lines.{letters_of_lines, line_places};
 use crate::cursor::{Cursor, Line};
 use it_syntax::rest::Rest;
 
-/// How many letters the lines have: their tokens, and one for each line's end.
+/// The number of letters of `lines`: their tokens, and one for each line's end.
 pub fn count(lines: &[Line]) -> usize
     requires { length (letters_of_lines (map line_view lines.now)) ≤ 2 ^ 32 }
     ensures { result ≡ length (letters_of_lines (map line_view lines.now)) }
@@ -18,7 +18,7 @@ pub fn count(lines: &[Line]) -> usize
     total
 }
 
-/// How many letters are left.
+/// The number of letters that are left.
 #[tactic(auto, unfolding(crate::specs::Cursors::letters_left))]
 pub fn letters_left(cursor: &Cursor<'_>) -> usize
     requires { length (letters_left cursor.now) ≤ 2 ^ 32 }
@@ -30,7 +30,7 @@ pub fn letters_left(cursor: &Cursor<'_>) -> usize
     }
 }
 
-/// The line and the column of a letter of a line.
+/// The line and the column of letter number `at` of a line, counted from 0.
 fn place_in(line: &Line, at: usize) -> (u32, u32)
     requires { at ≤ length line.now.tokens.tokens.items }
     ensures { slice_get (line_places (line_view line.now)) at ≡ Some result }
@@ -43,7 +43,7 @@ fn place_in(line: &Line, at: usize) -> (u32, u32)
     (line.number, whole.column(line.tokens.tokens.len() - at))
 }
 
-/// The line and the column, counted from 1, of the letter number `at`; None where there is none.
+/// The line and the column, both counted from 1, of letter number `at` of `lines`, counted from 0; None where there is none.
 pub fn place(lines: &[Line], at: usize) -> Option<(u32, u32)>
     ensures { result ≡ slice_get (flat_map line_places (map line_view lines.now)) at }
 {

@@ -6,7 +6,7 @@ ghost use Rattle.it_question.specs.ReaderSteps.{is_other};
 
 use std::alloc::{AllocError, Global};
 
-/// Whether it is another byte than `stop`.
+/// Whether `b` is another byte than `stop`.
 #[tactic(auto, unfolding(crate::specs::ReaderSteps::is_other))]
 fn is_other(stop: u8, b: u8) -> bool
     ensures { result ≡ is_other stop b }
@@ -14,7 +14,7 @@ fn is_other(stop: u8, b: u8) -> bool
     b != stop
 }
 
-/// The number of bytes in front of the first that is `stop`.
+/// The number of bytes before the first `stop`.
 #[tactic(auto, using(crate::proofs::PlainLemmas::run_lemmas))]
 fn count_before(bytes: &[u8], stop: u8) -> usize
     ensures { IsLongestRun (is_other stop) bytes.now result }
@@ -27,7 +27,7 @@ fn count_before(bytes: &[u8], stop: u8) -> usize
     bytes.len()
 }
 
-/// The first line, without its line feed, and the bytes after that.
+/// The first line, without its line feed, and the bytes after that line feed.
 pub fn first_line(bytes: &[u8]) -> (&[u8], &[u8])
     requires { 1 ≤ length bytes.now }
     ensures split { split_lines bytes.now ≡ result.0.now ∷ split_lines result.1.now }
@@ -42,7 +42,7 @@ pub fn first_line(bytes: &[u8]) -> (&[u8], &[u8])
     }
 }
 
-/// The line without a carriage return at its end.
+/// `line` without a carriage return at its end.
 #[tactic(auto, using(crate::proofs::PlainLemmas::return_dropped, crate::proofs::PlainLemmas::no_return_kept))]
 fn without_return(line: &[u8]) -> &[u8]
     ensures { result.now ≡ without_return line.now }
@@ -53,14 +53,14 @@ fn without_return(line: &[u8]) -> &[u8]
     }
 }
 
-/// What stands before the first `#`.
+/// `line` up to its first `#`.
 fn before_comment(line: &[u8]) -> &[u8]
     ensures { result.now ≡ before_comment line.now }
 {
     line.split_at(count_before(line, b'#')).0
 }
 
-/// The byte, a space for a tab.
+/// `b`, but a space for a tab.
 fn without_tab(b: u8) -> u8
     ensures { result ≡ without_tab b }
 {

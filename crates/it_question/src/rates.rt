@@ -14,14 +14,14 @@ use it_syntax::types::Code;
 use it_syntax::{Names, is_measure};
 use std::alloc::Global;
 
-/// The name of a rate that wasn't named before, by the rate's number.
+/// The number of the rate `name`; None if no rate has this name.
 fn rate(names: &Names, name: &[u8]) -> Option<u8>
     ensures { result ≡ index_of names.now.rates name.now }
 {
     names.rate(name)
 }
 
-/// A rate that isn't among these.
+/// Reads a rate that isn't in `seen`.
 #[tactic(auto, unfolding(crate::specs::QuestionForms::once, it_forms::specs::FormReading::read))]
 fn new_rate(cursor: &mut Cursor<'_>, names: &Names, seen: &[u8]) -> Result<u8, Stop>
     ensures { Parses result (forms.once (index_of names.now.rates) seen.now) cursor.old cursor.new }
@@ -46,7 +46,7 @@ fn new_rate(cursor: &mut Cursor<'_>, names: &Names, seen: &[u8]) -> Result<u8, S
     }
 }
 
-/// Puts a rate's number after the others.
+/// Appends `rate` to `rates`.
 fn add(rates: &mut Vec<u8>, rate: u8) -> Result<(), Stop>
     ensures added { OnOk result (rates.new.items ≡ rates.old.items ++ rate ∷ []) }
     ensures memory { IfErr result (λ e. e ≡ Memory) }
@@ -55,7 +55,7 @@ fn add(rates: &mut Vec<u8>, rate: u8) -> Result<(), Stop>
     Ok(())
 }
 
-/// The first rates and further ones, each after a comma.
+/// `first` and further rates, each after a comma, none twice.
 fn more_rates(first: Vec<u8>, cursor: &mut Cursor<'_>, names: &Names) -> Result<Vec<u8>, Stop>
     ensures { ParsesBy (λ x. x.items) result (forms.more_once (index_of names.now.rates) first.items) cursor.old cursor.new }
 {
@@ -70,7 +70,7 @@ fn more_rates(first: Vec<u8>, cursor: &mut Cursor<'_>, names: &Names) -> Result<
     Ok(found)
 }
 
-/// One rate or more, none twice.
+/// One or more rates, none twice.
 #[tactic(auto, unfolding(crate::specs::QuestionForms::distinct, it_forms::specs::FormReading::read))]
 fn distinct_rates(alloc: Global, cursor: &mut Cursor<'_>, names: &Names) -> Result<Vec<u8>, Stop>
     ensures { ParsesBy (λ x. x.items) result (forms.distinct (index_of names.now.rates)) cursor.old cursor.new }
@@ -80,7 +80,7 @@ fn distinct_rates(alloc: Global, cursor: &mut Cursor<'_>, names: &Names) -> Resu
     more_rates(found, cursor, names)
 }
 
-/// The rates, each once, with the line's end.
+/// One or more rates, none twice, up to the line's end.
 #[tactic(auto, unfolding(it_forms::specs::FormReading::read))]
 pub fn rates(alloc: Global, cursor: &mut Cursor<'_>, names: &Names) -> Result<Vec<u8>, Stop>
     ensures { ParsesBy (λ x. x.items) result (to_end (forms.distinct (index_of names.now.rates))) cursor.old cursor.new }

@@ -24,13 +24,13 @@ use it_syntax::rest::Stop;
 use it_syntax::types::Code;
 use std::alloc::Global;
 
-/// The most variables of a question, with a region's own.
+/// The most variables of a question together with a region's auxiliaries.
 pub const MOST_VARIABLES: usize = 10;
 
-/// The most variables that a region has of its own.
+/// The most auxiliaries of a region.
 const MOST_AUXILIARIES: usize = 4;
 
-/// How many variables a region of a question with these names may have.
+/// The most variables of a region of a question with these names, its auxiliaries among them.
 fn most_of_region(names: &Names) -> usize
     ensures most { result ≡ most_of_region names.now }
     ensures few { result ≤ most_variables }
@@ -39,7 +39,7 @@ fn most_of_region(names: &Names) -> usize
     variables + MOST_AUXILIARIES.min(MOST_VARIABLES.saturating_sub(variables))
 }
 
-/// How many variables a region has added to these.
+/// The number of variables that a region with the names `inside` adds to `names`.
 fn auxiliaries(inside: &Names, names: &Names) -> u8
     ensures { result ≡ length inside.now.variables - length names.now.variables }
 {
@@ -49,7 +49,7 @@ fn auxiliaries(inside: &Names, names: &Names) -> u8
         .saturating_sub(names.space().variables)
 }
 
-/// The variables of a region of a question with these names.
+/// Reads a region's auxiliaries, if it has any, and gives the names of the question with them.
 fn region_names(cursor: &mut Cursor<'_>, names: &Names) -> Result<Names, Stop>
     ensures { Parses result (forms.names_line Variable (most_of_region names.now) (codes "aux") names.now) cursor.old cursor.new }
 {
@@ -64,7 +64,7 @@ fn region_names(cursor: &mut Cursor<'_>, names: &Names) -> Result<Names, Stop>
     Ok(inside)
 }
 
-/// A region of a question with these names, after its `region`; so many lines of each kind are allowed.
+/// A region of a question with these names, after `region`, with at most `givens` `given` lines and `rows` `row` lines.
 #[tactic(auto, unfolding(crate::specs::QuestionForms::region, it_forms::specs::FormReading::read))]
 fn region(
     alloc: Global,
@@ -86,7 +86,7 @@ fn region(
     })
 }
 
-/// The line of `contain`, in a question with these own lines about this first region.
+/// Reads the `contain` line of a question with the own lines `lines` and the first region `first`.
 #[tactic(auto, unfolding(it_forms::specs::FormReading::read))]
 fn contain(
     alloc: Global,
@@ -114,7 +114,7 @@ fn contain(
     }
 }
 
-/// Two regions, sets to be tried and `contain`, after the first `region`, in a question with these own lines.
+/// Two regions, `try` lines and `contain`, after the first `region`, in a question with the own lines `lines`.
 #[tactic(auto, unfolding(crate::specs::QuestionForms::containment, it_forms::specs::FormReading::read))]
 pub fn containment(
     alloc: Global,

@@ -24,13 +24,13 @@ use it_syntax::Names;
 use it_syntax::rest::Stop;
 use std::alloc::{AllocError, Global};
 
-/// The most entries of a question's table.
+/// The most entries of the table of a question.
 pub const MOST_ENTRIES: u64 = 4000000;
 
-/// So many variables never have a table with more entries, within the limits of a question's lines.
+/// With at most this many variables no table has more entries, within the limits of a question's lines.
 const MOST_SMALL: u8 = 9;
 
-/// The constraints of a question's own lines.
+/// The constraints of a question's own lines, those of the `given` lines first.
 pub fn line_constraints(
     alloc: Global,
     lines: &OwnLines,
@@ -49,7 +49,7 @@ pub fn line_constraints(
     Ok(constraints)
 }
 
-/// The constraints of a question's own lines with those of a region after them.
+/// The constraints of a question's own lines together with those of a region: the `given` lines of both, then the `row` lines of both.
 pub fn region_constraints(
     alloc: Global,
     lines: &OwnLines,
@@ -78,7 +78,7 @@ pub fn region_constraints(
     Ok(constraints)
 }
 
-/// Whether the table of a problem is too large.
+/// Whether the table of the problem of `space` and `constraints` is too large.
 fn is_large(alloc: Global, space: Space, constraints: Vec<Constraint>) -> Result<bool, Stop>
     requires { IsProblem (record { space = space; constraints = constraints.items }) }
     ensures large { IfOk result (λ large. large ≡ nat_lt most_entries (table_size (record { space = space; constraints = constraints.items }))) }
@@ -88,7 +88,7 @@ fn is_large(alloc: Global, space: Space, constraints: Vec<Constraint>) -> Result
     Ok(MOST_ENTRIES < size)
 }
 
-/// Whether the table of a question with these lines is too large, where it asks for a proof.
+/// Whether the table of a question that asks for a proof is too large.
 pub fn proof_is_large(alloc: Global, names: &Names, lines: &OwnLines) -> Result<bool, Stop>
     requires space { IsSpace (space_of names.now) }
     requires lines { AreLinesOver names.now (own_lines_view lines.now) }
@@ -104,7 +104,7 @@ pub fn proof_is_large(alloc: Global, names: &Names, lines: &OwnLines) -> Result<
     Ok(large)
 }
 
-/// The same where it asks for an elimination.
+/// Whether the table of a question that asks for an elimination is too large; its `row` lines are no part of it.
 pub fn elimination_is_large(alloc: Global, names: &Names, lines: &OwnLines) -> Result<bool, Stop>
     requires space { IsSpace (space_of names.now) }
     requires lines { AreLinesOver names.now (own_lines_view lines.now) }
@@ -120,7 +120,7 @@ pub fn elimination_is_large(alloc: Global, names: &Names, lines: &OwnLines) -> R
     Ok(large)
 }
 
-/// The same where it asks for a containment, of this first region.
+/// Whether the table of a question about a containment, with the first region `first`, is too large.
 pub fn containment_is_large(
     alloc: Global,
     names: &Names,

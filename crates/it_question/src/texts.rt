@@ -16,7 +16,7 @@ use crate::types::{Question, Region, Verb};
 use std::alloc::{AllocError, Global};
 use std::vec::IntoIter;
 
-/// What is left without the spaces in front.
+/// `line` without the spaces in front.
 fn without_leading(line: &[u8]) -> &[u8]
     ensures { result.now ≡ without_leading line.now }
 {
@@ -30,7 +30,7 @@ fn without_leading(line: &[u8]) -> &[u8]
     rest
 }
 
-/// What is left without the spaces at the end.
+/// `line` without the spaces at its end.
 fn without_trailing(line: &[u8]) -> &[u8]
     ensures { result.now ≡ without_trailing line.now }
 {
@@ -44,7 +44,7 @@ fn without_trailing(line: &[u8]) -> &[u8]
     rest
 }
 
-/// Without blanks at both ends.
+/// `line` without the spaces at both ends.
 fn trim(line: &[u8]) -> &[u8]
     ensures { result.now ≡ without_trailing (without_leading line.now) }
 {
@@ -69,7 +69,7 @@ impl Question {
     }
 }
 
-/// How many lines a region has, its `region` line among them.
+/// The number of lines of a region, its `region` line among them.
 #[tactic(auto, using(crate::proofs::LineCountLemmas::few_givens, crate::proofs::LineCountLemmas::few_rows, crate::proofs::LineCountLemmas::region_lines_are))]
 fn region_line_count(region: &Region) -> usize
     requires { FewLines (region_view region.now).lines }
@@ -80,7 +80,7 @@ fn region_line_count(region: &Region) -> usize
     1 + auxiliaries + (region.lines.givens.len() + region.lines.rows.len())
 }
 
-/// How many lines stand from the verb or the first region on.
+/// The number of lines from the verb, or from the first region, to the question's end.
 fn verb_line_count(verb: &Verb) -> usize
     requires { FewLinesOf (verb_view verb.now) }
     ensures lines { result ≡ verb_line_count (verb_view verb.now) }
@@ -97,7 +97,7 @@ fn verb_line_count(verb: &Verb) -> usize
     }
 }
 
-/// How many lines a question has.
+/// The number of lines of a question.
 fn question_line_count(question: &Body) -> usize
     requires { IsQuestion (body_view question.now) }
     ensures { result ≡ question_line_count (body_view question.now) }
@@ -112,7 +112,7 @@ fn question_line_count(question: &Body) -> usize
         + verb_line_count(&question.verb)
 }
 
-/// Moves the texts of the next n lines out.
+/// Takes the next `n` lines and gives their texts.
 fn next_texts(
     alloc: Global,
     lines: &mut IntoIter<Line>,
@@ -137,7 +137,7 @@ fn next_texts(
     Ok(texts)
 }
 
-/// The questions of these lines, one after the other, each with its own.
+/// The questions with their texts: each takes its own lines of `lines`, one question after the other.
 pub fn with_texts(
     alloc: Global,
     lines: Vec<Line>,

@@ -24,7 +24,7 @@ use it_syntax::types::{Code, Symbol};
 use it_syntax::{Names, is_measure};
 use std::alloc::Global;
 
-/// A set for each auxiliary of the second region, by number, and none where it has none yet. The places after the
+/// The set of each auxiliary of the second region, by number; None where it isn't named yet. The places after the
 /// auxiliaries have the empty set.
 pub type Sets = [Option<VarSet>; 4];
 
@@ -36,7 +36,7 @@ pub struct Regions<'a> {
     pub second: &'a Names,
 }
 
-/// Which auxiliary of the second region has this name.
+/// The number of the auxiliary of the second region that is named `name`; None if there is none.
 #[tactic(auto, unfolding(crate::specs::TrySets::auxiliary_env))]
 fn auxiliary_of(regions: Regions<'_>, name: &[u8]) -> Option<u8>
     ensures { result ≡ auxiliaries_of regions.entry name.now }
@@ -48,7 +48,7 @@ fn auxiliary_of(regions: Regions<'_>, name: &[u8]) -> Option<u8>
     }
 }
 
-/// Whether auxiliary i has a set.
+/// Whether auxiliary `i` has a set; a place that isn't there counts as named.
 #[tactic(auto, using(crate::proofs::SetLemmas::set_lemmas))]
 fn is_named(sets: &Sets, i: u8) -> bool
     ensures { result ≡ is_named sets.now i }
@@ -73,7 +73,7 @@ fn is_whole(sets: &Sets) -> bool
     true
 }
 
-/// Gives auxiliary i its set.
+/// Gives auxiliary `i` its set.
 #[tactic(auto, using(crate::proofs::SetLemmas::set_lemmas))]
 fn put(sets: &mut Sets, i: u8, set: VarSet)
     ensures { sets.new ≡ with_set sets.old i set }
@@ -83,7 +83,7 @@ fn put(sets: &mut Sets, i: u8, set: VarSet)
     }
 }
 
-/// The auxiliary that is named, if it has no set yet.
+/// Reads the name of an auxiliary that has no set yet, and gives its number.
 #[tactic(auto, unfolding(crate::specs::QuestionForms::auxiliary, it_forms::specs::FormReading::read))]
 fn auxiliary(cursor: &mut Cursor<'_>, regions: Regions<'_>, sets: &Sets) -> Result<u8, Stop>
     ensures { Parses result (forms.auxiliary (auxiliaries_of regions.entry) sets.now) cursor.old cursor.new }
@@ -108,7 +108,7 @@ fn auxiliary(cursor: &mut Cursor<'_>, regions: Regions<'_>, sets: &Sets) -> Resu
     }
 }
 
-/// A `:=` that must stand there.
+/// Reads a `:=`, which must stand there.
 #[tactic(auto, unfolding(it_forms::specs::FormReading::read))]
 fn assign(cursor: &mut Cursor<'_>) -> Result<(), Stop>
     ensures { Parses result (Take (symbol symbols.Assign)) cursor.old cursor.new }
@@ -122,7 +122,7 @@ fn assign(cursor: &mut Cursor<'_>) -> Result<(), Stop>
     }
 }
 
-/// `0`, or a list of names.
+/// `0`, which is the empty set, or a list of names.
 #[tactic(auto, unfolding(crate::specs::QuestionForms::set, it_forms::specs::FormReading::read), using(it_forms::proofs::SymbolLemmas::not_zero))]
 fn set(cursor: &mut Cursor<'_>, names: &Names) -> Result<VarSet, Stop>
     ensures { Parses result (forms.set (env_of names.now)) cursor.old cursor.new }
@@ -140,7 +140,7 @@ fn set(cursor: &mut Cursor<'_>, names: &Names) -> Result<VarSet, Stop>
     }
 }
 
-/// `name := set`.
+/// Reads `name := set` and gives the auxiliary of this name its set.
 #[tactic(auto, unfolding(crate::specs::QuestionForms::part, it_forms::specs::FormReading::read))]
 fn part(cursor: &mut Cursor<'_>, regions: Regions<'_>, sets: &mut Sets) -> Result<(), Stop>
     ensures { ParsesBy (λ x. sets.new) result (forms.part (auxiliaries_of regions.entry) (variables_of regions.entry) sets.old) cursor.old cursor.new }
@@ -167,7 +167,7 @@ fn semicolon(cursor: &mut Cursor<'_>) -> bool
     }
 }
 
-/// Further parts, each after a `;`.
+/// Reads further parts, each after a `;`.
 fn parts(cursor: &mut Cursor<'_>, regions: Regions<'_>, sets: &mut Sets) -> Result<(), Stop>
     ensures { ParsesBy (λ x. sets.new) result (forms.more_parts (auxiliaries_of regions.entry) (variables_of regions.entry) sets.old) cursor.old cursor.new }
 {
@@ -180,7 +180,7 @@ fn parts(cursor: &mut Cursor<'_>, regions: Regions<'_>, sets: &mut Sets) -> Resu
     Ok(())
 }
 
-/// The line's end, if each auxiliary has its set.
+/// Reads the line's end, where each auxiliary must have its set.
 #[tactic(auto, unfolding(it_forms::specs::FormReading::read))]
 fn try_end(cursor: &mut Cursor<'_>, sets: &Sets) -> Result<(), Stop>
     ensures { Parses result (Take (forms.try_end sets.now)) cursor.old cursor.new }
@@ -191,7 +191,7 @@ fn try_end(cursor: &mut Cursor<'_>, sets: &Sets) -> Result<(), Stop>
     Err(cursor.fault())
 }
 
-/// The set of an auxiliary, empty where it has none.
+/// The set, or the empty set for None.
 fn set_or_empty(set: &Option<VarSet>) -> VarSet
     ensures { result ≡ unwrap_or set.now 0 }
 {
@@ -213,14 +213,14 @@ fn sets_of(sets: &Sets) -> [VarSet; 4]
     ]
 }
 
-/// The empty set in the place of an auxiliary that isn't there.
+/// The empty set, in the place of an auxiliary that isn't there.
 fn filled_place() -> Option<VarSet>
     ensures { result ≡ Some 0 }
 {
     Some(VarSet::empty())
 }
 
-/// No set yet for each of so many auxiliaries.
+/// No set yet for each of the `auxiliaries` first places, and the empty set in the others.
 #[tactic(auto, using(crate::proofs::SetLemmas::all_unnamed))]
 fn unnamed_sets(auxiliaries: u8) -> Sets
     ensures { result ≡ unnamed_sets auxiliaries }
@@ -255,7 +255,7 @@ fn substitution(
     Ok(sets_of(&sets))
 }
 
-/// Puts the sets of a `try` line after the others.
+/// Appends the sets of a `try` line to `tries`.
 fn add(tries: &mut Vec<[VarSet; 4]>, sets: [VarSet; 4]) -> Result<(), Stop>
     ensures added { OnOk result (tries.new.items ≡ tries.old.items ++ sets ∷ []) }
     ensures memory { IfErr result (λ e. e ≡ Memory) }
@@ -264,7 +264,7 @@ fn add(tries: &mut Vec<[VarSet; 4]>, sets: [VarSet; 4]) -> Result<(), Stop>
     Ok(())
 }
 
-/// The `try` lines that stand there, at most `MOST_LINES`. The second region has so many auxiliaries.
+/// The `try` lines that stand there, at most `MOST_LINES`. `auxiliaries` is the number of the second region's auxiliaries.
 pub fn tries(
     alloc: Global,
     cursor: &mut Cursor<'_>,

@@ -41,7 +41,7 @@ pub const ELIMINATE: &[u8] = b"eliminate";
 /// A line of its own, after the second region.
 pub const CONTAIN: &[u8] = b"contain";
 
-/// What is after this word, if it stands there.
+/// What is after the word `text`; None if another piece stands there.
 pub fn after_word<'a>(cursor: Cursor<'a>, text: &[u8]) -> Option<Cursor<'a>>
     ensures found { IfSome result (λ c. after (words.word text.now) (letters_left cursor.entry) ≡ Some ((None, tt), letters_left c)) }
     ensures none { IfNone result (after (words.word text.now) (letters_left cursor.entry) ≡ None) }
@@ -52,7 +52,7 @@ pub fn after_word<'a>(cursor: Cursor<'a>, text: &[u8]) -> Option<Cursor<'a>>
     }
 }
 
-/// Reads this word, which must stand there. The fault is `Word` at another piece, or that piece's own.
+/// Reads the word `text`, which must stand there. The fault is `Word` at another piece, or that piece's own.
 #[tactic(auto, unfolding(it_forms::specs::FormReading::read))]
 pub fn word(cursor: &mut Cursor<'_>, text: &[u8]) -> Result<(), Stop>
     ensures { Parses result (Take (words.word text.now)) cursor.old cursor.new }

@@ -1,4 +1,4 @@
--- What is known of a proposal: its shape.
+-- The shape of a proposal.
 use Rattle.std.specs.Prelude.{◌≡◌, length}
 use Rattle.it_space.specs.declared.spaces.Space.{Space}
 use Rattle.it_space.specs.Spaces.{size_of}

@@ -1,5 +1,4 @@
 //! The linear program about a target, over closed sets.
-ghost use Rattle.it_space.specs.Problems.{IsProblem, problem_view};
 
 use crate::closures::{Closures, Companions, with, without};
 use crate::places::Places;
@@ -12,24 +11,24 @@ use it_elemental::{Elemental, count, parts};
 use it_space::{Constraint, Kind, Problem, Row, VarSet};
 use std::alloc::{AllocError, Global};
 
-/// The cost of the column of a constraint, and what the costs of inequalities are multiples of, each with a few bits more.
+/// The cost of the column of a constraint, and the number of which the costs of inequalities are multiples, both up to a few bits.
 const CONSTRAINT_COST: i64 = 256;
 
 const INEQUALITY_COST: i64 = 1024;
 
-/// A run from the basis of another one may take a step for so many of one from nothing.
+/// A run from the start may make this many times the steps of a run from the basis of an earlier one.
 const STEPS_FOR_ONE: u32 = 4;
 
-/// No number of a constraint or a target is larger.
+/// A bound on the numbers of constraints and targets.
 const MOST: u128 = 1 << 15;
 
-/// Six bits of a number, such that hardly two columns cost the same.
+/// Six bits by `number`, so that few columns have equal costs.
 fn mixed(number: usize) -> i64 {
     let bits = (number as u64).wrapping_mul(0x9E37_79B9_7F4A_7C15) >> 58;
     i64::from(bits as u8)
 }
 
-/// The number in 32 bits, where it is small.
+/// `number` in 32 bits; `None` if it is above `MOST` in absolute value.
 fn small(number: i128) -> Option<i32> {
     if number.unsigned_abs() <= MOST {
         i32::try_from(number).ok()
@@ -38,8 +37,8 @@ fn small(number: i128) -> Option<i32> {
     }
 }
 
-/// The column of an inequality over closed sets. None where it is 0, or that of another inequality: one set K for each closure is enough
-/// for I(X;Y|K). It costs the more, the later the set is that is given: so costs differ much, and hardly two columns cost the same.
+/// The column of an inequality over closed sets. `None` if it is 0, or that of another inequality: for I(X;Y|K) one set K for each
+/// closure is enough. The later the given set, the more the column costs: so costs differ much, and few columns have equal costs.
 fn inequality(
     closures: &Closures,
     places: &Places,
@@ -75,7 +74,7 @@ fn inequality(
     })
 }
 
-/// The entries of a row. None where a number is large.
+/// The entries of `row` at its places. `None` if a number is large.
 fn entries(alloc: Global, places: &Places, row: &Row) -> Result<Option<Vec<Entry>>, AllocError> {
     let mut entries = Vec::with_capacity(alloc, row.terms().len())?;
     for (coordinate, number) in row.terms() {
@@ -90,7 +89,7 @@ fn entries(alloc: Global, places: &Places, row: &Row) -> Result<Option<Vec<Entry
     Ok(Some(entries))
 }
 
-/// The entries with each sign turned.
+/// `entries`, negated.
 fn negated(alloc: Global, entries: &[Entry]) -> Result<Vec<Entry>, AllocError> {
     let mut negated = Vec::with_capacity(alloc, entries.len())?;
     for entry in entries {
@@ -102,20 +101,20 @@ fn negated(alloc: Global, entries: &[Entry]) -> Result<Vec<Entry>, AllocError> {
     Ok(negated)
 }
 
-/// The linear program of a problem over closed sets, and what is made of the closures.
+/// The linear program of a problem over closed sets, with the closures and their places.
 #[derive(Drop)]
 pub struct ClosedProgram {
     companions: Companions,
     pub closures: Closures,
     pub places: Places,
     pub program: Program,
-    // the basis at which the last run has ended, and the columns of constraints that were there
+    // the basis at which the last run ended, and the columns of constraints that it had
     last: Option<Vec<InverseRow>>,
     before: Vec<Column>,
 }
 
 impl ClosedProgram {
-    /// The program with the inequalities alone.
+    /// The program with the columns of the inequalities alone.
     pub fn read(
         alloc: Global,
         dependences: &Dependences,
@@ -137,12 +136,12 @@ impl ClosedProgram {
         Ok(closed)
     }
 
-    /// Whether it is that of these companions.
+    /// Whether the program is that of `companions`.
     pub fn is_of(&self, companions: &Companions) -> bool {
         self.companions.are(companions)
     }
 
-    /// Puts the columns of the inequalities.
+    /// Appends the columns of the inequalities.
     fn push_inequalities(&mut self, dependences: &Dependences) -> Result<(), AllocError> {
         let n = dependences.space().variables;
         for generator in 0..count(n) {
@@ -155,16 +154,13 @@ impl ClosedProgram {
         Ok(())
     }
 
-    /// Puts the columns of a problem's constraints and the right side of a target in the place of those that are there. False where a
-    /// number is large.
+    /// Replaces the columns of constraints by those of `problem`, and the right side by that of `target`. `false` if a number is large.
     pub fn pose(
         &mut self,
         alloc: Global,
         problem: &Problem,
         target: &Row,
-    ) -> Result<bool, AllocError>
-        requires { IsProblem (problem_view problem.now) }
-    {
+    ) -> Result<bool, AllocError> {
         let is_posed = self.put_constraints(alloc, problem)? && self.put_right(alloc, target)?;
         if !is_posed {
             // no run has these columns
@@ -173,14 +169,12 @@ impl ClosedProgram {
         Ok(is_posed)
     }
 
-    /// Puts the columns of a problem's constraints in the place of those that are there. False where a number is large.
-    fn put_constraints(&mut self, alloc: Global, problem: &Problem) -> Result<bool, AllocError>
-        requires { IsProblem (problem_view problem.now) }
-    {
+    /// Replaces the columns of constraints by those of `problem`. `false` if a number is large.
+    fn put_constraints(&mut self, alloc: Global, problem: &Problem) -> Result<bool, AllocError> {
         self.program.put_costs_back();
         self.before = std::mem::replace(&mut self.program.others, Vec::new(alloc));
-        let mut generator = count(problem.space.variables);
-        for constraint in problem.constraints.as_slice() {
+        let mut generator = count(problem.space().variables);
+        for constraint in problem.constraints() {
             if !self.push_constraint(alloc, constraint, generator)? {
                 return Ok(false);
             }
@@ -189,14 +183,15 @@ impl ClosedProgram {
         Ok(true)
     }
 
-    /// How a run about the target that was posed ends within so many steps, from nothing.
+    /// The end of a run about the target that was posed, from the start, within `steps` steps.
     pub fn run(&mut self, alloc: Global, steps: u32) -> Result<End, AllocError> {
         self.program.put_costs_back();
         let state = State::start(alloc, &self.program)?;
         self.run_from(alloc, state, steps)
     }
 
-    /// How the same run ends from the basis at which the last one has ended, within fewer steps. It gives up where there is none.
+    /// The end of a run about the target that was posed, from the basis at which the last run ended, within fewer steps than `steps`. It
+    /// gives up if there is no such basis.
     pub fn run_on(&mut self, alloc: Global, steps: u32) -> Result<End, AllocError> {
         let Some(rows) = self.last.take() else {
             return Ok(End::GaveUp);
@@ -207,7 +202,7 @@ impl ClosedProgram {
         }
     }
 
-    /// How a run ends from a state. Its basis is kept for the next, unless it gives up.
+    /// The end of a run from `state` within `steps` steps. Its basis is kept for the next run, unless it gives up.
     fn run_from(&mut self, alloc: Global, mut state: State, steps: u32) -> Result<End, AllocError> {
         let end = state.run(alloc, &self.program, steps)?;
         self.last = match end {
@@ -217,7 +212,7 @@ impl ClosedProgram {
         Ok(end)
     }
 
-    /// Puts the right side of a target. False where a number is large.
+    /// Replaces the right side by that of `target`. `false` if a number is large.
     fn put_right(&mut self, alloc: Global, target: &Row) -> Result<bool, AllocError> {
         let Some(entries) = entries(alloc, &self.places, target)? else {
             return Ok(false);
@@ -229,7 +224,7 @@ impl ClosedProgram {
         Ok(true)
     }
 
-    /// Puts the column of a constraint, and for an equation also the one with each sign turned. False where a number is large.
+    /// Appends the column of `constraint`, and for an equation also the negated column. `false` if a number is large.
     fn push_constraint(
         &mut self,
         alloc: Global,
@@ -249,7 +244,7 @@ impl ClosedProgram {
         Ok(true)
     }
 
-    /// Puts one column of a constraint.
+    /// Appends one column of a constraint.
     fn push(
         &mut self,
         entries: Vec<Entry>,

@@ -1,10 +1,10 @@
 //! Closures of all sets, by the functional dependences of a problem and by those that its rows imply.
 //!
-//! Take the sets that the rows of the problem and the target speak of, closed under the dependences, and the closures of the left
-//! sides of the dependences. Where each of these sets that has x also has y, no row tells whether x determines y, and the run takes
-//! it so. A polymatroid on the sets closed under both is one on all sets, where each set has the value of its closure, and it has the
-//! same values at the rows. So a variable that no line names, a time-sharing variable and variables that only come together cost
-//! nothing.
+//! Take the closures under the dependences of the sets at which the rows of the problem and the target have coefficients, and of the
+//! left sides of the dependences. If each of these sets that contains x also contains y, no row distinguishes whether x determines y,
+//! and the run assumes that it does. A polymatroid on the sets closed under both kinds of dependences gives one on all sets, where each
+//! set has the value of its closure, and the rows have the same values there. So a variable that no line names, a time-sharing
+//! variable, and variables that only occur together add no columns.
 ghost use Rattle.std.specs.Prelude.{◌≤◌};
 
 use crate::numbers::at;
@@ -12,31 +12,31 @@ use it_closure::Dependences;
 use it_space::{Problem, Row, VarSet};
 use std::alloc::{AllocError, Global};
 
-/// The set of the first variables.
+/// The set of the first `n` variables.
 fn first_variables(n: u8) -> VarSet
     requires { n ≤ 10 }
 {
     VarSet::from_number((1u16 << n) - 1)
 }
 
-/// The set with a variable.
+/// `set` with variable `i`.
 pub fn with(set: VarSet, i: u8) -> VarSet {
     set.union(VarSet::from_number(1u16.wrapping_shl(u32::from(i))))
 }
 
-/// The set without a variable.
+/// `set` without variable `i`.
 pub fn without(set: VarSet, i: u8) -> VarSet {
     set.minus(VarSet::from_number(1u16.wrapping_shl(u32::from(i))))
 }
 
-/// For each variable those that are in each set with it.
+/// For each variable its companions: those that are in every set that it is in.
 #[derive(Drop)]
 pub struct Companions {
     sets: Vec<VarSet>,
 }
 
 impl Companions {
-    /// The companions by the rows of a problem and a target.
+    /// The companions by the rows of `problem` and `target`.
     pub fn read(
         alloc: Global,
         dependences: &Dependences,
@@ -51,14 +51,14 @@ impl Companions {
         for dependence in dependences.list() {
             companions.meet(dependences.close(dependence.from));
         }
-        for constraint in problem.constraints.as_slice() {
+        for constraint in problem.constraints() {
             companions.meet_row(dependences, &constraint.row);
         }
         companions.meet_row(dependences, target);
         Ok(companions)
     }
 
-    /// Keeps for each member of a set those in the set.
+    /// For each member of `set`, keeps of its companions those in `set`.
     fn meet(&mut self, set: VarSet) {
         for i in 0..self.sets.len() {
             if has(set, i) {
@@ -67,7 +67,7 @@ impl Companions {
         }
     }
 
-    /// The same for each set of a row.
+    /// Like `meet`, for the closure of each set of `row`.
     fn meet_row(&mut self, dependences: &Dependences, row: &Row) {
         let sets = 1u32 << dependences.space().variables;
         for (coordinate, _) in row.terms() {
@@ -79,7 +79,7 @@ impl Companions {
         }
     }
 
-    /// A set with the companions of its members.
+    /// `set` with the companions of its members.
     fn joined(&self, set: VarSet) -> VarSet {
         let mut all = set;
         for i in 0..self.sets.len() {
@@ -90,13 +90,13 @@ impl Companions {
         all
     }
 
-    /// Whether others are the same.
+    /// Whether `others` are the same companions.
     pub fn are(&self, others: &Companions) -> bool {
         self.sets.as_slice() == others.sets.as_slice()
     }
 }
 
-/// Whether a set has a variable.
+/// Whether `set` has variable `i`.
 fn has(set: VarSet, i: usize) -> bool {
     match u8::try_from(i) {
         Ok(i) => set.has(i),
@@ -104,10 +104,10 @@ fn has(set: VarSet, i: usize) -> bool {
     }
 }
 
-/// The least set with this one that has what its subsets determine and the companions of its members.
+/// The least set that contains `set`, what its subsets determine, and the companions of its members.
 fn closure(dependences: &Dependences, companions: &Companions, set: VarSet) -> VarSet {
     let mut all = set;
-    // each turn but the last brings a new variable
+    // each round but the last adds a variable
     for _ in 0..=dependences.space().variables {
         let next = companions.joined(dependences.close(all));
         if next == all {
@@ -139,12 +139,12 @@ impl Closures {
         Ok(Closures { sets })
     }
 
-    /// The closure of a set.
+    /// The closure of `set`.
     pub fn of(&self, set: VarSet) -> VarSet {
         at(self.sets.as_slice(), usize::from(set.number()), set)
     }
 
-    /// Whether a set is its own closure.
+    /// Whether `set` is its own closure.
     pub fn is_closed(&self, set: VarSet) -> bool {
         self.of(set) == set
     }

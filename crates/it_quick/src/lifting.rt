@@ -1,10 +1,9 @@
 //! From weights of columns over closed sets to a certificate over all sets.
 //!
-//! A column over closed sets A, B and C, of I(X;Y|K), is I(A;B|A∩B) and what A∩B has more than C: a sum of elemental inequalities over
-//! sets as they are. What is left over at a set then moves to its closure by the dependences.
+//! A column of I(X;Y|K) over closed sets A, B and C is I(A;B|A∩B) plus h(A∩B) - h(C): a sum of elemental inequalities over all sets.
+//! The excess that is left at a set is then moved to its closure by the dependences.
 ghost use Rattle.std.specs.Prelude.{◌≡◌, ◌<◌, ◌≤◌, ◌^◌, bit_and};
 ghost use Rattle.std.specs.Bool.{OnTrue};
-ghost use Rattle.it_space.specs.Problems.{IsProblem, problem_view};
 
 use crate::closed::ClosedProgram;
 use crate::closures::{Closures, with, without};
@@ -20,7 +19,7 @@ use it_space::{Certificate, Problem, Row, RowFault, VarSet, with_product};
 use it_vectors::{common_divisor, short_product};
 use std::alloc::{AllocError, Global};
 
-/// Whether a set is one of n variables.
+/// Whether `set` is a set of the first `n` variables.
 fn is_below(n: u8, set: VarSet) -> bool
     requires { n ≤ 10 }
     ensures { OnTrue result (set < 2 ^ n) }
@@ -35,7 +34,7 @@ fn are_apart(a: VarSet, b: VarSet) -> bool
     a.meet(b).number() == 0
 }
 
-/// The numbers of the inequalities that sum to I(a; b | c), where the sets are apart.
+/// The numbers of the inequalities that sum to I(a; b | c), if the sets are disjoint; none otherwise.
 fn mutual(alloc: Global, n: u8, a: VarSet, b: VarSet, c: VarSet) -> Result<Vec<u32>, AllocError>
     requires some { 1 ≤ n }
     requires few { n ≤ 10 }
@@ -48,7 +47,7 @@ fn mutual(alloc: Global, n: u8, a: VarSet, b: VarSet, c: VarSet) -> Result<Vec<u
     Ok(Vec::new(alloc))
 }
 
-/// The numbers of the inequalities that sum to H(a | k), where the sets are apart.
+/// The numbers of the inequalities that sum to H(a | k), if the sets are disjoint; none otherwise.
 fn conditional(alloc: Global, n: u8, a: VarSet, k: VarSet) -> Result<Vec<u32>, AllocError>
     requires some { 1 ≤ n }
     requires few { n ≤ 10 }
@@ -59,26 +58,26 @@ fn conditional(alloc: Global, n: u8, a: VarSet, k: VarSet) -> Result<Vec<u32>, A
     Ok(Vec::new(alloc))
 }
 
-/// Whole numbers by place, while products are added to them.
+/// Whole numbers by place, to which products are added.
 #[derive(Drop)]
 struct Totals {
     items: Vec<i128>,
 }
 
 impl Totals {
-    /// A 0 at each of so many places.
+    /// Zeros at `count` places.
     fn zeros(alloc: Global, count: usize) -> Result<Totals, AllocError> {
         Ok(Totals {
             items: Vec::from_elem(alloc, 0i128, count)?,
         })
     }
 
-    /// The number at a place.
+    /// The number at `place`.
     fn at(&self, place: usize) -> i128 {
         at(self.items.as_slice(), place, 0)
     }
 
-    /// Adds a product, if there is the place.
+    /// Adds the product of `a` and `b` at `place`, if there is such a place.
     fn add(&mut self, place: usize, a: i128, b: i128) -> Result<(), Wide> {
         if place < self.items.len() {
             self.items[place] = with_product(self.items[place], a, b)?;
@@ -86,7 +85,7 @@ impl Totals {
         Ok(())
     }
 
-    /// Adds the same to each of some weights.
+    /// Adds `amount` at each of `places`.
     fn add_each(&mut self, places: &[u32], amount: i128) -> Result<(), Wide> {
         for place in places {
             self.add(*place as usize, amount, 1)?;
@@ -94,7 +93,7 @@ impl Totals {
         Ok(())
     }
 
-    /// Adds a row so many times.
+    /// Adds `times` times `row`.
     fn add_row(&mut self, row: &Row, times: i128) -> Result<(), Wide> {
         for (coordinate, number) in row.terms() {
             self.add(*coordinate as usize, *number, times)?;
@@ -103,7 +102,7 @@ impl Totals {
     }
 }
 
-/// Adds what h(to) has more than h(from), so many times.
+/// Adds `amount` times h(to) - h(from) to the weights.
 fn add_rise(
     alloc: Global,
     weights: &mut Totals,
@@ -120,7 +119,7 @@ fn add_rise(
     Ok(())
 }
 
-/// Adds h(a) + h(b) - h(a and b) - h(below), so many times, where the last set is in both.
+/// Adds `amount` times h(a) + h(b) - h(a∪b) - h(below) to the weights, where `below` is in both sets.
 fn add_pair(
     alloc: Global,
     weights: &mut Totals,
@@ -139,7 +138,7 @@ fn add_pair(
     add_rise(alloc, weights, n, below, both, amount)
 }
 
-/// Adds an inequality over closed sets, so many times.
+/// Adds `amount` times an inequality over closed sets.
 fn add_inequality(
     alloc: Global,
     weights: &mut Totals,
@@ -165,13 +164,13 @@ fn add_inequality(
     }
 }
 
-/// Adds the column of a constraint, so many times.
+/// Adds `amount` times the column of a constraint.
 fn add_constraint(weights: &mut Totals, column: &Column, amount: i128) -> Result<(), Wide> {
     let sign = if column.negated { -1 } else { 1 };
     weights.add(column.generator as usize, amount, sign)
 }
 
-/// Adds a column, so many times.
+/// Adds `amount` times column `column`.
 fn add_column(
     alloc: Global,
     weights: &mut Totals,
@@ -199,7 +198,7 @@ fn add_column(
     Ok(())
 }
 
-/// Adds what leads from a set over a dependence to a greater one.
+/// Adds `amount` times the generators that lead from `set` to its union with the set that `by` determines.
 fn add_turn(
     alloc: Global,
     weights: &mut Totals,
@@ -217,7 +216,7 @@ fn add_turn(
     Ok(())
 }
 
-/// Adds what leads from a set to its closure, one dependence after the other.
+/// Adds `amount` times the generators that lead from `set` to its closure, one dependence after the other.
 fn add_way(
     alloc: Global,
     weights: &mut Totals,
@@ -230,7 +229,7 @@ fn add_way(
     requires few { n ≤ 10 }
 {
     let mut all = set;
-    // each turn brings a new variable
+    // each round adds a variable
     for _ in 0..n {
         match first_open(list, all) {
             Some(open) => {
@@ -244,7 +243,7 @@ fn add_way(
     Ok(())
 }
 
-/// Moves what is left over at a set to its closure.
+/// Moves the excess at `set` to its closure.
 fn move_excess(
     alloc: Global,
     weights: &mut Totals,
@@ -263,7 +262,7 @@ fn move_excess(
     }
 }
 
-/// Moves what is left over at all sets. At the empty set is what evens out those with its closure.
+/// Moves the excesses at all sets to their closures. The one at the empty set is the negated sum of those at the sets with its closure.
 fn move_excesses(
     alloc: Global,
     weights: &mut Totals,
@@ -283,17 +282,15 @@ fn move_excesses(
     move_excess(alloc, weights, dependences, VarSet::empty(), empty)
 }
 
-/// What is left over at each set: the target so many times, less the weights times their generators.
+/// The excess at each set: `scale` times the target, less the weights times their generators.
 fn excesses(
     alloc: Global,
     problem: &Problem,
     target: &Row,
     scale: i128,
     weights: &Totals,
-) -> Result<Totals, RowFault>
-    requires { IsProblem (problem_view problem.now) }
-{
-    let n = problem.space.variables;
+) -> Result<Totals, RowFault> {
+    let n = problem.space().variables;
     let mut left = Totals::zeros(alloc, 1usize << n)?;
     left.add_row(target, scale)?;
     for generator in 0..count(n) {
@@ -303,14 +300,14 @@ fn excesses(
         }
     }
     let mut place = count(n) as usize;
-    for constraint in problem.constraints.as_slice() {
+    for constraint in problem.constraints() {
         left.add_row(&constraint.row, weights.at(place).wrapping_neg())?;
         place = place.saturating_add(1);
     }
     Ok(left)
 }
 
-/// The least common multiple of the denominators. None where it is large, or a denominator 0.
+/// The least common multiple of the denominators. `None` if it is large, or a denominator is 0.
 fn common_denominator(weights: &[ColumnWeight]) -> Option<u64> {
     let mut all: u64 = 1;
     for weight in weights {
@@ -322,7 +319,7 @@ fn common_denominator(weights: &[ColumnWeight]) -> Option<u64> {
     Some(all)
 }
 
-/// The weights other than 0, each after its generator.
+/// The nonzero weights, each after its generator's number.
 fn terms(alloc: Global, weights: &Totals) -> Result<Vec<(u32, i128)>, AllocError> {
     let mut terms = Vec::new(alloc);
     for place in 0..weights.items.len() {
@@ -336,28 +333,26 @@ fn terms(alloc: Global, weights: &Totals) -> Result<Vec<(u32, i128)>, AllocError
     Ok(terms)
 }
 
-/// The weights of the generators by those of columns, times a scale.
+/// The weights of the generators by those of columns, times `scale`.
 fn generator_weights(
     alloc: Global,
     problem: &Problem,
     closed: &ClosedProgram,
     weights: &[ColumnWeight],
     scale: u64,
-) -> Result<Totals, RowFault>
-    requires { IsProblem (problem_view problem.now) }
-{
+) -> Result<Totals, RowFault> {
     let mut all = Totals::zeros(alloc, generator_count(problem) as usize)?;
     for weight in weights {
         if weight.bottom != 0 {
             let amount = i128::from(scale / weight.bottom).wrapping_mul(i128::from(weight.number));
-            let n = problem.space.variables;
+            let n = problem.space().variables;
             add_column(alloc, &mut all, n, closed, weight.column, amount)?;
         }
     }
     Ok(all)
 }
 
-/// The certificate that weights of columns make. `Wide` where a number is large.
+/// The certificate by the weights of columns. `Wide` if a number is too large.
 pub fn certificate(
     alloc: Global,
     problem: &Problem,
@@ -365,9 +360,7 @@ pub fn certificate(
     closed: &ClosedProgram,
     target: &Row,
     weights: &[ColumnWeight],
-) -> Result<Certificate, RowFault>
-    requires { IsProblem (problem_view problem.now) }
-{
+) -> Result<Certificate, RowFault> {
     let Some(scale) = common_denominator(weights) else {
         return Err(RowFault::Wide);
     };

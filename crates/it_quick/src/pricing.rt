@@ -1,4 +1,4 @@
-//! Prices of the rows, at which no column costs less than nothing, and the column that enters.
+//! Prices of the rows, at which no column has a negative reduced cost, and the entering column.
 ghost use Rattle.std.specs.Prelude.{◌≡◌, ◌<◌, ◌≤◌, ◌^◌, unsigned_abs};
 
 use crate::numbers::at;
@@ -8,15 +8,15 @@ use it_vectors::numbers::greatest_size;
 use it_vectors::{Divisor, lowest_terms, narrow, product, short_product};
 use std::alloc::{AllocError, Global};
 
-/// No price is larger, and none is on the way to lowest terms.
+/// Bounds on prices: in lowest terms, and before they are put in lowest terms.
 const MOST_PRICE: u64 = 1 << 52;
 
 const MOST_ON_THE_WAY: u64 = 1 << 62;
 
-/// No denominator of prices is larger.
+/// A bound on the denominator of prices.
 const MOST_BOTTOM: u64 = 1 << 40;
 
-/// A column that may enter: its entry in the row that leaves, which is above 0, and what it costs.
+/// A column that may enter: its entry in the leaving row, which is above 0, and its reduced cost.
 #[derive(Clone, Copy)]
 pub struct Entering {
     pub column: usize,
@@ -25,7 +25,7 @@ pub struct Entering {
 }
 
 impl Entering {
-    /// Whether it costs less for each unit of its entry than another one.
+    /// Whether the column costs less than `other`, for each unit of its entry.
     #[inline]
     fn is_cheaper(&self, other: &Entering) -> bool {
         let own = i128::from(self.cost).wrapping_mul(i128::from(other.entry));
@@ -33,7 +33,7 @@ impl Entering {
     }
 }
 
-/// The cheaper one of the best so far and another one; the best so far, where they cost the same.
+/// The cheaper of `best`, the best so far, and `other`; `best` if they cost the same.
 #[inline]
 fn cheaper(best: Option<Entering>, other: Entering) -> Option<Entering> {
     match best {
@@ -42,7 +42,7 @@ fn cheaper(best: Option<Entering>, other: Entering) -> Option<Entering> {
     }
 }
 
-/// The price of a row, by another factor, with a multiple of a number added. None where it is large.
+/// `price` times `factor` plus `number` times `times`. `None` if it is large.
 fn raised(price: i64, factor: i64, number: i32, times: i64) -> Option<i64> {
     let sum = product(price, factor).checked_add(product(i64::from(number), times))?;
     narrow(sum, MOST_ON_THE_WAY)
@@ -56,7 +56,7 @@ pub struct Prices {
 }
 
 impl Prices {
-    /// All prices 0, of so many places.
+    /// Prices of 0 at `width` places.
     pub fn start(alloc: Global, width: usize) -> Result<Prices, AllocError> {
         Ok(Prices {
             numbers: Vec::from_elem(alloc, 0i64, width)?,
@@ -64,12 +64,13 @@ impl Prices {
         })
     }
 
-    /// The denominator as a number with a sign.
+    /// The denominator as a signed number.
     fn signed_bottom(&self) -> i64 {
         i64::try_from(self.bottom).unwrap_or(i64::MAX)
     }
 
-    /// The column that enters for a row: the first of those with an entry above 0 that cost least for each unit of it.
+    /// The entering column for the leaving row `row`: of the columns with an entry above 0, the first that costs least for each unit of
+    /// its entry. `None` if there is no such column.
     pub fn cheapest(&self, program: &Program, row: &[i32]) -> Option<Entering> {
         let prices = self.numbers.as_slice();
         let bottom = self.signed_bottom();
@@ -91,7 +92,7 @@ impl Prices {
         best
     }
 
-    /// Raises the prices along a row until the column that enters costs nothing. False where a number becomes too large.
+    /// Raises the prices along `row` until the entering column has reduced cost 0. `false` if a number becomes too large.
     pub fn raise(&mut self, row: &[i32], entering: Entering) -> bool {
         if entering.entry < 1 || entering.cost == i64::MIN {
             return false;
@@ -112,7 +113,7 @@ impl Prices {
         self.bottom <= MOST_BOTTOM && greatest_size(self.numbers.as_slice()) <= MOST_PRICE
     }
 
-    /// Puts the prices over a denominator, in lowest terms.
+    /// Puts the prices over the denominator `bottom`, in lowest terms.
     fn put_over(&mut self, bottom: u64) {
         self.bottom = bottom;
         if bottom <= 1 {
@@ -129,7 +130,7 @@ impl Prices {
     }
 }
 
-/// The quotient of a price.
+/// The quotient of `price` by `shared`.
 fn quotient(price: i64, shared: &Divisor) -> i64
     requires { 0 < shared.now.value }
 {

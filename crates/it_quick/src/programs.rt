@@ -1,5 +1,5 @@
 //! The linear program of a run: which weights of its columns, none of them below 0, sum to its right side at least cost?
-//! Its rows are places from 2 on. At place 0, that of a set without entropy, stands 0; place 1 is that of the right side.
+//! Its rows are the places from 2 on. Place 0 is that of sets without entropy, and has the number 0; place 1 is the right side.
 
 use crate::numbers::{at, number_at};
 use std::alloc::{AllocError, Global};
@@ -17,7 +17,7 @@ pub struct Inequality {
 }
 
 impl Inequality {
-    /// Its value at a row.
+    /// The column's entry in `row`, a row of the inverse.
     #[inline]
     pub fn value(&self, row: &[i32]) -> i64 {
         let plus = number_at(row, self.plus).wrapping_add(number_at(row, self.other_plus));
@@ -25,7 +25,7 @@ impl Inequality {
         plus.wrapping_sub(minus)
     }
 
-    /// Its value at prices.
+    /// The column's value at `prices`.
     #[inline]
     pub fn price(&self, prices: &[i64]) -> i64 {
         let plus = price_at(prices, self.plus).wrapping_add(price_at(prices, self.other_plus));
@@ -34,13 +34,13 @@ impl Inequality {
     }
 }
 
-/// The price at a place.
+/// The price at `place`.
 #[inline]
 fn price_at(prices: &[i64], place: u16) -> i64 {
     at(prices, usize::from(place), 0)
 }
 
-/// A number other than 0 of a column at a place.
+/// A nonzero number of a column, and its place.
 #[derive(Clone, Copy, PartialEq, Eq)]
 pub struct Entry {
     pub place: u16,
@@ -54,17 +54,17 @@ pub struct Column {
     pub cost: i64,
     /// The number of the constraint among the generators of the problem.
     pub generator: u32,
-    /// Whether the column is the constraint's with each sign turned.
+    /// Whether the column is the constraint's, negated.
     pub negated: bool,
 }
 
 impl Column {
-    /// Whether it has the entries of another one.
+    /// Whether the column has the same entries as `other`.
     pub fn is_alike(&self, other: &Column) -> bool {
         self.entries.as_slice() == other.entries.as_slice()
     }
 
-    /// Its value at a row.
+    /// The column's entry in `row`, a row of the inverse.
     pub fn value(&self, row: &[i32]) -> i64 {
         let mut sum: i64 = 0;
         for entry in self.entries.as_slice() {
@@ -74,7 +74,7 @@ impl Column {
         sum
     }
 
-    /// Its value at prices.
+    /// The column's value at `prices`.
     pub fn price(&self, prices: &[i64]) -> i64 {
         let mut sum: i64 = 0;
         for entry in self.entries.as_slice() {
@@ -92,12 +92,12 @@ pub struct Program {
     pub others: Vec<Column>,
     /// The right side at each place.
     pub right: Vec<i32>,
-    // columns that cost nothing for now, each with what it costs else
+    // columns that have cost 0 for now, each with its own cost
     waived: Vec<(usize, i64)>,
 }
 
 impl Program {
-    /// The program without columns, whose right side is 0.
+    /// The program of `width` places without columns, whose right side is 0.
     pub fn new(alloc: Global, width: usize) -> Result<Program, AllocError> {
         Ok(Program {
             inequalities: Vec::new(alloc),
@@ -112,7 +112,7 @@ impl Program {
         self.right.len()
     }
 
-    /// Adds to the right side.
+    /// Adds `entry` to the right side.
     pub fn add_right(&mut self, entry: &Entry) {
         let place = usize::from(entry.place);
         if place < self.right.len() {
@@ -125,13 +125,13 @@ impl Program {
         self.inequalities.len().saturating_add(self.others.len())
     }
 
-    /// A column that isn't an inequality's.
+    /// Column `column`, if it isn't an inequality's.
     pub fn other(&self, column: usize) -> Option<&Column> {
         self.others
             .get(column.wrapping_sub(self.inequalities.len()))
     }
 
-    /// The entry of a column in a row.
+    /// The entry of column `column` in `row`.
     #[inline]
     pub fn entry(&self, column: usize, row: &[i32]) -> i64 {
         if column < self.inequalities.len() {
@@ -143,14 +143,14 @@ impl Program {
         }
     }
 
-    /// What a column costs at prices over a denominator, times this.
+    /// The reduced cost of a column at `prices` over the denominator `bottom`, times `bottom`.
     #[inline]
     pub fn reduced_cost(&self, column: usize, prices: &[i64], bottom: i64) -> i64 {
         let (cost, price) = self.cost_and_price(column, prices);
         bottom.wrapping_mul(cost).wrapping_sub(price)
     }
 
-    /// Lets a column cost nothing, until the costs are put back.
+    /// Sets the cost of a column to 0, until `put_costs_back` is called.
     pub fn waive_cost(&mut self, column: usize) -> Result<(), AllocError> {
         let cost = self.replace_cost(column, 0);
         if cost != 0 {
@@ -159,7 +159,7 @@ impl Program {
         Ok(())
     }
 
-    /// Lets each column cost again what it costs else.
+    /// Sets the cost of each column to its own again.
     pub fn put_costs_back(&mut self) {
         for k in 0..self.waived.len() {
             if let Some(waived) = self.waived.get(k) {
@@ -170,7 +170,7 @@ impl Program {
         self.waived.clear();
     }
 
-    /// Puts a cost in the place of a column's own, which is answered; 0 where there is no such column.
+    /// Sets the cost of a column to `cost`, and returns the old one; 0 if there is no such column.
     fn replace_cost(&mut self, column: usize, cost: i64) -> i64 {
         let first = self.inequalities.len();
         let place = column.wrapping_sub(first);
@@ -183,7 +183,7 @@ impl Program {
         }
     }
 
-    /// A column's own cost, and its value at prices.
+    /// A column's cost, and its value at `prices`.
     #[inline]
     fn cost_and_price(&self, column: usize, prices: &[i64]) -> (i64, i64) {
         if column < self.inequalities.len() {

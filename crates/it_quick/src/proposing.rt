@@ -1,8 +1,7 @@
-//! What a run proposes about a target.
+//! The proposals of a run about a target.
 ghost use Rattle.std.specs.Prelude.{◌≡◌, All, IfOk, length};
 ghost use Rattle.std.specs.Option.{IfSome};
 ghost use Rattle.it_number.specs.Limit.{IsWithin};
-ghost use Rattle.it_space.specs.Problems.{IsProblem, problem_view};
 ghost use Rattle.it_space.specs.Spaces.{IsSpace, size_of};
 ghost use Rattle.it_quick.specs.Proposals.{IsOfSpace};
 
@@ -16,23 +15,23 @@ use it_closure::Dependences;
 use it_space::{Certificate, Point, Problem, Row, RowFault, Space};
 use std::alloc::{AllocError, Global};
 
-/// What is proposed about a target. Nothing says that it is right.
+/// A proposal about a target. It may be wrong.
 #[derive(Drop)]
 pub enum Proposal {
-    /// A certificate of it.
+    /// A certificate of the target.
     Yes(Certificate),
-    /// A point that refutes it.
+    /// A point that refutes the target.
     No(Point),
 }
 
-/// The value at a place.
+/// The value at `place`.
 fn value_at(values: &[i32], place: u16) -> i128
     ensures { IsWithin result }
 {
     i128::from(number_at(values, place))
 }
 
-/// The value of each coordinate, that at its place.
+/// The values of all `size` coordinates: each has the value at its place.
 fn spread(
     alloc: Global,
     places: &Places,
@@ -48,7 +47,7 @@ fn spread(
     Ok(out)
 }
 
-/// The point of values, where there is one for each coordinate.
+/// The point of `values`, if there is one for each coordinate.
 fn point(space: Space, values: Vec<i128>) -> Option<Proposal>
     requires space { IsSpace space }
     requires within { All IsWithin values.items }
@@ -61,7 +60,7 @@ fn point(space: Space, values: Vec<i128>) -> Option<Proposal>
     }
 }
 
-/// What weights of columns propose: nothing, where a number is large.
+/// The proposal by weights of columns; `None` if a number is too large.
 fn by_weights(
     alloc: Global,
     problem: &Problem,
@@ -70,7 +69,6 @@ fn by_weights(
     target: &Row,
     weights: &[ColumnWeight],
 ) -> Result<Option<Proposal>, AllocError>
-    requires { IsProblem (problem_view problem.now) }
     ensures { IfOk result (λ o. IfSome o (IsOfSpace problem.now.space)) }
 {
     match certificate(alloc, problem, dependences, closed, target, weights) {
@@ -80,21 +78,20 @@ fn by_weights(
     }
 }
 
-/// What values at places propose.
+/// The proposal by values at places.
 fn by_values(
     alloc: Global,
     problem: &Problem,
     places: &Places,
     values: &[i32],
 ) -> Result<Option<Proposal>, AllocError>
-    requires { IsProblem (problem_view problem.now) }
     ensures { IfOk result (λ o. IfSome o (IsOfSpace problem.now.space)) }
 {
-    let values = spread(alloc, places, values, problem.space.size())?;
-    Ok(point(problem.space, values))
+    let values = spread(alloc, places, values, problem.size())?;
+    Ok(point(problem.space(), values))
 }
 
-/// What the end of a run proposes.
+/// The proposal by the end of a run; `None` if it gave up.
 fn by_end(
     alloc: Global,
     problem: &Problem,
@@ -103,7 +100,6 @@ fn by_end(
     target: &Row,
     end: End,
 ) -> Result<Option<Proposal>, AllocError>
-    requires { IsProblem (problem_view problem.now) }
     ensures { IfOk result (λ o. IfSome o (IsOfSpace problem.now.space)) }
 {
     match end {
@@ -122,8 +118,8 @@ fn by_end(
     }
 }
 
-/// What a run of at most so many steps proposes about a target, where the program's inequalities are there. It begins at the last basis,
-/// and once more from nothing where it then proposes nothing.
+/// The proposal of a run of at most `steps` steps about `target`, by the program `closed`. The run begins at the last basis, and if it
+/// then proposes nothing, again from the start.
 fn by_run(
     alloc: Global,
     problem: &Problem,
@@ -132,7 +128,6 @@ fn by_run(
     target: &Row,
     steps: u32,
 ) -> Result<Option<Proposal>, AllocError>
-    requires { IsProblem (problem_view problem.now) }
     ensures { IfOk result (λ o. IfSome o (IsOfSpace problem.now.space)) }
 {
     if !closed.pose(alloc, problem, target)? {
@@ -147,7 +142,7 @@ fn by_run(
     by_end(alloc, problem, dependences, closed, target, end)
 }
 
-/// A problem about whose targets runs are made. What is made for one target is kept for the next, as far as that is the same.
+/// A problem about whose targets runs are made. The program of one target is kept for the next, which may have the same.
 #[derive(Drop)]
 pub struct QuickProblem {
     dependences: Dependences,
@@ -156,16 +151,14 @@ pub struct QuickProblem {
 
 impl QuickProblem {
     /// The problem before the first run.
-    pub fn read(alloc: Global, problem: &Problem) -> Result<QuickProblem, AllocError>
-        requires { IsProblem (problem_view problem.now) }
-    {
+    pub fn read(alloc: Global, problem: &Problem) -> Result<QuickProblem, AllocError> {
         Ok(QuickProblem {
             dependences: Dependences::read(alloc, problem)?,
             kept: None,
         })
     }
 
-    /// The program of a target's companions: the one that is kept, where it is that.
+    /// The program of `companions`: the one that was kept, if it is theirs, else a new one.
     fn program(
         &mut self,
         alloc: Global,
@@ -179,8 +172,8 @@ impl QuickProblem {
         ClosedProgram::read(alloc, &self.dependences, companions)
     }
 
-    /// A certificate of the target or a point that refutes it, which a run of at most so many steps proposes. A point has a value for
-    /// each coordinate; no clause says more, so whoever asks has to check it. Under another problem than the one that was read the
+    /// A certificate of `target` or a point that refutes it, proposed by a run of at most `steps` steps. A point has a value for each
+    /// coordinate; the contract says no more, so the caller has to check the proposal. If `problem` isn't the one that was read, the
     /// dependences are still those of that one.
     pub fn propose(
         &mut self,
@@ -189,7 +182,6 @@ impl QuickProblem {
         target: &Row,
         steps: u32,
     ) -> Result<Option<Proposal>, AllocError>
-        requires { IsProblem (problem_view problem.now) }
         ensures { IfOk result (λ o. IfSome o (IsOfSpace problem.now.space)) }
     {
         let companions = Companions::read(alloc, &self.dependences, problem, target)?;

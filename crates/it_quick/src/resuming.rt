@@ -1,18 +1,18 @@
-//! The state in which a run begins at the basis of another one, about another right side and among other columns.
+//! The state in which a run begins at the basis of an earlier one, with another right side and other columns.
 //!
-//! Inequalities stay under their numbers, and the column of a constraint is found by its entries. A basic column that isn't there any more
-//! stays basic, as an artificial one that has to leave. What columns cost is ours to say: nothing has a price at first, and
-//! with basic columns that cost nothing no column costs less than nothing.
+//! Inequalities keep their numbers, and the column of a constraint is found by its entries. A basic column that no longer exists stays
+//! basic, as an artificial one that has to leave. Costs may be chosen freely: all prices are 0 at first, and as the basic columns are
+//! given cost 0, no column has a negative reduced cost.
 
 use crate::programs::{Column, Program};
 use crate::rows::InverseRow;
 use crate::running::State;
 use std::alloc::{AllocError, Global};
 
-/// Where a column moves, it is mostly by no more places than these.
+/// A column that has moved has mostly moved by at most this many places.
 const NEAR: usize = 2;
 
-/// Where a column with the same entries stands from one place on up to another.
+/// The place, in the range from `from` up to `to`, `to` excluded, of a column with the same entries as `column`.
 fn found(columns: &[Column], column: &Column, from: usize, to: usize) -> Option<usize> {
     for place in from..to {
         if columns.get(place)?.is_alike(column) {
@@ -22,7 +22,7 @@ fn found(columns: &[Column], column: &Column, from: usize, to: usize) -> Option<
     None
 }
 
-/// Where a column that stood at a place stands now.
+/// The present place of `column`, which was at `place`.
 fn place_now(columns: &[Column], column: &Column, place: usize) -> Option<usize> {
     let near = place.saturating_sub(NEAR);
     match found(columns, column, near, columns.len()) {
@@ -31,7 +31,7 @@ fn place_now(columns: &[Column], column: &Column, place: usize) -> Option<usize>
     }
 }
 
-/// The number under which a column goes now. None where it isn't there any more.
+/// The present number of the column that had the number `number`. `None` if it no longer exists.
 fn number_now(program: &Program, before: &[Column], number: usize) -> Option<usize> {
     let first = program.inequalities.len();
     if number < first {
@@ -42,7 +42,7 @@ fn number_now(program: &Program, before: &[Column], number: usize) -> Option<usi
     Some(first.wrapping_add(now))
 }
 
-/// Puts the numbers of columns and the right side of a program into a row. False where its value is too large.
+/// Updates a row to the numbers of columns and the right side of `program`. `false` if its right side is too large.
 fn put_row(row: &mut InverseRow, before: &[Column], program: &Program) -> bool {
     if let Some(number) = row.basic() {
         row.rename(number_now(program, before, number));
@@ -50,8 +50,8 @@ fn put_row(row: &mut InverseRow, before: &[Column], program: &Program) -> bool {
     row.put_right(program.right.as_slice())
 }
 
-/// The state at a basis of another program, which has the same inequalities and had these other columns. None where a number is too
-/// large.
+/// The state of `program` at the basis of an earlier one, which had the same inequalities and the other columns `before`. `None` if a
+/// number is too large.
 pub fn resumed(
     alloc: Global,
     mut rows: Vec<InverseRow>,

@@ -1,6 +1,6 @@
 //! Rows of the inverse of a basis: whole numbers in 32 bits over one denominator.
 //!
-//! A row has a number at each place of the program. At place 0 stands 0, at place `RIGHT` the row's value at the right side.
+//! A row has a number at each place of the program: at place 0 the number 0, and at place `RIGHT` the row's value at the right side.
 ghost use Rattle.std.specs.Prelude.{◌≡◌};
 ghost use Rattle.std.specs.Option.{IfNone};
 
@@ -15,15 +15,15 @@ use std::marker::Model;
 /// The place of the right side.
 pub const RIGHT: usize = 1;
 
-/// No number of a row is larger.
+/// A bound on the numbers of rows.
 const LIMIT: u64 = (1 << 31) - 1;
 
-/// A row is put in lowest terms once its denominator or its numbers are larger: to go through a whole row for that is dear.
+/// A row is put in lowest terms only if its denominator or its numbers are above these bounds, as that takes a pass over the row.
 const LARGE_BOTTOM: u64 = 1 << 12;
 
 const LARGE: u64 = 1 << 20;
 
-/// The sum of the squares, modulo 2^64.
+/// The sum of the squares of `numbers`, modulo 2^64.
 fn sum_of_squares(numbers: &[i32]) -> u64 {
     let mut sum: u64 = 0;
     for k in 0..numbers.len() {
@@ -33,7 +33,7 @@ fn sum_of_squares(numbers: &[i32]) -> u64 {
     sum
 }
 
-/// The value of numbers at a right side. None where it is large.
+/// The value of a row's `numbers` at the right side `right`. `None` if it is large.
 fn value_at(numbers: &[i32], right: &[i32]) -> Option<i32> {
     let mut sum: i128 = 0;
     for k in RIGHT + 1..right.len() {
@@ -43,8 +43,8 @@ fn value_at(numbers: &[i32], right: &[i32]) -> Option<i32> {
     i32::try_from(sum).ok()
 }
 
-/// Divides the numbers and their denominator by what all have in common. The smaller denominator; None where there is none, and then
-/// the numbers stay.
+/// Divides `numbers` and their denominator `bottom` by their greatest common divisor, and returns the new denominator. `None` if the
+/// divisor is 1, and then the numbers are unchanged.
 fn shorten(numbers: &mut [i32], bottom: u64) -> Option<u64>
     ensures { IfNone result (numbers.new ≡ numbers.old) }
 {
@@ -59,14 +59,14 @@ fn shorten(numbers: &mut [i32], bottom: u64) -> Option<u64>
     Some(shared.size_quotient(bottom))
 }
 
-/// A row of the inverse.
+/// A row of the inverse of a basis.
 #[derive(Drop)]
 pub struct InverseRow {
     numbers: Vec<i32>,
     bottom: u64,
-    // no number is greater in absolute value
+    // a bound on the absolute values of the numbers
     most: u64,
-    // the sum of the squares of the numbers, of which only the choice of a row makes use
+    // the sum of the squares of the numbers, which only the choice of a row uses
     squares: u64,
     basic: Option<usize>,
 }
@@ -83,7 +83,7 @@ impl Model for InverseRow {
 }
 
 impl InverseRow {
-    /// The row of the unit matrix with its 1 at a place, of so many places, whose right side is this number.
+    /// The row of the identity matrix with its 1 at `place`, of `width` places, with right side `right`.
     pub fn unit(
         alloc: Global,
         width: usize,
@@ -108,7 +108,7 @@ impl InverseRow {
         })
     }
 
-    /// The numbers, before they are divided.
+    /// The numbers, which are numerators over the denominator.
     pub fn numbers(&self) -> &[i32] {
         self.numbers.as_slice()
     }
@@ -118,18 +118,17 @@ impl InverseRow {
         self.bottom
     }
 
-    /// The column that is basic in this row; none where that is an artificial one.
+    /// The column that is basic in this row; `None` if that is an artificial one.
     pub fn basic(&self) -> Option<usize> {
         self.basic
     }
 
-    /// The right side, before it is divided.
+    /// The right side, a numerator over the denominator.
     pub fn right(&self) -> i32 {
         at(self.numbers.as_slice(), RIGHT, 0)
     }
 
-    /// How far the row is from what it should be: its right side, where that is below 0, or other than 0 though an artificial column
-    /// is basic; else 0.
+    /// The infeasibility of the row: its right side, if that is below 0, or if an artificial column is basic; else 0.
     pub fn fault(&self) -> i32 {
         let right = self.right();
         if right > 0 && self.basic.is_some() {
@@ -139,12 +138,12 @@ impl InverseRow {
         }
     }
 
-    /// Takes another column for the basic one; with none the basic one has to leave, as an artificial one.
+    /// Replaces the basic column by `column`; if that is `None`, the basic column has to leave, like an artificial one.
     pub fn rename(&mut self, column: Option<usize>) {
         self.basic = column;
     }
 
-    /// Puts the value at another right side in the place of the row's. False where it is too large: then the row stays.
+    /// Replaces the row's right side by its value at the right side `right`. `false` if that is too large: then the row is unchanged.
     pub fn put_right(&mut self, right: &[i32]) -> bool {
         let Some(value) = value_at(self.numbers.as_slice(), right) else {
             return false;
@@ -162,8 +161,8 @@ impl InverseRow {
         self.squares
     }
 
-    /// The row after another one has left, with this entry in the column that enters. False where a number would be too large: then
-    /// the row stays.
+    /// Updates the row in a step in which `leaving` leaves, where this row has `entry` in the entering column. `false` if a number would
+    /// be too large: then the row is unchanged.
     pub fn update(&mut self, leaving: &LeavingRow, entry: i64) -> bool {
         if leaving.pivot < 1 || entry == i64::MIN || self.numbers.len() != leaving.numbers.len() {
             return false;
@@ -194,7 +193,7 @@ impl InverseRow {
         true
     }
 
-    /// Divides the numbers and the denominator by what all have in common. False where that is nothing.
+    /// Divides the numbers and the denominator by their greatest common divisor. `false` if that is 1.
     pub fn put_in_lowest_terms(&mut self) -> bool {
         match shorten(self.numbers.as_mut_slice(), self.bottom) {
             Some(smaller) => {
@@ -206,7 +205,7 @@ impl InverseRow {
         }
     }
 
-    /// The row that has left, in which a column is now basic.
+    /// Replaces the row by `leaving`, the row that has left, in which `column` is now basic.
     pub fn leave(&mut self, leaving: LeavingRow, column: usize) {
         let LeavingRow {
             numbers,
@@ -223,14 +222,14 @@ impl InverseRow {
     }
 }
 
-/// A row that leaves, with its signs such that its right side is above 0.
+/// The leaving row, negated if needed so that its right side is above 0.
 #[derive(Drop)]
 pub struct LeavingRow {
     numbers: Vec<i32>,
-    // its entry in the column that enters, and its denominator once it has left
+    // its entry in the entering column, and its denominator once it has left
     pivot: i64,
     most: u64,
-    // where the stretches begin outside of which the row is 0, and whether that is noted
+    // where the stretches begin outside of which the row is 0, and whether that is known
     starts: Vec<usize>,
     noted: bool,
 }
@@ -249,7 +248,7 @@ impl Model for LeavingRow {
 }
 
 impl LeavingRow {
-    /// The row before a column is chosen.
+    /// The leaving row `row`, before an entering column is chosen.
     pub fn new(alloc: Global, row: &InverseRow) -> Result<LeavingRow, AllocError> {
         let mut numbers = Vec::from_slice(alloc, row.numbers())?;
         if row.right() < 0 {
@@ -271,7 +270,7 @@ impl LeavingRow {
         self.numbers.as_slice()
     }
 
-    /// Divides the row by its entry in the column that enters, which is above 0.
+    /// Divides the row by `entry`, its entry in the entering column, which is above 0.
     pub fn divide_by(&mut self, entry: i64) {
         self.noted = false;
         let bottom = entry.unsigned_abs();
@@ -281,8 +280,8 @@ impl LeavingRow {
         self.noted = note_stretches(self.numbers.as_slice(), &mut self.starts);
     }
 
-    /// The point at which no column is below 0, where no column can enter, and the right side is: the numbers without a common
-    /// divisor, with each sign turned.
+    /// If no column can enter, the point at which no column is below 0 and the right side is: the negated numbers, divided by a common
+    /// divisor.
     pub fn point(self) -> Vec<i32> {
         let mut numbers = self.numbers;
         let right = at(numbers.as_slice(), RIGHT, 0);
@@ -292,7 +291,7 @@ impl LeavingRow {
     }
 }
 
-/// Turns the signs.
+/// Negates `numbers`.
 fn negate(numbers: &mut [i32]) {
     for k in 0..numbers.len() {
         numbers[k] = numbers[k].wrapping_neg();

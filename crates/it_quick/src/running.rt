@@ -1,4 +1,4 @@
-//! The dual simplex method: at prices for which no column costs less than nothing, a row that isn't as it should be leaves in each step.
+//! The dual simplex method: at prices for which no column has a negative reduced cost, an infeasible row leaves in each step.
 
 use crate::numbers::at;
 use crate::pricing::{Entering, Prices};
@@ -8,18 +8,18 @@ use it_vectors::lowest_terms;
 use it_vectors::narrow_numbers::STRETCH;
 use std::alloc::{AllocError, Global};
 
-/// How a run ends.
+/// The end of a run.
 #[derive(Drop)]
 pub enum End {
-    /// By weights of columns that sum to the right side.
+    /// Weights of columns that sum to the right side.
     Weights(Vec<ColumnWeight>),
-    /// By values at the places at which no column is below 0, and the right side is.
+    /// Values at the places, at which no column is below 0 and the right side is.
     Point(Vec<i32>),
-    /// By a number that is too large, or for want of steps.
+    /// A number was too large, or there were too many steps.
     GaveUp,
 }
 
-/// The weight of a column, a number over a denominator.
+/// The weight of a column: `number` over the denominator `bottom`.
 #[derive(Clone, Copy)]
 pub struct ColumnWeight {
     pub column: usize,
@@ -34,7 +34,7 @@ pub struct State {
     prices: Prices,
 }
 
-/// A row that isn't as it should be.
+/// An infeasible row.
 #[derive(Clone, Copy)]
 struct Faulty {
     index: usize,
@@ -42,21 +42,21 @@ struct Faulty {
     squares: u64,
 }
 
-/// The square of a number.
+/// The square of `x`.
 fn square(x: i32) -> u128 {
     let size = u128::from(x.unsigned_abs());
     size.wrapping_mul(size)
 }
 
 impl Faulty {
-    /// Whether it is steeper than another one: the square of its fault over the sum of its squares is greater.
+    /// Whether the row is steeper than `other`: the square of its fault over the sum of its squares is greater.
     fn is_steeper(&self, other: &Faulty) -> bool {
         let own = square(self.fault).wrapping_mul(u128::from(other.squares));
         square(other.fault).wrapping_mul(u128::from(self.squares)) < own
     }
 }
 
-/// The steeper one of the best so far and another one; the best so far, where they are alike.
+/// The steeper of `best`, the best so far, and `other`; `best` if they are equally steep.
 fn steeper(best: Option<Faulty>, other: Faulty) -> Option<Faulty> {
     match best {
         Some(faulty) => {
@@ -70,7 +70,7 @@ fn steeper(best: Option<Faulty>, other: Faulty) -> Option<Faulty> {
     }
 }
 
-/// The first of the steepest rows at fault.
+/// The first of the steepest infeasible rows; `None` if all rows are feasible.
 fn steepest(rows: &[InverseRow]) -> Option<Faulty> {
     let mut best: Option<Faulty> = None;
     for index in 0..rows.len() {
@@ -90,7 +90,7 @@ fn steepest(rows: &[InverseRow]) -> Option<Faulty> {
     best
 }
 
-/// The weight of a column that is basic in a row, in lowest terms. None where no column is, or its weight is 0.
+/// The weight of the column that is basic in `row`, in lowest terms. `None` if an artificial column is, or the weight is 0.
 fn weight(row: &InverseRow) -> Option<ColumnWeight> {
     let column = row.basic()?;
     let bottom = i64::try_from(row.bottom()).ok()?;
@@ -105,7 +105,7 @@ fn weight(row: &InverseRow) -> Option<ColumnWeight> {
     })
 }
 
-/// The weights of the columns that are basic.
+/// The end by weights: those of the basic columns.
 fn weights(alloc: Global, rows: &[InverseRow]) -> Result<End, AllocError> {
     let mut weights = Vec::new(alloc);
     for row in rows {
@@ -117,7 +117,7 @@ fn weights(alloc: Global, rows: &[InverseRow]) -> Result<End, AllocError> {
 }
 
 impl State {
-    /// The start: the artificial columns are basic, and nothing has a price.
+    /// The start: the artificial columns are basic, and all prices are 0.
     pub fn start(alloc: Global, program: &Program) -> Result<State, AllocError> {
         let width = program.width();
         // whole stretches
@@ -130,7 +130,7 @@ impl State {
         State::at_basis(alloc, program, rows)
     }
 
-    /// The state at the basis of these rows, in which nothing has a price.
+    /// The state at the basis of `rows`, with all prices 0.
     pub fn at_basis(
         alloc: Global,
         program: &Program,
@@ -140,12 +140,12 @@ impl State {
         Ok(State { rows, prices })
     }
 
-    /// The rows of the inverse of its basis.
+    /// Consumes the state and returns the rows of the inverse of its basis.
     pub fn into_rows(self) -> Vec<InverseRow> {
         self.rows
     }
 
-    /// How the run ends within so many steps.
+    /// The end of the run within `steps` steps.
     pub fn run(&mut self, alloc: Global, program: &Program, steps: u32) -> Result<End, AllocError> {
         for _ in 0..steps {
             if let Some(end) = self.step(alloc, program)? {
@@ -155,7 +155,7 @@ impl State {
         Ok(End::GaveUp)
     }
 
-    /// Puts a column into the basis in place of that of a row. False where a number becomes too large.
+    /// Makes `column` basic in row `index`, which becomes `leaving`, and updates the other rows. `false` if a number becomes too large.
     fn pivot(
         &mut self,
         program: &Program,
@@ -177,7 +177,7 @@ impl State {
         }
     }
 
-    /// Lets a row leave for a column. False where a number becomes too large.
+    /// Makes the step in which row `index` leaves and `entering` enters. `false` if a number becomes too large.
     fn exchange(
         &mut self,
         program: &Program,
@@ -192,7 +192,7 @@ impl State {
         self.pivot(program, index, leaving, entering.column)
     }
 
-    /// One step; how the run ends, where it ends with it.
+    /// Makes one step, or returns the end of the run, if this is it.
     fn step(&mut self, alloc: Global, program: &Program) -> Result<Option<End>, AllocError> {
         let Some(Faulty { index, .. }) = steepest(self.rows.as_slice()) else {
             return Ok(Some(weights(alloc, self.rows.as_slice())?));
@@ -212,7 +212,7 @@ impl State {
     }
 }
 
-/// Brings the row at a place up to date after another one has left for a column. False where a number becomes too large.
+/// Updates row `i` in a step in which `leaving` leaves and `column` enters. `false` if a number becomes too large.
 fn update(
     rows: &mut Vec<InverseRow>,
     i: usize,

@@ -29,7 +29,7 @@ all_lines_question q k = record {
 pub eliminated_rates : (q : BodyView) (gone : List ℕ) → IsQuestion q → q.verb ≡ Eliminate gone → AreRatesOf (length q.names.rates) gone
 eliminated_rates q gone k e = subst (λ (v : VerbView). IsVerbOver q.names v) e k.verb
 
--- the same of the list of rates that go
+-- the rates of the list that a question eliminates are among its own, and at least one
 pub asked_rates : (q : BodyView) (gone : List ℕ) → IsQuestion q → eliminated_by q.verb ≡ Some gone → AreRatesOf (length q.names.rates) (gone_rates q.verb)
 asked_rates q gone k asked = by_verb q.verb refl asked
   where
@@ -38,7 +38,7 @@ asked_rates q gone k asked = by_verb q.verb refl asked
     by_verb (Eliminate rates) e f = eliminated_rates q rates k e
     by_verb (Contain first second tries) e f = absurd (cc)
 
--- the same where there are some
+-- so they are where the list isn't empty
 pub some_rates : (q : BodyView) → IsQuestion q → 1 ≤ length (gone_rates q.verb) → AreRatesOf (length q.names.rates) (gone_rates q.verb)
 some_rates q k some = by_verb q.verb refl some
   where

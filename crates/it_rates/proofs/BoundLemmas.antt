@@ -12,7 +12,7 @@ use Rattle.it_rates.specs.Bounds.{IsTrueRay}
 use Rattle.it_rates.specs.Theorems.{HullIsExact}
 use Rattle.it_rates.proofs.AskedLemmas.{meets_true, true_meets}
 
--- what is attained where one condition holds is where another does that follows
+-- what is attained where P holds is attained where Q does, if Q follows from P
 attained_same : (kept : List ℕ) (P Q : (ℕ → ℤ) → Type 0) (x : ℕ → ℤ) → ((y : ℕ → ℤ) → P y → Q y) → IsAttained kept P x → IsAttained kept Q x
 attained_same kept P Q x f a = record { factor = a.factor; some = a.some; point = a.point; same = a.same; holds = f a.point a.holds }
 

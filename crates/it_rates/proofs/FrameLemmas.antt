@@ -22,7 +22,7 @@ module _ (rows : ℕ) (q : BodyView) (k : IsQuestion q) (few_rows : rows ≤ 655
   pub are_kept : AreKept (hull_frame rows q) (kept_rates q (gone_rates q.verb))
   are_kept = record { rates = kept_within_rates (space_of q.names) (gone_rates q.verb); away = first_away (space_of q.names) (gone_rates q.verb) gone_are.some }
 
-  -- the same of what the code has
+  -- the frame and the rates that the code has are these
   module _ (s : Space) (gone kept : List ℕ) (space : s ≡ space_of q.names) (asked : gone ≡ gone_rates q.verb) (stay : kept ≡ kept_coordinates s gone) where
     pub same_frame : frame_in rows s gone ≡ hull_frame rows q
     same_frame = ap₂ (λ (x : Space) (g : List ℕ). frame_in rows x g) space asked

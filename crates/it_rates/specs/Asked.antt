@@ -1,4 +1,4 @@
--- What a question asks of the rates that stay.
+-- The rates that a question eliminates, and the question under all its lines.
 use Rattle.std.specs.Prelude.{ℕ, List, [], Option, Some, None}
 use Rattle.it_syntax.specs.Meaning.{RelationView}
 use Rattle.it_syntax.specs.declared.types.Sign.TheVariants.{AtLeast}
@@ -11,7 +11,7 @@ abbrev pub eliminated_by : VerbView → Option (List ℕ)
 eliminated_by (Eliminate rates) = Some rates
 eliminated_by verb = None
 
--- the same as a list, empty where it asks for something else
+-- the rates that a question asks to eliminate, none where it asks for something else
 abbrev pub gone_rates : VerbView → List ℕ
 gone_rates (Eliminate rates) = rates
 gone_rates verb = []

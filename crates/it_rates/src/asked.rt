@@ -1,6 +1,5 @@
-//! What a question asks of the rates that stay.
+//! The rates that a question eliminates, and the problem that all its lines pose.
 ghost use Rattle.std.specs.Prelude.{◌≡◌, IfOk};
-ghost use Rattle.it_space.specs.Problems.{problem_view};
 ghost use Rattle.it_question.specs.Limits.{IsQuestion};
 ghost use Rattle.it_question.specs.Questions.{question_body, verb_view};
 ghost use Rattle.it_canon.specs.QuestionDemands.{IsProblemOf};
@@ -11,7 +10,7 @@ use it_question::types::{Question, Verb};
 use it_space::Problem;
 use std::alloc::{AllocError, Global};
 
-/// The rates that a verb eliminates, none where it asks for something else.
+/// The rates that a verb eliminates; none where it asks for something else.
 pub fn gone_rates(verb: &Verb) -> &[u8]
     ensures { result.now ≡ gone_rates (verb_view verb.now) }
 {
@@ -25,7 +24,7 @@ pub fn gone_rates(verb: &Verb) -> &[u8]
 /// The problem that all lines of a question pose, `row` lines too.
 pub fn problem_of_lines(alloc: Global, question: &Question) -> Result<Problem, AllocError>
     requires { IsQuestion (question_body question.now) }
-    ensures { IfOk result (λ p. IsProblemOf (under_all_lines (question_body question.now)) (problem_view p)) }
+    ensures { IfOk result (λ p. IsProblemOf (under_all_lines (question_body question.now)) p) }
 {
     let space = question.names.space();
     let constraints = line_constraints(alloc, &question.lines, space)?;

@@ -102,7 +102,7 @@ module _ (size : ℕ) (num den : ℤ) (left right : Terms) where
     wide_here : ¬ (NumberFits num den left right c) → unformed size num den left right ≡ Some c
     wide_here n = sym wide_from ∙ ap (λ b. cond b (Some c) (find (λ d. not (is_formed num den left right d)) rest)) ((Decides-not (is_formed num den left right c) (decides_formed c)).1 n)
 
-    -- where a number isn't put after the others, memory ran out or it is the first wide one
+    -- if a number isn't appended, allocation failed or it is the first wide one
     pub row_stops : (r : Result Terms RowStop) (stop : RowStop) → IsErrAnd r (λ e. e ≡ stop) → ((k : ℕ) → stop ≡ stops.Wide k → (k ≡ c) × ¬ (NumberFits num den left right c)) → RowForms size num den left right r
     row_stops (Ok row) stop is why = absurd is
     row_stops (Err stops.Memory) stop is why = tt

@@ -12,7 +12,7 @@ pub data BestView : Type 0 where
   Unbounded : (num den : ℤ) → (proof below : CertificateView) → BestView
   Undecided : (cause : BestCause) → BestView
 
--- what contracts see of an answer
+-- the contracts' view of an answer
 abbrev pub best_view : Best → BestView
 best_view (answers.Least num den proof point) = Least num den (certificate_view proof) point
 best_view (answers.Never point) = Never point

@@ -1,5 +1,5 @@
--- What it means that something is true of the factors of a relation, by the meaning of the question's text. Nothing here speaks of
--- certificates or of runs.
+-- The truth of answers about the factors of a relation, by the meaning of the question's text. Nothing here is about certificates or
+-- runs.
 use Rattle.std.specs.Prelude.{ℕ, ℤ, pos, ◌-ℤ◌, ◌*ℤ◌, ◌≤ℤ◌, Option, Some, None}
 use Rattle.it_polymatroid.specs.Certificates.{Form}
 use Rattle.it_syntax.specs.Meaning.{RelationView}
@@ -12,8 +12,8 @@ use Rattle.it_ratio.specs.BestViews.{BestView, Least, Never, Unbounded, Undecide
 
 -- ---- of factors
 
--- What is found is true of the fractions that are factors, by `IsSuch`: the least one is one, and no other is smaller; where there is
--- none, none is; where there is no least one, the one that is told and all smaller ones are. What is undecided says nothing.
+-- An answer is true of the fractions that are factors, by `IsSuch`: `Least` gives one, and no other is smaller; with `Never` there is
+-- none; with `Unbounded` the given number and all smaller ones are factors. `Undecided` says nothing.
 abbrev pub IsTrueBest : (ℤ → ℤ → Type 0) → BestView → Type 0
 IsTrueBest IsSuch (Least num den proof values) = (pos 1 ≤ℤ den) × IsSuch num den × ((a b : ℤ) → pos 1 ≤ℤ b → IsSuch a b → (num *ℤ b) ≤ℤ (a *ℤ den))
 IsTrueBest IsSuch (Never values) = (a b : ℤ) → pos 1 ≤ℤ b → ¬ (IsSuch a b)

@@ -1,5 +1,5 @@
-//! What is said of the factors between the sides of a relation: the least one, that there is none, or no least one; when it is true; and
-//! the row that says that a number is one.
+//! Answers about the factors between the sides of a relation: the least one, that there is none, or no least one; when such an answer
+//! is true; and the row that says that a number is a factor.
 #![tactic(auto)]
 
 mod sides;

@@ -8,7 +8,7 @@ use it_fraction::{Wide, difference, signed_product};
 use it_space::{Row, Space, push_some};
 use std::alloc::{AllocError, Global};
 
-/// Why there is no such row: memory ran out, or a number of it, at this coordinate, passes the limit.
+/// Why there is no such row: allocation failed, or a number of it, at this coordinate, passes the limit.
 #[derive(Clone, Copy)]
 pub enum RowStop {
     Memory,
@@ -26,7 +26,7 @@ impl From<AllocError> for RowStop {
     }
 }
 
-/// A coefficient of `num` times the left row less `den` times the right one.
+/// The coefficient at `at` of `num` times `left` less `den` times `right`. `Wide` if a product or the difference passes the limit.
 fn side_number(left: &Row, right: &Row, num: &i128, den: &i128, at: u32) -> Result<i128, Wide>
     ensures { OkIff result (NumberFits num.now den.now left.now right.now at) (side_number num.now den.now left.now right.now at) }
 {
@@ -35,7 +35,7 @@ fn side_number(left: &Row, right: &Row, num: &i128, den: &i128, at: u32) -> Resu
     difference(above, below)
 }
 
-/// Puts a coefficient of the row after the others.
+/// Appends the term at `at` of `num` times `left` less `den` times `right`.
 fn push_number(
     terms: &mut Vec<(u32, i128)>,
     left: &Row,
@@ -55,8 +55,8 @@ fn push_number(
     Ok(())
 }
 
-/// `num` times the left row less `den` times the right one, over a space's coordinates; `Wide` at the first one at which a number passes
-/// the limit.
+/// `num` times `left` less `den` times `right`, over the coordinates of `space`; `Wide` with the first coordinate at which a number
+/// passes the limit.
 pub fn side_row(
     alloc: Global,
     space: Space,

@@ -78,7 +78,7 @@ rational_cmp-same_den x y e = int_cmp_is (x.num *ℤ pos y.den) (y.num *ℤ pos 
     by_ordering a b d h Equal k = ap (λ (z : ℤ). z *ℤ d) k
     by_ordering a b d h Greater k = product_rises b a d h k
 
--- a test that tells equal numbers from others answers as the order does
+-- a test for equal numbers agrees with the order
 pub is_eq-rational_cmp : (b : Bool) (x y : Rational) → (b ≡ true → x ≡ y) → (b ≡ false → x ≢ y) → b ≡ is_eq (rational_cmp x y)
 is_eq-rational_cmp true x y f g = sym (ap (λ (q : Rational). is_eq (rational_cmp x q)) (sym (f refl)) ∙ ap is_eq (sym (int_cmp_is (x.num *ℤ pos x.den) (x.num *ℤ pos x.den) Equal refl)))
 is_eq-rational_cmp false x y f g = by_order (rational_cmp x y) refl

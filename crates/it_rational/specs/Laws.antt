@@ -1,4 +1,4 @@
--- The laws of the rational numbers that the gate proves.
+-- Laws of the rational numbers.
 use Rattle.std.specs.Prelude.{◌≡◌, ◌≢◌, pos}
 use Rattle.std.specs.Cmp.{IsTotalOrder}
 use Rattle.it_rational.specs.Rational.{Rational, integer, plus, times, minus, inverse, rational_cmp}
@@ -39,6 +39,6 @@ ProductsDistribute = (a b c : Rational) → times a (plus b c) ≡ plus (times a
 abbrev pub InversesCancel : Type 0
 InversesCancel = (a : Rational) → a.num ≢ pos 0 → times a (inverse a) ≡ integer (pos 1)
 
--- total, transitive, and ties only between equal numbers
+-- the order is total and transitive, and ties are only between equal numbers
 abbrev pub OrderIsTotal : Type 0
 OrderIsTotal = IsTotalOrder rational_cmp

@@ -1,10 +1,10 @@
--- Ordered fields. The rational numbers are one: `field_ℚ` of proofs/Field, which stands there with the proofs of its laws.
+-- Ordered fields. The rational numbers are one: `field_ℚ` of proofs/Field, defined there with the proofs of its laws.
 use Rattle.std.specs.Prelude.{◌≡◌, ◌≢◌, ◌⊎◌, Bool, true, false}
 use Rattle.it_number.specs.Rings.{Ring}
 
--- what makes a ring an ordered field: a test of being at least 0, and inverses, for which these laws hold
+-- the structure of an ordered field on a ring: a test of being at least 0, and inverses, for which these laws hold
 pub record Order {A : Type 0} (R : Ring A) : Type 0 where
-  -- whether it is at least 0
+  -- whether an element is at least 0
   pub is_least : A → Bool
   -- 1 / a
   pub inv : A → A

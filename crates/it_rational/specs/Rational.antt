@@ -1,4 +1,4 @@
--- The rational numbers: a record in lowest terms, so that two that are equal are one.
+-- The rational numbers, as records in lowest terms, so that equal numbers are equal records.
 use Rattle.std.specs.Prelude.{◌≡◌, ℕ, zero, suc, ◌*◌, ◌/◌, ◌<◌, Bool, true, false, ℤ, pos, negsuc, ◌+ℤ◌, ◌*ℤ◌, neg_ℤ, unsigned_abs}
 use Rattle.std.specs.Int.{IsGcd}
 use Rattle.std.specs.Ordering.{int_cmp}
@@ -40,7 +40,7 @@ times a b = quotient (a.num *ℤ b.num) (a.den * b.den)
 abbrev pub minus : Rational → Rational
 minus a = quotient (neg_ℤ a.num) a.den
 
--- n / d in lowest terms, for d with a sign; 0 where d is 0
+-- n / d in lowest terms, for a signed d; 0 where d is 0
 abbrev pub signed_quotient : ℤ → ℤ → Rational
 signed_quotient n (pos d) = quotient n d
 signed_quotient n (negsuc d) = quotient (neg_ℤ n) (suc d)

@@ -1,5 +1,5 @@
--- Rows after the givens leave the dependences as they are, and the generators of the givens before all others: what was made of the
--- givens over closed sets serves the problem with the rows.
+-- Rows after the givens leave the dependences as they are, and the generators of the givens before all others: the closed problem of
+-- the givens serves the problem with the rows.
 use Rattle.std.proofs.Common.{◌≡◌, ℕ, zero, suc, ◌+◌, ◌≤◌, List, [], ◌∷◌, ◌++◌, length, map, take, refl, sym, ap, subst, ◌∙◌, arith, append_assoc, length-append}
 use Rattle.std.proofs.lemmas.List.{map-append, get_or_append_left}
 use Rattle.it_space.specs.declared.problems.Constraint.{Constraint}

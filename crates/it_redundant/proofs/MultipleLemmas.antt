@@ -1,4 +1,4 @@
--- A whole multiple of a polymatroid is one, and meets the givens that it meets where these speak of entropies alone.
+-- A whole multiple of a polymatroid is one, and meets the givens that it meets where these are about entropies alone.
 use Rattle.std.proofs.Common.{◌≡◌, ℕ, ◌-◌, ◌<◌, ◌≤◌, ◌^◌, bit_and, bit_or, ℤ, pos, ◌+ℤ◌, ◌-ℤ◌, ◌*ℤ◌, ◌≤ℤ◌, List, [], ◌∷◌, sym, ap, ap₂, subst, ◌∙◌, arith, All}
 use Rattle.std.proofs.lemmas.Int.{ints}
 use Rattle.std.proofs.lemmas.Nat.{pow_pos, or_lt, and_le_l}

@@ -1,5 +1,5 @@
--- A list of rows whose rows all stand in another is a part of it. Putting in order keeps that, so does the step of a rate, and the part's list
--- after it isn't longer, since it has no row twice.
+-- A list of rows whose rows are all in another one is a part of it. Putting in order keeps that, so does the step of a rate, and the
+-- part's list after it isn't longer, since it has no row twice.
 use Rattle.std.proofs.Common.{◌≡◌, ◌≢◌, ◌⊎◌, inl, inr, ⊎_elim, ℕ, suc, ◌≤◌, ℤ, refl, sym, ap, subst, ◌∙◌, arith, List, [], ◌∷◌, ◌++◌, length, Bool, true, false, ◌&&◌, ◌||◌, nat_eq, if◌then◌else◌, eq-eqb}
 use Rattle.std.specs.List.{list_any}
 use Rattle.std.specs.Ordering.{int_eq}
@@ -17,12 +17,12 @@ use Rattle.it_redundant.proofs.LowestLemmas.{lowest_again}
 abbrev pub IsPart : List Terms → List Terms → Type 0
 IsPart xs ys = (x : Terms) → Member x xs → Member x ys
 
--- no row stands in the list twice
+-- no row is in the list twice
 abbrev HasNoDoubles : List Terms → Type 0
 HasNoDoubles [] = Unit {0}
 HasNoDoubles (x ∷ xs) = (¬ (Member x xs)) × HasNoDoubles xs
 
--- ---- a part without doubles isn't longer
+-- ---- a part without duplicates isn't longer
 
 -- the list without one of its rows
 abbrev rest_without : (x : Terms) (ys : List Terms) → Member x ys → List Terms

@@ -1,4 +1,4 @@
--- Reduced elimination rate after rate: where it leads, that it has one end, and what a region holds.
+-- Reduced elimination rate after rate: it has one end, and a region is the projection.
 use Rattle.std.proofs.Common.{◌≡◌, inl, inr, ℕ, ◌+◌, ◌<◌, ◌≤◌, ◌^◌, ℤ, List, [], ◌∷◌, map, length, drop, get_or, refl, sym, ap, subst, ◌∙◌, arith, All, Result, Ok, Err, IfOk}
 use Rattle.it_space.proofs.ListLemmas.{drop_item}
 use Rattle.it_space.specs.declared.problems.System.{System}
@@ -51,7 +51,7 @@ module _ (givens : ProblemView) (effort : Effort) (most : ℕ) where
   next_more r rs (Rows other) new end n h = subst (λ (x : ProjectedView). Resumes givens effort most rs x end) n h
   next_more r rs (Wide other) new end n h = subst (λ (x : ProjectedView). Resumes givens effort most rs x end) n h
 
-  -- i rates are eliminated: whatever the others end with, all do
+  -- i rates are eliminated: the end of the others is that of all
   pub record Leads (size : ℕ) (rows : List Terms) (rates : List ℕ) (now : ProjectedView) (i : ℕ) : Type 0 where
     pub more : (end : ProjectedView) → Resumes givens effort most (drop i rates) now end → ReducedEnds givens effort most rows [] [] rates end
     pub up : HasRowsUpTo size now
@@ -82,7 +82,7 @@ one_reduced_end givens effort most rows last gone (r ∷ rs) end other defined (
     by_step (elimination.Rows rate) g h later = g ∙ sym h
     by_step (elimination.Wide rate) g h later = g ∙ sym h
 
--- ---- what a region holds
+-- ---- a region is the projection
 
 module _ (givens : ProblemView) (effort : Effort) (most : ℕ) (limits : IsProblem givens) (few : length givens.constraints ≤ 65535) (few_rows : most ≤ 65535) (sets : SpeakOfSets givens) where
   -- a region of rows without rates; and no coordinate comes back
@@ -96,7 +96,7 @@ module _ (givens : ProblemView) (effort : Effort) (most : ℕ) (limits : IsProbl
     keeps = λ c h. h;
   }
 
-  -- sets are no eliminated coordinates
+  -- sets aren't eliminated coordinates
   no_set : (rates : List ℕ) (c : ℕ) → c < 2 ^ givens.space.variables → Member c (map (λ r. 2 ^ givens.space.variables + r) rates) → ⊥
   no_set rates c below m = let x = member_mapped (λ r. 2 ^ givens.space.variables + r) c rates m in absurd (omega (arith, below, x.2))
 
@@ -192,7 +192,7 @@ module _ (givens : ProblemView) (effort : Effort) (most : ℕ) (limits : IsProbl
   region_reduced (r ∷ rs) rows (Rows rate) some up e = tt
   region_reduced (r ∷ rs) rows (Wide rate) some up e = tt
 
--- ---- what the code's step and reduction make
+-- ---- the code's step and reduction
 
 module _ (givens : ProblemView) (effort : Effort) (most : ℕ) (system : System) (rate : ℕ) (end : Eliminated) (space : system.space ≡ givens.space)
     (ends : EliminationEnds (2 ^ system.space.variables) most (ordered_rows system.rows.items) (rate ∷ []) (eliminated_view end)) where
@@ -210,7 +210,7 @@ module _ (givens : ProblemView) (effort : Effort) (most : ℕ) (system : System)
     region_up reduced up red = kept_up givens effort most system.rows.items rate next.rows.items (kept_view reduced) (dropped_view reduced)
         (subst (λ (s : Space). All (IsOver (size_of s)) system.rows.items) space up) (over_givens (elimination.Region next.rows.items) (ap eliminated_view is)) red
 
--- of rows that stay, a rate leaves what it leaves of them as a system
+-- the result of a rate on the rows that are kept is that on their system
 pub next_of_region : {E : Type 0} (givens : ProblemView) (effort : Effort) (most rate : ℕ) (end : Projected) (reduced : Reduced) (rows : List Terms) (result : Result Projected E) → end ≡ projection_ends.Region reduced
     → rows ≡ map (λ k. k.0) reduced.kept.items → IfOk result (λ e. IsAfterRate givens effort most rows rate (projected_view e)) → IfOk result (λ e. IsNext givens effort most rate (projected_view end) (projected_view e))
 next_of_region givens effort most rate end reduced rows (Err e) is same h = tt

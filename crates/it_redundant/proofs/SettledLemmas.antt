@@ -1,4 +1,4 @@
--- Reduced elimination that settles each row ends with the same rows, whatever the effort.
+-- Reduced elimination that settles each row ends with the same rows, for any effort.
 use Rattle.std.proofs.Common.{◌≡◌, ℕ, ◌^◌, ◌≤◌, List, [], ◌∷◌, ◌++◌, length, All, refl, sym, ap, ap₂, subst, subst₂, ◌∙◌, arith}
 use Rattle.std.proofs.lemmas.List.Elements.{All-head}
 use Rattle.it_space.specs.Answers.{CertificateView}

@@ -1,7 +1,7 @@
 -- Rows visited one after the other.
 use Rattle.std.proofs.Common.{◌≡◌, ◌⊎◌, inl, inr, ℕ, ◌+◌, ◌<◌, ◌≤◌, List, [], ◌∷◌, ◌++◌, map, length, drop, refl, sym, ap, subst, ◌∙◌, arith, append_assoc, append-nil, length-append}
 use Rattle.std.proofs.lemmas.List.{length-map}
-use Rattle.std.proofs.lemmas.List.Elements.{All-append}
+use Rattle.std.proofs.lemmas.List.Elements.{All-append, All-cons, All-nil}
 use Rattle.it_space.specs.Answers.{CertificateView}
 use Rattle.it_space.specs.declared.problems.Constraint.{Constraint}
 use Rattle.it_space.specs.Problems.{ProblemView, IsProblem}
@@ -24,7 +24,7 @@ pub rows_kept : (ks : List (Terms × Need)) → kept_rows (map (λ k. (k.0, need
 rows_kept [] = refl
 rows_kept (k ∷ ks) = ap (λ xs. k.0 ∷ xs) (rows_kept ks)
 
--- The first i rows were visited: whatever the others end with, stands after what is there.
+-- The first i rows were visited: the results of the others are appended to what is there.
 pub record IsUnderWay (givens : ProblemView) (effort : Effort) (size : ℕ) (rows : List Terms) (kept : List (Terms × NeedView)) (dropped : List (Terms × CertificateView)) (i : ℕ) : Type 0 where
   pub more : (k : List (Terms × NeedView)) (d : List (Terms × CertificateView)) → Reduces givens effort (kept_rows kept) (drop i rows) k d → Reduces givens effort [] rows (kept ++ k) (dropped ++ d)
   pub few : length (kept_rows kept) ≤ i
@@ -91,7 +91,7 @@ module _ (givens : ProblemView) (kept : List (Terms × Need)) (line place : ℕ)
   abbrev xs : List Terms
   xs = map (λ k. k.0) kept
 
-  -- what stands before the row
+  -- the constraints before the row
   abbrev before : List Constraint
   before = givens.constraints ++ row_constraints 1 xs
 
@@ -139,13 +139,22 @@ module _ (givens : ProblemView) (kept : List (Terms × Need)) (line place : ℕ)
         ∙ as_problem cs (row ∷ after) (in_place before after before_place (ap (λ (q : ProblemView). q.constraints) is ∙ in_parts after))
         ∙ ap (with_rows givens) (sym (append_assoc xs (row ∷ []) after))
 
+-- with the row again the limits are kept
+pub limits_again : (givens p : ProblemView) (rows : List Terms) (row : Terms) (after : List Terms) → p ≡ with_rows givens ((rows ++ row ∷ []) ++ after) → IsProblem givens → length givens.constraints ≤ 65535
+    → length rows + length after < 65535 → AreRowsUpTo (size_of givens.space) rows → IsOver (size_of givens.space) row → AreRowsUpTo (size_of givens.space) after → IsProblem p
+limits_again givens p rows row after is limits few count up own ups =
+    let over = IsOver (size_of givens.space) in
+    subst IsProblem (sym is) (problem_limits givens ((rows ++ row ∷ []) ++ after) limits few
+    (omega (arith, count, length-append (rows ++ row ∷ []) after, length-append rows (row ∷ [])))
+    (All-append over (rows ++ row ∷ []) after (All-append over rows (row ∷ []) up (All-cons over row [] own (All-nil over))) ups))
+
 module _ (givens p : ProblemView) (kept : List (Terms × Need)) (after : List Terms) (is : p ≡ with_rows givens (map (λ k. k.0) kept ++ after)) where
   pub visit_limits : IsProblem givens → length givens.constraints ≤ 65535 → length kept + length after ≤ 65535 → AreRowsUpTo (size_of givens.space) (map (λ k. k.0) kept)
       → AreRowsUpTo (size_of givens.space) after → IsProblem p
   visit_limits limits few count up ups = subst IsProblem (sym is) (problem_limits givens (map (λ k. k.0) kept ++ after) limits few
       (omega (arith, count, length-append (map (λ k. k.0) kept) after, length-map kept (λ (k : Terms × Need). k.0))) (All-append (IsOver (size_of givens.space)) (map (λ k. k.0) kept) after up ups))
 
-  -- what was made of the givens serves the problem
+  -- the closed problem of the givens serves the problem
   pub visit_closed : (c : ClosedProblem) → IsClosedProblem givens c → IsClosedProblem p c
   visit_closed c h = subst (λ q. IsClosedProblem q c) (sym is) (closed_after givens (map (λ k. k.0) kept ++ after) c h)
 

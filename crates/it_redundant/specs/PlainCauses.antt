@@ -15,13 +15,13 @@ pub record ComesTo (base : ℕ) (start : List Terms) (rates : List ℕ) (rate : 
   pub rates_are : rates ≡ before ++ rate ∷ after
   pub rows_are : rows ≡ list_after (map (λ r. base + r) before) start
 
--- a cause is one of plain elimination at this rate: more than `most` rows after it, or a wide pair of the rows that come to it
+-- a cause is one of plain elimination at this rate: more than `most` rows after it, or a wide pair of the rows before it
 abbrev pub IsPlainCause : ℕ → ℕ → List Terms → List ℕ → ProjectedView → Type 0
 IsPlainCause base most start rates (Region kept dropped) = Unit {0}
 IsPlainCause base most start rates (Rows rate) = (rows : List Terms) × ComesTo base start rates rate rows × (most < length (next_list (base + rate) rows))
 IsPlainCause base most start rates (Wide rate) = (rows : List Terms) × ComesTo base start rates rate rows × (¬ (PairsFit (base + rate) rows))
 
--- where reduced elimination ends with a cause at a rate, plain elimination has the same cause at this rate
+-- if reduced elimination ends with a cause at a rate, plain elimination has the same cause at this rate
 abbrev pub CausesArePlain : Type 0
 CausesArePlain = (givens : ProblemView) (effort : Effort) (most : ℕ) (rows : List Terms) (last : List (Terms × NeedView)) (gone : List (Terms × CertificateView)) (rates : List ℕ) (end : ProjectedView)
     → ReducedEnds givens effort most rows last gone rates end → IsPlainCause (2 ^ givens.space.variables) most (ordered_rows rows) rates end

@@ -7,17 +7,17 @@ use Rattle.it_prove.specs.declared.types.Effort.{Effort}
 use Rattle.it_redundant.specs.Reduction.{kept_rows}
 use Rattle.it_redundant.specs.ReducedElimination.{ProjectedView, Region, Rows, Wide, GoesOn, ReducedEnds}
 
--- what one rate leaves of rows
+-- end is the result of one rate on rows: its elimination, and the reduction after it
 abbrev pub IsAfterRate : ProblemView → Effort → ℕ → List Terms → ℕ → ProjectedView → Type 0
 IsAfterRate givens effort most rows rate end = (step : EliminatedView) × EliminationEnds (2 ^ givens.space.variables) most (ordered_rows rows) (rate ∷ []) step × GoesOn givens effort (λ kept dropped. end ≡ Region kept dropped) step end
 
--- and of what is there: a cause stays
+-- end is the result of one rate on an earlier result: a cause stays
 abbrev pub IsNext : ProblemView → Effort → ℕ → ℕ → ProjectedView → ProjectedView → Type 0
 IsNext givens effort most rate (Region kept dropped) end = IsAfterRate givens effort most (kept_rows kept) rate end
 IsNext givens effort most rate (Rows other) end = end ≡ Rows other
 IsNext givens effort most rate (Wide other) end = end ≡ Wide other
 
--- the other rates end so, from what is there
+-- end is the result of the other rates on an earlier result
 abbrev pub Resumes : ProblemView → Effort → ℕ → List ℕ → ProjectedView → ProjectedView → Type 0
 Resumes givens effort most rates (Region kept dropped) end = ReducedEnds givens effort most (kept_rows kept) kept dropped rates end
 Resumes givens effort most rates (Rows other) end = end ≡ Rows other

@@ -1,4 +1,4 @@
--- Reduction of a list of rows: each in turn goes where the givens and all other rows that still stand give it, and stays otherwise.
+-- Reduction of a list of rows: each in turn is dropped if it follows from the givens and all other rows still in the list, else kept.
 use Rattle.std.specs.Prelude.{◌≡◌, ◌≤◌, ℤ, List, [], ◌∷◌, ◌++◌, length, map}
 use Rattle.it_space.specs.declared.answers.Cause.{Cause}
 use Rattle.it_space.specs.Answers.{CertificateView, certificate_view}
@@ -12,14 +12,14 @@ use Rattle.it_redundant.specs.declared.types.Need.{Need}
 use Rattle.it_redundant.specs.declared.types.Need.TheVariants as needs
 use Rattle.it_redundant.specs.declared.types.Reduced.{Reduced}
 
--- a system over the space of some givens, which are few enough that their problem with 65,535 rows after them is one
+-- a system over the space of some givens, which are few enough that they and 65,535 rows after them are a problem
 pub record IsSystemUnder (q : ProblemView) (s : System) : Type 0 where
   pub system : IsSystem s
   pub givens : IsProblem q
   pub space : s.space ≡ q.space
   pub few_givens : length q.constraints ≤ 65535
 
--- why a row stays: it is violated at a point at which the others hold, or the run about it has no end within its bounds
+-- why a row is kept: it is violated at a point at which the others hold, or the run about it has no end within its bounds
 pub data NeedView : Type 0 where
   Needed : (values : List ℤ) → NeedView
   Unsettled : (cause : Cause) → NeedView
@@ -29,31 +29,31 @@ abbrev pub need_view : Need → NeedView
 need_view (needs.Needed point) = Needed point
 need_view (needs.Unsettled cause) = Unsettled cause
 
--- the rows that stay, each with its need, as contracts see them
+-- the rows that are kept, each with its need, as contracts see them
 abbrev pub kept_view : Reduced → List (Terms × NeedView)
 kept_view r = map (λ k. (k.0, need_view k.1)) r.kept.items
 
--- the rows that went, each with its certificate, as contracts see them
+-- the rows that were dropped, each with its certificate, as contracts see them
 abbrev pub dropped_view : Reduced → List (Terms × CertificateView)
 dropped_view r = map (λ d. (d.0, certificate_view d.1)) r.dropped.items
 
--- what a row leaves after the rows that stay: nothing where it is proved, itself with its need otherwise
+-- what a row adds to the kept rows: nothing if it is proved, else itself with its need
 abbrev pub kept_by : Terms → ProofView → List (Terms × NeedView)
 kept_by row (Yes w) = []
 kept_by row (No values) = (row, Needed values) ∷ []
 kept_by row (Undecided cause) = (row, Unsettled cause) ∷ []
 
--- and after those that went
+-- what a row adds to the dropped rows: itself with its certificate if it is proved, else nothing
 abbrev pub dropped_by : Terms → ProofView → List (Terms × CertificateView)
 dropped_by row (Yes w) = (row, w) ∷ []
 dropped_by row proof = []
 
--- the rows that stay, without their needs
+-- the rows that are kept, without their needs
 abbrev pub kept_rows : List (Terms × NeedView) → List Terms
 kept_rows kept = map (λ k. k.0) kept
 
--- After the rows `before`, which stay, the rows that are still to be visited end so: the run about each, under the givens, those and
--- the rows after it, has an outcome, by which the row goes or stays.
+-- After the rows `before`, which are kept, the visits to the remaining rows keep and drop these: the run about each, under the givens,
+-- the kept rows and the rows after it, has an outcome, by which the row is dropped or kept.
 abbrev pub Reduces : ProblemView → Effort → List Terms → List Terms → List (Terms × NeedView) → List (Terms × CertificateView) → Type 0
 Reduces givens effort before [] kept dropped = (kept ≡ []) × (dropped ≡ [])
 Reduces givens effort before (row ∷ rows) kept dropped =

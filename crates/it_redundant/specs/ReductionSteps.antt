@@ -10,11 +10,11 @@ use Rattle.it_redundant.specs.declared.types.Reduced.{Reduced}
 use Rattle.it_eliminate.specs.RowLines.{row_constraints, with_rows}
 use Rattle.it_redundant.specs.Reduction.{kept_by, dropped_by, kept_rows, kept_view, dropped_view}
 
--- the coordinates of each row are from 1 to a number
+-- the coordinates of each row are from 1 to size
 abbrev pub AreRowsUpTo : ℕ → List Terms → Type 0
 AreRowsUpTo size rows = All (IsOver size) rows
 
--- a row was visited between the rows that stay so far and those after it
+-- row was visited between the rows kept so far and those after it
 pub record IsVisited (givens : ProblemView) (effort : Effort) (row : Terms) (after : List Terms) (old new : Reduced) : Type 0 where
   pub outcome : ProofView
   pub ends : EndsWith (with_rows givens (kept_rows (kept_view old) ++ after)) row effort outcome
@@ -26,12 +26,12 @@ abbrev pub numbered : ℕ → List Constraint → List Constraint
 numbered line [] = []
 numbered line (c ∷ cs) = record { row = c.row; kind = c.kind; origin = Rate line } ∷ numbered (line + 1) cs
 
--- the row at a place goes, which was this line; those after it come one line nearer
+-- the row at place, which was `row` line number line, is removed; the numbers of those after it go down by one
 abbrev pub IsRemoved : ℕ → ℕ → List Constraint → List Constraint → Type 0
 IsRemoved place line old new = (before : List Constraint) (row : Terms) (rows : List Terms) → length before ≡ place
     → old ≡ before ++ row_constraints line (row ∷ rows) → new ≡ before ++ row_constraints line rows
 
--- a row comes to a place, as this line; those from there on go one line further
+-- row is inserted at place, as `row` line number line; the numbers of those from there on go up by one
 abbrev pub IsInserted : ℕ → ℕ → Terms → List Constraint → List Constraint → Type 0
 IsInserted place line row old new = (before : List Constraint) (rows : List Terms) → length before ≡ place
     → old ≡ before ++ row_constraints line rows → new ≡ before ++ row_constraints line (row ∷ rows)

@@ -1,4 +1,4 @@
-//! Lists of rows without those that the others give: reduction of a list, and elimination of rates that reduces the list after each.
+//! Lists without redundant rows: reduction of a list, and elimination of rates that reduces the list after each.
 #![tactic(auto)]
 
 mod laws;

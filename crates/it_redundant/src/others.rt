@@ -1,12 +1,12 @@
-//! The problem under which a row is judged, from one row to the next: the givens, and all other rows that still stand.
-ghost use Rattle.std.specs.Prelude.{◌≡◌, ◌++◌, ◌+◌, ◌<◌, ◌≤◌, drop, length, take, OnOk};
+//! The problem under which a row is judged, from one row to the next: the givens, and all other rows that are still in the list.
+ghost use Rattle.std.specs.Prelude.{◌≡◌, ◌++◌, ◌+◌, ◌<◌, ◌≤◌, drop, length, take, OnErr, OnOk};
 ghost use Rattle.it_redundant.specs.ReductionSteps.{IsInserted, IsRemoved, numbered};
 
 use it_eliminate::row_constraint;
 use it_space::{Constraint, Origin, Row};
 use std::alloc::{AllocError, Global};
 
-/// Numbers the constraints from a place on as `row` lines, from this line on.
+/// Numbers the constraints from `place` on as `row` lines, from number `line` on.
 fn number_from(constraints: &mut Vec<Constraint>, place: usize, line: usize)
     requires place { place ≤ length constraints.old.items }
     requires few { line + length constraints.old.items ≤ 65536 + place }
@@ -19,7 +19,7 @@ fn number_from(constraints: &mut Vec<Constraint>, place: usize, line: usize)
     }
 }
 
-/// Takes out the row that stands at a place, as this line; those after it come one line nearer.
+/// Removes the row at `place`, which is `row` line number `line`; the numbers of those after it go down by one.
 pub fn remove_row(constraints: &mut Vec<Constraint>, place: usize, line: usize)
     requires place { place < length constraints.old.items }
     requires few { line + length constraints.old.items ≤ 65536 + place }
@@ -29,7 +29,7 @@ pub fn remove_row(constraints: &mut Vec<Constraint>, place: usize, line: usize)
     number_from(constraints, place, line);
 }
 
-/// Puts a row at a place, as this line; those from there on go one line further.
+/// Inserts `row` at `place`, as `row` line number `line`; the numbers of those from there on go up by one.
 pub fn insert_row(
     alloc: Global,
     constraints: &mut Vec<Constraint>,
@@ -39,7 +39,8 @@ pub fn insert_row(
 ) -> Result<(), AllocError>
     requires place { place ≤ length constraints.old.items }
     requires few { line + length constraints.old.items ≤ 65535 + place }
-    ensures { OnOk result (IsInserted place line row.now constraints.old.items constraints.new.items) }
+    ensures put { OnOk result (IsInserted place line row.now constraints.old.items constraints.new.items) }
+    ensures stays { OnErr result (constraints.new.items ≡ constraints.old.items) }
 {
     let constraint = row_constraint(alloc, line, row)?;
     constraints.insert(place, constraint)?;

@@ -1,6 +1,5 @@
 //! Reduced elimination.
 ghost use Rattle.std.specs.Prelude.{◌≡◌, ◌<◌, ◌≤◌, [], length, map, All, IfOk};
-ghost use Rattle.it_space.specs.Problems.{IsProblem, problem_view};
 ghost use Rattle.it_space.specs.Spaces.{size_of};
 ghost use Rattle.it_redundant.specs.ProjectionSteps.{HasRowsUpTo, IsAfterRate, IsNext};
 ghost use Rattle.it_redundant.specs.Reduction.{IsSystemUnder};
@@ -14,9 +13,8 @@ use it_prove::Effort;
 use it_space::{Problem, Space, System};
 use std::alloc::{AllocError, Global};
 
-/// The rows that are left of a system without rates, which are eliminated in the order of their list: the list after each rate is
-/// reduced before the next. At most `rows` may be left by a rate's step, before their reduction. The givens speak of entropies
-/// alone, and there is at least one rate.
+/// Eliminates `rates` from `system`, in the order of their list, and reduces the list of rows after each rate. A rate's step may leave
+/// at most `rows` rows, before their reduction. The givens are about entropies alone, and there is at least one rate.
 pub fn project(
     alloc: Global,
     system: &System,
@@ -25,20 +23,20 @@ pub fn project(
     rows: usize,
     effort: Effort,
 ) -> Result<Projected, AllocError>
-    requires system { IsSystemUnder (problem_view givens.now) system.now }
+    requires system { IsSystemUnder givens.now system.now }
     requires rates { All (λ r. r < system.now.space.rates) rates.now }
     requires some { 1 ≤ length rates.now }
-    requires sets { SpeakOfSets (problem_view givens.now) }
+    requires sets { SpeakOfSets givens.now }
     requires few_rows { rows ≤ 65535 }
-    ensures ends { IfOk result (λ e. ReducedEnds (problem_view givens.now) effort rows system.now.rows.items [] [] rates.now (projected_view e)) }
-    ensures region { IfOk result (λ e. RegionIsReduced (problem_view givens.now) rates.now system.now.rows.items (projected_view e)) }
+    ensures ends { IfOk result (λ e. ReducedEnds givens.now effort rows system.now.rows.items [] [] rates.now (projected_view e)) }
+    ensures region { IfOk result (λ e. RegionIsReduced givens.now rates.now system.now.rows.items (projected_view e)) }
 {
-    // named before it is answered, so that the contract of the call stands at the answer
+    // named before it is returned, so that the contract of the call is available at the return
     let end = reduced_elimination(alloc, system, rates, givens, rows, effort)?;
     Ok(end)
 }
 
-/// Reduced elimination, without what follows for a region.
+/// Like `project`, without the claim that a region is the projection.
 fn reduced_elimination(
     alloc: Global,
     system: &System,
@@ -47,11 +45,11 @@ fn reduced_elimination(
     rows: usize,
     effort: Effort,
 ) -> Result<Projected, AllocError>
-    requires system { IsSystemUnder (problem_view givens.now) system.now }
+    requires system { IsSystemUnder givens.now system.now }
     requires rates { All (λ r. r < system.now.space.rates) rates.now }
     requires some { 1 ≤ length rates.now }
     requires few_rows { rows ≤ 65535 }
-    ensures { IfOk result (λ e. ReducedEnds (problem_view givens.now) effort rows system.now.rows.items [] [] rates.now (projected_view e)) }
+    ensures { IfOk result (λ e. ReducedEnds givens.now effort rows system.now.rows.items [] [] rates.now (projected_view e)) }
 {
     let mut end = after_rate(alloc, system, rates[0], givens, rows, effort)?;
     for i in 1..rates.len() {
@@ -60,7 +58,7 @@ fn reduced_elimination(
     Ok(end)
 }
 
-/// What is left after a rate, of what was left before it: a cause stays.
+/// The result after `rate`, where `end` is the one before it: a cause stays.
 fn next_end(
     alloc: Global,
     end: Projected,
@@ -71,15 +69,15 @@ fn next_end(
 ) -> Result<Projected, AllocError>
     requires end { HasRowsUpTo (size_of givens.now.space) (projected_view end) }
     requires rate { rate < givens.now.space.rates }
-    requires givens { IsProblem (problem_view givens.now) }
     requires few_rows { rows ≤ 65535 }
-    requires few_givens { length givens.now.constraints.items ≤ 65535 }
-    ensures next { IfOk result (λ e. IsNext (problem_view givens.now) effort rows rate (projected_view end) (projected_view e)) }
+    requires few_givens { length givens.now.constraints ≤ 65535 }
+    ensures next { IfOk result (λ e. IsNext givens.now effort rows rate (projected_view end) (projected_view e)) }
     ensures rows { IfOk result (λ e. HasRowsUpTo (size_of givens.now.space) (projected_view e)) }
 {
+    givens.facts();
     match end {
         Projected::Region(reduced) => {
-            let system = kept_system(alloc, givens.space, &reduced)?;
+            let system = kept_system(alloc, givens.space(), &reduced)?;
             after_rate(alloc, &system, rate, givens, rows, effort)
         }
         Projected::Rows { rate: other } => Ok(Projected::Rows { rate: other }),
@@ -87,7 +85,7 @@ fn next_end(
     }
 }
 
-/// The rows that stay of a reduction, in order, as a system over this space.
+/// The rows that a reduction keeps, in order, as a system over `space`.
 pub fn kept_system(alloc: Global, space: Space, reduced: &Reduced) -> Result<System, AllocError>
     ensures space { IfOk result (λ s. s.space ≡ space) }
     ensures rows { IfOk result (λ s. s.rows.items ≡ map (λ k. k.0) reduced.now.kept.items) }
@@ -99,7 +97,7 @@ pub fn kept_system(alloc: Global, space: Space, reduced: &Reduced) -> Result<Sys
     Ok(System { space, rows })
 }
 
-/// What is left of a system after a rate.
+/// The result of the elimination of `rate` from `system` and of the reduction after it.
 fn after_rate(
     alloc: Global,
     system: &System,
@@ -108,10 +106,10 @@ fn after_rate(
     rows: usize,
     effort: Effort,
 ) -> Result<Projected, AllocError>
-    requires system { IsSystemUnder (problem_view givens.now) system.now }
+    requires system { IsSystemUnder givens.now system.now }
     requires rate { rate < system.now.space.rates }
     requires few_rows { rows ≤ 65535 }
-    ensures after { IfOk result (λ e. IsAfterRate (problem_view givens.now) effort rows system.now.rows.items rate (projected_view e)) }
+    ensures after { IfOk result (λ e. IsAfterRate givens.now effort rows system.now.rows.items rate (projected_view e)) }
     ensures rows { IfOk result (λ e. HasRowsUpTo (size_of givens.now.space) (projected_view e)) }
 {
     let end = step(alloc, system, rate, rows)?;

@@ -1,7 +1,6 @@
 //! Reduction of a list of rows.
 ghost use Rattle.std.specs.Prelude.{◌≡◌, [], ◌∷◌, ◌++◌, ◌+◌, ◌<◌, ◌≤◌, length, map, OnOk, IfOk};
 ghost use Rattle.it_space.specs.Answers.{certificate_view};
-ghost use Rattle.it_space.specs.Problems.{IsProblem, problem_view};
 ghost use Rattle.it_space.specs.Rows.{IsOver};
 ghost use Rattle.it_space.specs.Spaces.{size_of};
 ghost use Rattle.it_prove.specs.ClosedProblems.{IsClosedProblem};
@@ -18,37 +17,36 @@ use it_prove::{ClosedProblem, Effort, Proof};
 use it_space::{Certificate, Problem, Row, System};
 use std::alloc::{AllocError, Global};
 
-/// The rows of a system without those that the others give. They are visited in order: each is the target of a run under the
-/// givens and all other rows that still stand, in order, each of these as a `row` line, counted from 1. A proof drops it.
+/// Reduces the rows of `system`: visits them in order, each as the target of a run under the givens and all other rows that are still
+/// in the list, in order, as `row` lines counted from 1. A row that is proved is dropped, any other is kept.
 pub fn reduce(
     alloc: Global,
     system: &System,
     givens: &Problem,
     effort: Effort,
 ) -> Result<Reduced, AllocError>
-    requires system { IsSystemUnder (problem_view givens.now) system.now }
+    requires system { IsSystemUnder givens.now system.now }
     requires few_rows { length system.now.rows.items ≤ 65535 }
-    ensures reduces { IfOk result (λ r. Reduces (problem_view givens.now) effort [] system.now.rows.items (kept_view r) (dropped_view r)) }
-    ensures alike { IfOk result (λ r. HoldAlike (problem_view givens.now) system.now.rows.items (kept_rows (kept_view r))) }
-    ensures needed { IfOk result (λ r. AreNeeded (problem_view givens.now) (kept_view r)) }
+    ensures reduces { IfOk result (λ r. Reduces givens.now effort [] system.now.rows.items (kept_view r) (dropped_view r)) }
+    ensures alike { IfOk result (λ r. HoldAlike givens.now system.now.rows.items (kept_rows (kept_view r))) }
+    ensures needed { IfOk result (λ r. AreNeeded givens.now (kept_view r)) }
 {
-    // named before it is answered, so that the contract of the call stands at the answer
+    // named before it is returned, so that the contract of the call is available at the return
     let reduced = reduced_rows(alloc, system.rows.as_slice(), givens, effort)?;
     Ok(reduced)
 }
 
-/// The reduction, without what follows for its rows.
+/// Like `reduce`, without the claims about the rows that are kept.
 fn reduced_rows(
     alloc: Global,
     rows: &[Row],
     givens: &Problem,
     effort: Effort,
 ) -> Result<Reduced, AllocError>
-    requires givens { IsProblem (problem_view givens.now) }
     requires rows { AreRowsUpTo (size_of givens.now.space) rows.now }
     requires few_rows { length rows.now ≤ 65535 }
-    requires few_givens { length givens.now.constraints.items ≤ 65535 }
-    ensures { IfOk result (λ r. Reduces (problem_view givens.now) effort [] rows.now (kept_view r) (dropped_view r)) }
+    requires few_givens { length givens.now.constraints ≤ 65535 }
+    ensures { IfOk result (λ r. Reduces givens.now effort [] rows.now (kept_view r) (dropped_view r)) }
 {
     let mut closed = ClosedProblem::read(alloc, givens, effort)?;
     let mut problem = problem_with(alloc, givens, rows)?;
@@ -71,8 +69,8 @@ fn reduced_rows(
     Ok(reduced)
 }
 
-/// Visits a row: in the problem the rows that stay so far stand before it, the others after it. It is taken out for its run, and put
-/// back where it stays. What is made of the givens serves each visit.
+/// Visits `row`: in `problem` the rows kept so far are before it, and the unvisited ones after it. It is removed for its run, and
+/// inserted again if it is kept. `closed` is the closed problem of the givens, which serves each visit.
 fn visit(
     alloc: Global,
     givens: &Problem,
@@ -83,20 +81,20 @@ fn visit(
     after: &[Row],
     effort: Effort,
 ) -> Result<(), AllocError>
-    requires givens { IsProblem (problem_view givens.now) }
-    requires few_givens { length givens.now.constraints.items ≤ 65535 }
+    requires few_givens { length givens.now.constraints ≤ 65535 }
     requires few { length reduced.old.kept.items + length after.now < 65535 }
     requires row { IsOver (size_of givens.now.space) row.now }
     requires kept { AreRowsUpTo (size_of givens.now.space) (map (λ k. k.0) reduced.old.kept.items) }
     requires after { AreRowsUpTo (size_of givens.now.space) after.now }
-    requires closed { IsClosedProblem (problem_view givens.now) closed.old }
-    requires problem { problem_view problem.old ≡ with_rows (problem_view givens.now) (map (λ k. k.0) reduced.old.kept.items ++ row.now ∷ after.now) }
-    ensures visited { OnOk result (IsVisited (problem_view givens.now) effort row.now after.now reduced.old reduced.new) }
-    ensures closed { OnOk result (IsClosedProblem (problem_view givens.now) closed.new) }
-    ensures problem { OnOk result (problem_view problem.new ≡ with_rows (problem_view givens.now) (map (λ k. k.0) reduced.new.kept.items ++ after.now)) }
+    requires closed { IsClosedProblem givens.now closed.old }
+    requires problem { problem.old ≡ with_rows givens.now (map (λ k. k.0) reduced.old.kept.items ++ row.now ∷ after.now) }
+    ensures visited { OnOk result (IsVisited givens.now effort row.now after.now reduced.old reduced.new) }
+    ensures closed { OnOk result (IsClosedProblem givens.now closed.new) }
+    ensures problem { OnOk result (problem.new ≡ with_rows givens.now (map (λ k. k.0) reduced.new.kept.items ++ after.now)) }
 {
+    givens.facts();
     let line = reduced.kept.len() + 1;
-    let place = givens.constraints.len() + reduced.kept.len();
+    let place = givens.constraints().len() + reduced.kept.len();
     remove_row(&mut problem.constraints, place, line);
     let proof = closed.prove(alloc, problem, row, effort)?;
     put(alloc, reduced, row, proof)?;
@@ -106,7 +104,7 @@ fn visit(
     Ok(())
 }
 
-/// Puts a row where its outcome wants it: after those that went, or after those that stay.
+/// Appends `row` to the dropped rows or to the kept ones, by its outcome.
 fn put(alloc: Global, reduced: &mut Reduced, row: &Row, proof: Proof) -> Result<(), AllocError>
     ensures kept { OnOk result (kept_view reduced.new ≡ kept_view reduced.old ++ kept_by row.now (proof_view proof)) }
     ensures dropped { OnOk result (dropped_view reduced.new ≡ dropped_view reduced.old ++ dropped_by row.now (proof_view proof)) }
@@ -118,7 +116,7 @@ fn put(alloc: Global, reduced: &mut Reduced, row: &Row, proof: Proof) -> Result<
     }
 }
 
-/// Puts a row with its certificate after those that went.
+/// Appends `row` with its certificate to the dropped rows.
 fn drop_row(
     alloc: Global,
     reduced: &mut Reduced,
@@ -132,7 +130,7 @@ fn drop_row(
     Ok(())
 }
 
-/// Puts a row with its need after those that stay.
+/// Appends `row` with its need to the kept rows.
 fn keep(alloc: Global, reduced: &mut Reduced, row: &Row, need: Need) -> Result<(), AllocError>
     ensures kept { OnOk result (kept_view reduced.new ≡ kept_view reduced.old ++ (row.now, need_view need) ∷ []) }
     ensures dropped { OnOk result (dropped_view reduced.new ≡ dropped_view reduced.old) }

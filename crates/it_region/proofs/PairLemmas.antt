@@ -5,7 +5,7 @@ use Rattle.std.proofs.lemmas.List.Elements.{All-head, All-tail, All-weaker}
 use Rattle.std.proofs.lemmas.List.Sums.{AllPass-from_list_all, list_all-from_AllPass}
 use Rattle.it_space.specs.declared.spaces.Space.{Space}
 use Rattle.it_space.specs.declared.problems.Constraint.{Constraint}
-use Rattle.it_space.specs.Problems.{IsProblem, problem_view}
+use Rattle.it_space.specs.Problems.{IsProblem}
 use Rattle.it_space.specs.Rows.{Terms, IsOver, row_mass}
 use Rattle.it_space.specs.Spaces.{size_of}
 use Rattle.it_question.specs.Limits.{IsQuestion, IsVerbOver, IsRegionOf}
@@ -47,7 +47,7 @@ stated_rows s places ds cs a = zip-right (States s) (λ c. IsOver (size_of s) c.
 pub region_wider : (q : BodyView) (r : RegionView) → IsRegionOf q.names r → length r.names.variables ≡ length q.names.variables + r.auxiliaries
 region_wider q r k = omega (arith, ap length k.variables, length-append q.names.variables k.own, k.counted)
 
-pair_limits : (q : BodyView) (a b : RegionView) (p : Pair) → IsQuestion q → IsRegionOf q.names a → IsRegionOf q.names b → IsProblem (problem_view p.first) → IsPairOf q a b p → IsPair p
+pair_limits : (q : BodyView) (a b : RegionView) (p : Pair) → IsQuestion q → IsRegionOf q.names a → IsRegionOf q.names b → IsProblem p.first → IsPairOf q a b p → IsPair p
 pair_limits q a b p k l r problem o =
     let front : p.first.space ≡ space_of a.names = o.first_space in
     let n : p.first.space.variables ≡ length a.names.variables = ap (λ (s : Space). s.variables) front in
@@ -68,12 +68,12 @@ pair_limits q a b p k l r problem o =
       rates = ap (λ (s : Space). s.rates) o.second_space ∙ ap length r.rates ∙ sym (ap length l.rates) ∙ sym (ap (λ (s : Space). s.rates) front);
     }
 
-limits_by : (q : BodyView) (m : VerbView) (p : Pair) → IsQuestion q → IsVerbOver q.names m → IsProblem (problem_view p.first) → PairsBy q m p → IsPair p
+limits_by : (q : BodyView) (m : VerbView) (p : Pair) → IsQuestion q → IsVerbOver q.names m → IsProblem p.first → PairsBy q m p → IsPair p
 limits_by q (Prove r) p k a problem o = absurd o
 limits_by q (Eliminate rates) p k a problem o = absurd o
 limits_by q (Contain a b tries) p k l problem o = pair_limits q a b p k l.0 l.1 problem o
 
-pub limits_of : {E : Type 0} (q : BodyView) (r : Result Pair E) → IsQuestion q → IfOk r (Pairs q) → IfOk r (λ p. IsProblem (problem_view p.first)) → IfOk r IsPair
+pub limits_of : {E : Type 0} (q : BodyView) (r : Result Pair E) → IsQuestion q → IfOk r (Pairs q) → IfOk r (λ p. IsProblem p.first) → IfOk r IsPair
 limits_of q (Err e) k a b = tt
 limits_of q (Ok p) k a b = limits_by q q.verb p k k.verb b a
 
@@ -97,7 +97,7 @@ pub pair_of_verb : (q : BodyView) (first second : RegionView) (tries : List (Lis
 pair_of_verb q first second tries p is h = subst (λ (m : VerbView). PairsBy q m p) is h
 
 -- what problem and second region's own constraints make a pair of a question's regions
-pub pair_by : (q : BodyView) (a b : RegionView) (tries : List (List ℕ)) (p : Pair) (given row : ℕ) → q.verb ≡ Contain a b tries → IsProblemOf q (problem_view p.first) → p.space ≡ space_of b.names
+pub pair_by : (q : BodyView) (a b : RegionView) (tries : List (List ℕ)) (p : Pair) (given row : ℕ) → q.verb ≡ Contain a b tries → IsProblemOf q p.first → p.space ≡ space_of b.names
     → given ≡ 1 + length q.lines.givens → row ≡ 1 + length q.lines.rows → AreStated p.space (origins_from p.space.variables given row b.lines) (line_demands p.space.variables b.lines) p.own.items
     → p.common ≡ length q.names.variables → p.parts ≡ b.auxiliaries → Pairs q p
 pair_by q a b tries p given row is posed second e f own common parts = subst (λ (v : VerbView). PairsBy q v p) (sym is) (record {

@@ -21,7 +21,7 @@ use Rattle.it_region.specs.Obligations.{pulled_form, constraint_obligations, IsP
 
 -- ---- the terms of one row
 
--- the row at the pulled-back map, or its negation where it is turned
+-- the row at the pulled-back map, negated if `turned`
 abbrev pub signed_form : (ℕ → ℕ) → Bool → Terms → Form
 signed_form f turned ts p = signed_by turned (value ts (λ c. p (f c)))
 

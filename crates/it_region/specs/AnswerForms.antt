@@ -1,4 +1,4 @@
--- The forms that an answer speaks of.
+-- The forms that an answer is about.
 use Rattle.std.specs.Prelude.{List, []}
 use Rattle.it_space.specs.Answers.{AnswerView}
 use Rattle.it_space.specs.Answers.AnswerView.{Contained}
@@ -14,6 +14,6 @@ answer_forms_by q (Prove r) answer = targets (variable_count q) r
 answer_forms_by q (Contain a b tries) (Contained parts ws) = obligations q a b parts
 answer_forms_by q verb answer = []
 
--- what an answer to the question speaks of
+-- the forms that an answer to the question is about
 abbrev pub answer_forms : BodyView → AnswerView → List Form
 answer_forms q answer = answer_forms_by q q.verb answer

@@ -20,7 +20,7 @@ pulled_form f form p = form (λ c. p (f c))
 abbrev pub demand_obligations : (ℕ → ℕ) → List Demand → List Form
 demand_obligations f ds = flat_map (λ d. inequalities_of d.kind (pulled_form f d.form)) ds
 
--- and those that constraints give
+-- the obligations that constraints give, in order
 abbrev pub constraint_obligations : (ℕ → ℕ) → List Constraint → List Form
 constraint_obligations f [] = []
 constraint_obligations f (c ∷ cs) = inequalities_of c.kind (pulled_form f (value c.row)) ++ constraint_obligations f cs

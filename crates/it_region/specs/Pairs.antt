@@ -1,6 +1,6 @@
 -- Pairs of regions, and the candidates that fit them.
 use Rattle.std.specs.Prelude.{◌≡◌, ℕ, ◌+◌, ◌<◌, ◌≤◌, ◌^◌, ℤ, List, take, length, All}
-use Rattle.it_space.specs.Problems.{IsProblem, problem_view}
+use Rattle.it_space.specs.Problems.{IsProblem}
 use Rattle.it_space.specs.Rows.{IsOver, row_mass}
 use Rattle.it_space.specs.Spaces.{IsSpace, size_of}
 use Rattle.it_polymatroid.specs.Certificates.{Form}
@@ -18,7 +18,7 @@ use Rattle.it_region.specs.Obligations.{constraint_obligations}
 
 -- the pairs that calls take
 pub record IsPair (p : Pair) : Type 0 where
-  pub problem : IsProblem (problem_view p.first)
+  pub problem : IsProblem p.first
   pub space : IsSpace p.space
   pub rows : All (λ c. IsOver (size_of p.space) c.row) p.own.items
   pub small : All (λ c. row_mass c.row < 2 ^ 127) p.own.items
@@ -34,7 +34,7 @@ own_origins q b = origins_from (length b.names.variables) (1 + length q.lines.gi
 -- the pair of a question's regions
 pub record IsPairOf (q : BodyView) (a b : RegionView) (p : Pair) : Type 0 where
   pub first_space : p.first.space ≡ space_of a.names
-  pub first : AreStated p.first.space (question_origins q) (question_demands q) p.first.constraints.items
+  pub first : AreStated p.first.space (question_origins q) (question_demands q) p.first.constraints
   pub second_space : p.space ≡ space_of b.names
   pub own : AreStated p.space (own_origins q b) (line_demands (length b.names.variables) b.lines) p.own.items
   pub common : p.common ≡ length q.names.variables
@@ -54,7 +54,7 @@ abbrev pub IsContainment : VerbView → Type 0
 IsContainment (Contain a b tries) = Unit {0}
 IsContainment verb = ⊥
 
--- a set of the first region's variables for each part
+-- the candidate has a set of the first region's variables for each part
 pub record FitsPair (p : Pair) (c : Candidate) : Type 0 where
   pub complete : length c.parts ≡ 4
   pub count : c.count ≡ p.parts
@@ -68,7 +68,7 @@ pair_coordinate p sets c = pulled_coordinate p.first.space.variables p.space.var
 abbrev pub candidate_sets : Pair → Candidate → List ℕ
 candidate_sets p c = substituted_sets p.common (take c.count c.parts)
 
--- the same by a candidate
+-- the coordinate of the first region that one of the second stands for, by a candidate
 abbrev pub candidate_coordinate : Pair → Candidate → ℕ → ℕ
 candidate_coordinate p c = pair_coordinate p (candidate_sets p c)
 

@@ -1,4 +1,4 @@
--- What obligations are good for.
+-- What obligations prove.
 use Rattle.std.specs.Prelude.{◌≡◌, ℕ, ℤ, List, length}
 use Rattle.it_question.specs.Limits.{IsQuestion}
 use Rattle.it_question.specs.Questions.{RegionView, Contain, BodyView}
@@ -12,7 +12,7 @@ PulledPointIsIn = (q : BodyView) (a b : RegionView) (tries : List (List ℕ)) (p
     → (p : ℕ → ℤ) → IsIn q.lines a p → AreFormsAtLeastZero p (obligations q a b parts)
     → IsCounterpart q a b p (pulled_map (length a.names.variables) (length b.names.variables) (substituted_sets (length q.names.variables) parts) p)
 
--- So where they are at every point of the first region, it lies in the second.
+-- If every obligation is at least 0 at every point of the first region, the first region lies in the second.
 abbrev pub ObligationsContain : Type 0
 ObligationsContain = (q : BodyView) (a b : RegionView) (tries : List (List ℕ)) (parts : List ℕ) → IsQuestion q → q.verb ≡ Contain a b tries → IsSubstitution a b parts
     → ((p : ℕ → ℤ) → IsIn q.lines a p → AreFormsAtLeastZero p (obligations q a b parts)) → LiesIn q a b

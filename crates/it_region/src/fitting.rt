@@ -18,7 +18,7 @@ pub fn fits(pair: &Pair, candidate: &Candidate) -> bool
     }
 }
 
-/// Whether the first parts are sets of so many variables.
+/// Whether the first `count` parts of `candidate` are sets of `variables` variables.
 fn are_within(candidate: &Candidate, variables: u8) -> bool
     requires few { candidate.now.count ≤ 4 }
     requires variables { variables ≤ 10 }
@@ -27,7 +27,7 @@ fn are_within(candidate: &Candidate, variables: u8) -> bool
     are_below(&candidate.parts, candidate.count as usize, 1 << variables)
 }
 
-/// Whether the numbers of the first `count` parts are below a limit.
+/// Whether each of the first `count` parts is less than `limit`.
 pub fn are_below(parts: &[VarSet], count: usize, limit: u64) -> bool
     ensures { result ≡ list_all (λ s. nat_lt s limit) (take count parts.now) }
 {

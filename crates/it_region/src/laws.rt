@@ -1,4 +1,4 @@
-//! What obligations are good for, each theorem as the contract of a function.
+//! The theorems on obligations, each as the contract of a function.
 ghost use Rattle.it_region.specs.Theorems.{ObligationsContain, PulledPointIsIn};
 
 /// Where the obligations of a substitution hold at the points of a first region, it lies in the second.

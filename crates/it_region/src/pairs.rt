@@ -1,6 +1,6 @@
 //! The two regions of a containment question.
 ghost use Rattle.std.specs.Prelude.{IfOk};
-ghost use Rattle.it_space.specs.Problems.{IsProblem, problem_view};
+ghost use Rattle.it_space.specs.Problems.{IsProblem};
 ghost use Rattle.it_question.specs.Limits.{IsQuestion};
 ghost use Rattle.it_question.specs.Questions.{question_body};
 ghost use Rattle.it_region.specs.Pairs.{IsPair, Pairs, IsContainment};
@@ -20,12 +20,12 @@ pub fn pair(alloc: Global, question: &Question) -> Result<Pair, AllocError>
     pair_of(alloc, question)
 }
 
-/// The pair, without what follows for its limits.
+/// Like `pair`, without its clause on limits.
 fn pair_of(alloc: Global, question: &Question) -> Result<Pair, AllocError>
     requires question { IsQuestion (question_body question.now) }
     requires contains { IsContainment (question_body question.now).verb }
     ensures pair { IfOk result (Pairs (question_body question.now)) }
-    ensures problem { IfOk result (λ p. IsProblem (problem_view p.first)) }
+    ensures problem { IfOk result (λ p. IsProblem p.first) }
 {
     let Verb::Contain { second, .. } = &question.verb else {
         unreachable!()

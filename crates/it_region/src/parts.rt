@@ -4,7 +4,7 @@ ghost use Rattle.std.specs.Prelude.{◌≡◌, ◌≤◌, [], ◌∷◌, ◌++�
 use crate::types::Candidate;
 use it_space::VarSet;
 
-/// The set at a place, and after the last one the empty set.
+/// Set number `place` of `parts`, counted from 0; the empty set after the last one.
 fn part_at(parts: &[VarSet], place: usize) -> VarSet
     ensures { result ≡ get_or parts.now place 0 }
 {
@@ -15,7 +15,7 @@ fn part_at(parts: &[VarSet], place: usize) -> VarSet
     }
 }
 
-/// The candidate of these parts in order; the places after them hold the empty set.
+/// The candidate with these parts, in order; the places after them hold the empty set.
 #[tactic(auto, using(crate::proofs::TextLemmas::at_places, crate::proofs::TextLemmas::all_places))]
 pub fn candidate(parts: &[VarSet]) -> Candidate
     requires { length parts.now ≤ 4 }

@@ -16,7 +16,7 @@ use it_polymatroid::union_of_images;
 use it_space::{Constraint, Kind, Row, VarSet};
 use std::alloc::{AllocError, Global};
 
-/// What each variable of the second region stands for.
+/// The set that each variable of the second region stands for, in order.
 fn candidate_sets(
     alloc: Global,
     pair: &Pair,
@@ -33,7 +33,7 @@ fn candidate_sets(
     Ok(sets)
 }
 
-/// The sets of one variable each.
+/// The sets of one variable each, for the first `count` variables.
 fn singles(alloc: Global, count: u8) -> Result<Vec<VarSet>, AllocError>
     requires { count ≤ 10 }
     ensures { IfOk result (λ v. v.items ≡ singles 0 count) }
@@ -45,7 +45,7 @@ fn singles(alloc: Global, count: u8) -> Result<Vec<VarSet>, AllocError>
     Ok(sets)
 }
 
-/// The coordinate of the first region that one of the second stands for.
+/// The coordinate of the first region that `coordinate` of the second stands for.
 fn pulled_coordinate(pair: &Pair, sets: &[VarSet], coordinate: u32) -> usize
     requires pair { IsPair pair.now }
     requires sets { AreSetsFor pair.now sets.now }
@@ -57,11 +57,11 @@ fn pulled_coordinate(pair: &Pair, sets: &[VarSet], coordinate: u32) -> usize
     if coordinate < count {
         union_of_images(sets, VarSet::from_number(coordinate as u16)).number() as usize
     } else {
-        (1usize << pair.first.space.variables) + (coordinate - count) as usize
+        (1usize << pair.first.space().variables) + (coordinate - count) as usize
     }
 }
 
-/// A term's coefficient, or its negation.
+/// The coefficient of `term`, negated if `turned`.
 fn signed_coefficient(term: &(u32, i128), turned: bool) -> i128
     requires { unsigned_abs term.now.1 < 2 ^ 127 }
     ensures value { result ≡ signed_by turned term.now.1 }
@@ -70,7 +70,7 @@ fn signed_coefficient(term: &(u32, i128), turned: bool) -> i128
     if turned { -term.1 } else { term.1 }
 }
 
-/// Adds a term at its pulled coordinate.
+/// Adds `term`, negated if `turned`, at its pulled coordinate.
 fn add_term(sums: &mut Coefficients, pair: &Pair, sets: &[VarSet], term: &(u32, i128), turned: bool)
     requires pair { IsPair pair.now }
     requires sets { AreSetsFor pair.now sets.now }
@@ -85,7 +85,7 @@ fn add_term(sums: &mut Coefficients, pair: &Pair, sets: &[VarSet], term: &(u32, 
     );
 }
 
-/// The row that a row of the second region is at the pulled-back map, or that row turned.
+/// The row that `row`, of the second region, is at the pulled-back map, negated if `turned`.
 fn pulled_row(
     alloc: Global,
     pair: &Pair,
@@ -106,7 +106,7 @@ fn pulled_row(
     sums.into_row(alloc)
 }
 
-/// The row of a constraint at the pulled-back map, and after it the row turned where it is an equation.
+/// The row of a constraint at the pulled-back map; for an equation also its negation, after it.
 fn demanded_rows(
     alloc: Global,
     pair: &Pair,
@@ -142,7 +142,7 @@ fn rows_of(alloc: Global, pair: &Pair, sets: &[VarSet]) -> Result<Vec<Row>, Allo
 }
 
 /// What is to be at least 0 wherever the first region is met, for the candidate to show that it lies in the second: the
-/// second region's own constraints at the pulled-back map, in order. An equation has its row and then the row turned.
+/// second region's own constraints at the pulled-back map, in order. An equation has its row and then the negated row.
 pub fn obligations(
     alloc: Global,
     pair: &Pair,

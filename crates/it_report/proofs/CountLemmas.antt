@@ -18,7 +18,7 @@ as_many_forms : (k : Kind) (f g : Form) → length (inequalities_of k f) ≡ len
 as_many_forms Inequality f g = refl
 as_many_forms Equation f g = refl
 
--- whichever the number of variables is
+-- the number of targets doesn't depend on the number of variables
 pub targets_counted : (m n : ℕ) (r : RelationView) → length (targets m r) ≡ length (targets n r)
 targets_counted m n r = as_many_forms (kind_of r.sign) (form_of m r) (form_of n r)
 

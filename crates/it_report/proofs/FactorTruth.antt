@@ -90,7 +90,7 @@ denominator_is den v e = by_test (int_lt den (pos 1)) refl e
     by_test true t f = absurd (cc)
     by_test false t f = (search (rules, t), f)
 
--- what is to be 0 is
+-- what has to be 0 is 0
 is_zero : (place : ℕ) (row : Terms) (m : ℕ → ℤ) → zero_verdict place (sum_within (pos 0) row m) ≡ valid → value row m ≡ pos 0
 is_zero place row m e = by_sum (sum_within (pos 0) row m) refl e
   where
@@ -263,7 +263,7 @@ asks_relation q r e = by_verb q.verb refl e
     by_verb (Eliminate rates) about e = absurd (cc)
     by_verb (Contain first second tries) about e = absurd (cc)
 
--- where it asks by `prove`, the problem has its own names
+-- where a question asks by `prove`, its problem has its own names
 own_names : (q : BodyView) (r : RelationView) → q.verb ≡ Prove r → problem_names q ≡ q.names
 own_names q r about = ap (λ v. names_under q.names v) about
 

@@ -7,7 +7,7 @@ use Rattle.std.proofs.lemmas.Nat.{pow_pos}
 use Rattle.it_space.specs.declared.spaces.Space.{Space}
 use Rattle.it_space.specs.Answers.{AnswerView, CertificateView, answer_view, certificate_view}
 use Rattle.it_space.specs.Answers.AnswerView.{Yes, No, Undecided, Region, Contained, Open}
-use Rattle.it_space.specs.Problems.{ProblemView, problem_view}
+use Rattle.it_space.specs.Problems.{ProblemView}
 use Rattle.it_space.specs.Rows.{IsOver, Terms}
 use Rattle.it_space.proofs.EveryLemmas.{all_of, every_of, every-map, every-same}
 use Rattle.it_space.specs.Spaces.{size_of}
@@ -113,7 +113,7 @@ has_a_verdict q (Region rows) is_no none = absurd is_no
 has_a_verdict q (Contained parts ws) is_no none = absurd is_no
 has_a_verdict q (Open tried) is_no none = absurd is_no
 
--- where nothing is said to be invalid, it is valid
+-- a no whose line doesn't say `invalid` is valid
 is_valid_no : (k : ℕ) (q : BodyView) (a : AnswerView) (t : List ℕ) (i : Bool) → IsNo a → i ≡ false → IsJudgedAnswer k q a t i → verdict_of q a ≡ Some Valid
 is_valid_no k q a t i is_no valid judged = by_verdict judged.verdict judged.is judged.told
   where
@@ -139,7 +139,7 @@ invalid_coded k q a c t i is_no invalid judged = by_verdict judged.verdict judge
     by_verdict (OtherCode names s) is told = absurd is
     by_verdict (Hulled v) is told = absurd is
 
--- one that is valid and of the code is so with it
+-- a no that is valid and whose point is of the code is valid with the code
 pub valid_coded : (k : ℕ) (q : BodyView) (a : AnswerView) (c : ReportedCodeView) (t : List ℕ) (i : Bool) → IsNo a → i ≡ false → IsJudgedAnswer k q a t i → AreEntropies c.code c.times (values_of a) → IsJudgedCoded k q a c t i
 valid_coded k q a c t i is_no valid judged all = by_verdict judged.verdict judged.is judged.told
   where
@@ -224,12 +224,12 @@ module _ {L E : Type 0} (text : L → List ℕ) (invalid : L → Bool) (k : ℕ)
   verdict_is_told q a names v (Ok j) h told = record { verdict = Judged names v; is = h; told = told }
   verdict_is_told q a names v (Err e) h told = tt
 
-  -- of an answer without a verdict that is told
+  -- an answer without a verdict is skipped
   pub skipped_is_told : (q : BodyView) (a : AnswerView) (r : Result L E) → verdict_of q a ≡ None → IfOk r (λ j. IsLineOf k Skipped (text j) (invalid j)) → IfOk r (λ j. IsJudgedAnswer k q a (text j) (invalid j))
   skipped_is_told q a (Ok j) none told = record { verdict = Skipped; is = none; told = told }
   skipped_is_told q a (Err e) none told = tt
 
-  -- of a no that is valid the first set whose value is another by the code is told
+  -- the line about a valid no names the first set whose value is another by the code
   pub other_coded : (q : BodyView) (a : AnswerView) (c : ReportedCodeView) (t : List ℕ) (i : Bool) (names : NamesView) (s : ℕ) (r : Result L E) → IsNo a → i ≡ false → IsJudgedAnswer k q a t i → names ≡ problem_names q
       → IsFirstOther c.code c.times (values_of a) s → IfOk r (λ j. IsLineOf k (OtherCode names s) (text j) (invalid j)) → IfOk r (λ j. IsJudgedCoded k q a c (text j) (invalid j))
   other_coded q a c t i names s (Ok j) is_no valid judged own first told = record { verdict = OtherCode names s; is = (own, is_valid_no k q a t i is_no valid judged, first); told = told }
@@ -385,8 +385,8 @@ module _ (q : BodyView) (p : Pair) (parts : List ℕ) (ws : List CertificateView
   pair_space : p.first.space ≡ space_of (problem_names q)
   pair_space = of_pair (p.first.space ≡ space_of (problem_names q)) (λ first second tries e o h. o.first_space ∙ sym (ap (λ v. space_of (names_under q.names v)) e))
 
-  pub pair_problem : IsProblemOf q (problem_view p.first)
-  pair_problem = record { space = pair_space; limits = l.problem; constraints = of_pair (AreStated p.first.space (question_origins q) (question_demands q) p.first.constraints.items) (λ first second tries e o h. o.first) }
+  pub pair_problem : IsProblemOf q p.first
+  pair_problem = record { space = pair_space; limits = l.problem; constraints = of_pair (AreStated p.first.space (question_origins q) (question_demands q) p.first.constraints) (λ first second tries e o h. o.first) }
 
   pub candidate_fits : (c : Candidate) → length c.parts ≡ 4 → c.count ≡ length parts → take c.count c.parts ≡ parts → FitsPair p c
   candidate_fits c four count same = of_pair (FitsPair p c) (λ first second tries e o h. parts_fit q first second p o c parts four count same h)
@@ -446,7 +446,7 @@ set_named q a c names s h own first =
 
 -- ---- a region with origins
 
--- its rows are over the question's coordinates
+-- the rows of a region are over the question's coordinates
 pub rows_over : (q : BodyView) (a : AnswerView) → IsRegion a → HasQuestionShape q a → All (IsOver (size_of (space_of q.names))) (rows_of a)
 rows_over q (Yes ws) is_region fits = absurd is_region
 rows_over q (No back values) is_region fits = absurd is_region

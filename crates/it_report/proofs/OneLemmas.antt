@@ -51,7 +51,7 @@ same_read x y e = cc
 none_judged : (v : Verdict) → None ≡ Some v → ⊥
 none_judged v e = cc
 
--- of an answer one thing is told
+-- an answer has one line verdict
 answer_once : (q : BodyView) (a : AnswerView) (v w : LineVerdict) → IsAnswerVerdict q a v → IsAnswerVerdict q a w → v ≡ w
 answer_once q a NotJson w h k = absurd h
 answer_once q a (Shape j) w h k = absurd h
@@ -73,7 +73,7 @@ answer_once q a (Judged m v) (OtherCode n s) h k = absurd k
 answer_once q a (Hulled v) w h k = absurd h
 answer_once q a (OtherCode m s) w h k = absurd h
 
--- of a no with a code one thing is told
+-- a no with a code has one line verdict
 coded_once : (q : BodyView) (a : AnswerView) (c : ReportedCodeView) (v w : LineVerdict) → IsCodedVerdict q a c v → IsCodedVerdict q a c w → v ≡ w
 coded_once q a c NotJson w h k = absurd h
 coded_once q a c (Shape j) w h k = absurd h
@@ -95,7 +95,7 @@ coded_once q a c (OtherCode m s) (Weighed n w) h k = absurd k
 coded_once q a c (OtherCode m s) (OtherCode n t) h k = ap₂ OtherCode (h.0 ∙ sym k.0) (one_first_other c.code c.times (values_of a) s t h.2 k.2)
 coded_once q a c (OtherCode m s) (Hulled w) h k = absurd k
 
--- of bounds one thing is told
+-- bounds have one line verdict
 hull_once : (q : BodyView) (b : BoundsView) (v w : HullVerdict) → HullVerdictIs q b v → HullVerdictIs q b w → v ≡ w
 hull_once q b v w h k =
     h.verdict_is ∙ ap (rows_verdict b.rows) (one_span_end (hull_frame most_rows q) 0 (first_rows (kept_rates q (gone_rates q.verb))) b.steps h.end k.end h.ends k.ends) ∙ sym k.verdict_is

@@ -25,7 +25,7 @@ use Rattle.it_certificate.proofs.OriginFits.{derived_fits}
 use Rattle.it_certificate.proofs.FitLemmas.{answer_fits, bounds_fit, key_ok, then_ok}
 use Rattle.it_report.proofs.OneLemmas.{as_read, same_read}
 
--- a reading is of what the line is about, and then of what it tells of that
+-- a reading is made of what the line is about, and then of what it tells of that
 record IsFromSource (A : Type 0) (own : Option Source) (told : Source → Result A Key) (make : Source → A → Reading) (reading : Reading) : Type 0 where
   source : Source
   part : A
@@ -40,7 +40,7 @@ from_source A own k told make x e =
     let l = then_ok (told h.0) (λ a. as_read (make h.0 a)) x h.1.1 in
     record { source = h.0; part = l.0; is = key_ok k own h.0 h.1.0; reads = l.1.0; makes = same_read (make h.0 l.0) x l.1.1 }
 
--- of a no with a code, of the no and then of the code
+-- a reading of a no with a code: what the line is about, the no and then the code
 record IsFromCoded (own : Option Source) (d : Data) (reading : Reading) : Type 0 where
   source : Source
   answer : AnswerView
@@ -65,7 +65,7 @@ from_coded own d x e =
       makes = same_read (Coded h.0 l.0 m.0) x m.1.1;
     }
 
--- of a region with origins, of the region and then of its origins
+-- a reading of a region with origins: what the line is about, the region and then its origins
 record IsFromDerived (own : Option Source) (d : Data) (reading : Reading) : Type 0 where
   source : Source
   answer : AnswerView

@@ -54,11 +54,11 @@ use Rattle.it_report.proofs.VerdictLemmas.{both_valid}
 pub fits_question : (line : List ℕ) (source : Source) (a : AnswerView) → ReadsReport line (Ok (Answered source a)) → HasQuestionShape (asked source).body a
 fits_question line source a h = (answer_is h.reads.own h.value source a h.reads.is).1
 
--- the line's value is about that
+-- the line's value is about the source of its reading
 pub source_read : (line : List ℕ) (source : Source) (a : AnswerView) (h : ReadsReport line (Ok (Answered source a))) → IsSourceOf h.value source
 source_read line source a h = subst (IsSourceAt h.value) (answer_is h.reads.own h.value source a h.reads.is).0 h.reads.source
 
--- so the question keeps the limits and has small numbers
+-- the question that a line asks keeps the limits and has small numbers
 pub limits_question : (line : List ℕ) (source : Source) (a : AnswerView) → ReadsReport line (Ok (Answered source a)) → IsQuestion (asked source).body
 limits_question line source a h = source_limits h.value source (source_read line source a h)
 

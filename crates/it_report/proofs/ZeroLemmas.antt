@@ -1,4 +1,4 @@
--- The verdict on what is to be 0, as the code forms it.
+-- The verdict on what has to be 0, as the code forms it.
 use Rattle.std.proofs.Common.{◌≡◌, ◌≢◌, ℕ, ℤ, pos, Bool, true, false, cond, Result, Ok, Err, OkIff, refl, sym, ap, ◌∙◌}
 use Rattle.std.specs.Ordering.{int_eq}
 use Rattle.std.specs.Result.{result_ok}

@@ -12,15 +12,15 @@ use Rattle.it_rates.specs.Frames.{hull_frame}
 use Rattle.it_certificate.specs.Bounds.{BoundsView}
 use Rattle.it_report.specs.RowVerdicts.{is_valid, proofs_verdict, rays_verdict}
 
--- on the certificates in order, and then on the points
+-- the verdict on the certificates in order, and then on the points
 abbrev pub parts_verdict : ProblemView → BoundsView → Verdict
 parts_verdict p b = if is_valid (proofs_verdict p b.rows b.proofs) then rays_verdict p b.steps else proofs_verdict p b.rows b.proofs
 
--- the same by the text: all lines of the question are constraints
+-- the verdict `parts_verdict` by the text: all lines of the question are constraints
 abbrev pub bounds_verdict : BodyView → BoundsView → Verdict
 bounds_verdict q b = parts_verdict (problem_of (under_all_lines q)) b
 
--- one more ray may leave so many rows
+-- the most rows that one more ray may leave
 abbrev pub most_rows : ℕ
 most_rows = 4096
 

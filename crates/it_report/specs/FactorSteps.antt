@@ -11,7 +11,7 @@ use Rattle.it_report.specs.declared.factors.FactorVerdict.TheVariants.{Checked}
 use Rattle.it_check.specs.declared.verdicts.Verdict.TheVariants.{Width}
 use Rattle.it_report.specs.Steps.{IsVerdictOver}
 
--- the verdict of one that forms rows on the way, against what is told; of want of memory nothing is
+-- the verdict of a caller that forms rows is the verdict by the definition; nothing is said where allocation fails
 abbrev pub Gives : Result FactorVerdict RowStop → FactorVerdict → Type 0
 Gives (Ok v) verdict = v ≡ verdict
 Gives (Err stops.Memory) verdict = Unit {0}

@@ -17,29 +17,29 @@ use Rattle.it_report.specs.RowVerdicts.{is_valid, proof_verdict}
 use Rattle.it_report.specs.declared.factors.FactorVerdict.{FactorVerdict}
 use Rattle.it_report.specs.declared.factors.FactorVerdict.TheVariants.{BelowOne, Checked, NotZero}
 
--- what follows where there is a row; else that a number is wide at the coordinate
+-- `judge` of the row, if it was formed; else that a number is wide at the coordinate
 abbrev pub with_row : Result Terms ℕ → (Terms → FactorVerdict) → FactorVerdict
 with_row (Ok row) judge = judge row
 with_row (Err c) judge = Checked (Width c)
 
 -- ---- verdicts
 
--- what is to be 0 is wide, or isn't 0
+-- the verdict on a value that has to be 0: it is wide, 0 or another number
 abbrev pub zero_verdict : ℕ → Option ℤ → FactorVerdict
 zero_verdict place None = Checked (Width place)
 zero_verdict place (Some x) = if int_eq x (pos 0) then Checked Valid else NotZero x
 
--- the first verdict, or where nothing is wrong the other one
+-- `verdict`, or `other` where `verdict` is valid
 abbrev pub first_wrong : Verdict → FactorVerdict → FactorVerdict
 first_wrong verdict other = if is_valid verdict then other else Checked verdict
 
--- values at which the problem is met and the first row is -1 or less, and then that the other row is 0 there
+-- the verdict on values: the problem is met there with `below` at -1 or less, and then `zero` is 0 there
 abbrev pub tight_verdict : ProblemView → Terms → Terms → List ℤ → FactorVerdict
 tight_verdict p below zero values =
     first_wrong (no_verdict (length (elementals p.space.variables)) (generators p) below (point_of values))
     (zero_verdict (length (generators p) + 1) (sum_within (pos 0) zero (point_of values)))
 
--- a factor from a denominator of 1 on
+-- the verdict on a factor whose denominator has to be at least 1
 abbrev pub from_one : ℤ → FactorVerdict → FactorVerdict
 from_one den verdict = if int_lt den (pos 1) then BelowOne den else verdict
 

@@ -41,7 +41,8 @@ answer_verdict p ts answer = None
 abbrev pub verdict_of : BodyView → AnswerView → Option Verdict
 verdict_of q answer = answer_verdict (problem_of q) (map (terms_in q) (answer_forms q answer)) answer
 
--- what is told of it: that it isn't judged, or the verdict with the names of the problem, so of a containment its first region's
+-- the line verdict on an answer: it isn't judged, or its verdict with the names of the problem, of a containment those of its
+-- first region's problem
 abbrev pub IsAnswerVerdict : BodyView → AnswerView → LineVerdict → Type 0
 IsAnswerVerdict q answer Skipped = verdict_of q answer ≡ None
 IsAnswerVerdict q answer (Judged names v) = (names ≡ problem_names q) × (verdict_of q answer ≡ Some v)
@@ -53,12 +54,12 @@ IsAnswerVerdict q answer verdict = ⊥
 abbrev pub factor_verdict_of : BodyView → RelationView → BestView → Option FactorVerdict
 factor_verdict_of q r best = best_verdict (problem_of q) (terms_in q (left_form (variable_count q) r)) (terms_in q (right_form (variable_count q) r)) best
 
--- what is told by a verdict, with the names of the problem, or where there is none
+-- the line verdict by a verdict on factors, with the names of the problem; `Skipped` where there is none
 abbrev pub weighed_by : BodyView → Option FactorVerdict → LineVerdict
 weighed_by q None = Skipped
 weighed_by q (Some v) = Weighed (problem_names q) v
 
--- what is told of the factors of the relation that a question asks about
+-- the line verdict on what is found of the factors of the relation that a question asks about
 abbrev pub factor_line_verdict : BodyView → BestView → LineVerdict
 factor_line_verdict q best = weighed_by q (option_and_then (λ r. factor_verdict_of q r best) (asked_by q.verb))
 
@@ -69,8 +70,8 @@ abbrev pub values_of : AnswerView → List ℤ
 values_of (No back values) = values
 values_of answer = []
 
--- what is told of a no with a code: the verdict on the no; where that is valid, the first set whose value isn't the code's entropy, in
--- units of the point, if there is one
+-- the line verdict on a no with a code: the verdict on the no; where that is valid, the first set, if any, whose value isn't
+-- the code's entropy in units of the point
 abbrev pub IsCodedVerdict : BodyView → AnswerView → ReportedCodeView → LineVerdict → Type 0
 IsCodedVerdict q answer c (Judged names v) = (names ≡ problem_names q) × (verdict_of q answer ≡ Some v) × (v ≡ Valid → AreEntropies c.code c.times (values_of answer))
 IsCodedVerdict q answer c (OtherCode names s) = (names ≡ problem_names q) × (verdict_of q answer ≡ Some Valid) × IsFirstOther c.code c.times (values_of answer) s
@@ -78,14 +79,15 @@ IsCodedVerdict q answer c verdict = ⊥
 
 -- ---- of origins
 
--- what is told of a region with a certificate for each of its rows: the verdict on these, where all lines of the question are constraints
+-- the line verdict on a region with a certificate for each of its rows: the verdict on these, where all lines of the question
+-- are constraints
 abbrev pub IsDerivedVerdict : BodyView → AnswerView → List CertificateView → LineVerdict → Type 0
 IsDerivedVerdict q answer origins verdict = verdict ≡ Judged q.names (proofs_verdict (problem_of (under_all_lines q)) (rows_of answer) origins)
 
 -- ---- of bounds
 
--- what is told of an outer bound: what is wrong with a certificate or a point, with the names of the question; where nothing is, the
--- verdict on its rows as the hull of its rays
+-- the line verdict on an outer bound: what is wrong with a certificate or a point, with the names of the question; where
+-- nothing is, the verdict on its rows as the hull of its rays
 abbrev pub IsBoundsVerdict : BodyView → BoundsView → LineVerdict → Type 0
 IsBoundsVerdict q b (Judged names v) = (names ≡ q.names) × (bounds_verdict q b ≡ v) × (is_valid v ≡ false)
 IsBoundsVerdict q b (Hulled v) = (bounds_verdict q b ≡ Valid) × HullVerdictIs q b v
@@ -93,8 +95,8 @@ IsBoundsVerdict q b verdict = ⊥
 
 -- ---- of lines
 
--- what is told of what a line says: the verdict on an answer to the question that is asked, on a no with its code, on a region with its origins, on what is found of its factors, or on its
--- bounds; and that a misfit isn't judged
+-- the line verdict on what a line says: on an answer to the question that is asked, on a no with its code, on a region with its
+-- origins, on what is found of its factors, or on its bounds; a misfit isn't judged
 abbrev pub IsReadingVerdict : Reading → LineVerdict → Type 0
 IsReadingVerdict (Answered source answer) v = IsAnswerVerdict (asked source).body answer v
 IsReadingVerdict (Coded source answer c) v = IsCodedVerdict (asked source).body answer c v
@@ -103,19 +105,20 @@ IsReadingVerdict (Factored source best) v = v ≡ factor_line_verdict (asked sou
 IsReadingVerdict (Bounded source b) v = IsBoundsVerdict (asked source).body b v
 IsReadingVerdict Misfit v = v ≡ Skipped
 
--- the line says something, and this is told of it
+-- the line has a reading, and this is the verdict on it
 pub record HasReading (line : List ℕ) (v : LineVerdict) : Type 0 where
   pub reading : Reading
   pub reads : ReadsReport line (Ok reading)
   pub verdict : IsReadingVerdict reading v
 
--- the verdict on a line: it is no JSON; this key is the first that is missing or of another shape; or it says something, of which this is told
+-- the verdict on a line: it is no JSON; this key is the first that is missing or of another shape; or the line has a reading
+-- with this verdict
 abbrev pub IsVerdict : List ℕ → LineVerdict → Type 0
 IsVerdict line NotJson = IsUtf8 line → read line ≡ None
 IsVerdict line (Shape key) = ReadsReport line (Err key)
 IsVerdict line verdict = HasReading line verdict
 
--- the text is the line of the verdict on line k of a report, and `invalid` tells whether it says so
+-- the text is the line of the verdict on line `k` of a report, and `invalid` says whether that is an invalid one
 pub record IsJudgedLine (k : ℕ) (line text : List ℕ) (invalid : Bool) : Type 0 where
   pub verdict : LineVerdict
   pub is : IsVerdict line verdict

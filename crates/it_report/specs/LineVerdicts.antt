@@ -16,10 +16,14 @@ use Rattle.it_report.specs.RowVerdicts.{is_valid}
 use Rattle.it_report.specs.declared.factors.FactorVerdict.{FactorVerdict}
 use Rattle.it_report.specs.declared.factors.FactorVerdict.TheVariants.{BelowOne, Checked, NotZero}
 
--- The line has no reading as JSON; a key of it is missing or of another shape; its answer isn't judged; or it is, or what it says of
--- factors is, with this verdict, and these are the names of its question; or it is a no that is valid by itself, with a code by which the
--- value of this set is another; or it has an outer bound, of which rows and rays are right by themselves, with this verdict on the rows as
--- the hull of the rays.
+-- The verdict on a line of a report.
+-- `NotJson`: it has no reading as JSON
+-- `Shape`: this key is missing or of another shape
+-- `Skipped`: its answer isn't judged
+-- `Judged`: the verdict on its answer, with the names of its question
+-- `Weighed`: the verdict on what it says of factors, with the names of its question
+-- `OtherCode`: a no that is valid by itself, with a code by which the value of this set is another
+-- `Hulled`: an outer bound whose rows and rays are valid by themselves, with this verdict on the rows as the hull of the rays
 pub data LineVerdict : Type 0 where
   NotJson : LineVerdict
   Shape : (key : Key) → LineVerdict
@@ -78,7 +82,7 @@ verdict_text names (BrokenElemental i x) = codes "invalid elemental " ++ decimal
 verdict_text names (UnmetConstraint i x) = codes "invalid constraint " ++ decimal i ++ codes " " ++ signed_decimal x
 verdict_text names (NotViolated x) = codes "invalid target " ++ signed_decimal x
 
--- those of a verdict on what is said of factors
+-- the words of a verdict on what is said of factors
 unfoldable pub factor_verdict_text : NamesView → FactorVerdict → List ℕ
 factor_verdict_text names (BelowOne den) = codes "invalid factor " ++ signed_decimal den
 factor_verdict_text names (Checked verdict) = verdict_text names verdict
@@ -88,7 +92,7 @@ factor_verdict_text names (NotZero x) = codes "invalid zero " ++ signed_decimal 
 unfoldable pub other_text : NamesView → ℕ → List ℕ
 other_text names set = codes "invalid code " ++ coordinate_text names set
 
--- what is wrong with the steps of a hull: with a ray, or with a row that goes after it, both by number from 0
+-- what is wrong with the steps of a hull: with a ray, or with a row that is dropped after it, both by number from 0
 abbrev pub fault_text : Fault → List ℕ
 fault_text (TooMany ray) = codes "many " ++ decimal ray
 fault_text (TooWide ray) = codes "wide " ++ decimal ray
@@ -111,7 +115,7 @@ words_of (Weighed names verdict) = factor_verdict_text names verdict
 words_of (OtherCode names set) = other_text names set
 words_of (Hulled verdict) = hull_text verdict
 
--- a line of words about line k, which are counted from 1
+-- the line `words` about line `k`; lines are counted from 1
 unfoldable pub numbered_line : ℕ → List ℕ → List ℕ
 numbered_line k words = decimal k ++ codes " " ++ words ++ codes "\n"
 

@@ -59,8 +59,8 @@ abbrev pub ValidIsTrue : Type 0
 ValidIsTrue = (line : List ℕ) (names : NamesView) (source : Source) (answer : AnswerView)
     → IsVerdict line (Judged names Valid) → ReadsReport line (Ok (Answered source answer)) → IsClaimTrue (asked source).body answer
 
--- Where a valid no has a code, its relation fails at random variables: the point is such a place, and the value of each set of variables is
--- the entropy of those of the code, as many times as the line says.
+-- Where a valid no has a code, its relation fails at random variables: the point is such a place, and the value of each set of
+-- variables is the entropy of those of the code, as many times as the line says.
 abbrev pub ValidCodeIsTrue : Type 0
 ValidCodeIsTrue = (line : List ℕ) (names : NamesView) (source : Source) (back : Bool) (values : List ℤ) (c : ReportedCodeView)
     → IsVerdict line (Judged names Valid) → ReadsReport line (Ok (Coded source (No back values) c))
@@ -73,9 +73,9 @@ ValidOriginsAreTrue = (line : List ℕ) (names : NamesView) (source : Source) (r
     → IsVerdict line (Judged names Valid) → ReadsReport line (Ok (Derived source (Region rows) origins))
     → All (λ row. (p : ℕ → ℤ) → AreTrueTogether (under_all_lines (asked source).body) p → pos 0 ≤ℤ value row.1 p) rows
 
--- What a valid line says of factors is true of those of the relation that the question asks about: the least one holds wherever a
--- polymatroid and rates make the question's lines true, and no smaller one does; where there is none, none holds; where there is no least
--- one, the one that is told and all smaller ones hold.
+-- What a valid line says of factors is true of those of the relation that the question asks about: the least one holds wherever
+-- a polymatroid and rates make the question's lines true, and no smaller one does; where there is none, none holds; where there
+-- is no least one, the one that the line names and all smaller ones hold.
 abbrev pub ValidFactorIsTrue : Type 0
 ValidFactorIsTrue = (line : List ℕ) (names : NamesView) (source : Source) (best : BestView)
     → IsVerdict line (Weighed names (Checked Valid)) → ReadsReport line (Ok (Factored source best))

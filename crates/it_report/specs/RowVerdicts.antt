@@ -34,7 +34,7 @@ place_named back = if back then 1 else 0
 unfoldable pub point_verdict : ProblemView → List Terms → Bool → List ℤ → Verdict
 point_verdict p ts back values = no_verdict (length (elementals p.space.variables)) (generators p) (get_or ts (place_named back) []) (point_of values)
 
--- the verdict on a ray's point, which is to meet the problem
+-- the verdict on a ray's point, which has to meet the problem
 abbrev pub ray_verdict : ProblemView → List ℤ → Verdict
 ray_verdict p values = met_verdict (length (elementals p.space.variables)) (generators p) (point_of values)
 

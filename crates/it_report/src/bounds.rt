@@ -1,6 +1,5 @@
 //! The line about an outer bound.
 ghost use Rattle.std.specs.Prelude.{◌≡◌, ◌+◌, IfOk, length, All};
-ghost use Rattle.it_space.specs.Problems.{IsProblem, problem_view};
 ghost use Rattle.it_space.specs.Rows.{IsOver};
 ghost use Rattle.it_space.specs.Spaces.{size_of};
 ghost use Rattle.it_question.specs.Limits.{IsQuestion};
@@ -25,10 +24,9 @@ const MOST_ROWS: usize = 4096;
 
 /// The verdict on the certificates of the rows and on the points of the rays, in this order.
 fn parts_verdict(problem: &Problem, bounds: &ReportedBounds) -> Verdict
-    requires problem { IsProblem (problem_view problem.now) }
     requires rows { All (IsOver (size_of problem.now.space)) bounds.now.rows.items }
     requires rays { All (λ s. length s.ray ≡ size_of problem.now.space) bounds.now.steps.items }
-    ensures verdict { result ≡ parts_verdict (problem_view problem.now) (bounds_view bounds.now) }
+    ensures verdict { result ≡ parts_verdict problem.now (bounds_view bounds.now) }
     ensures over { IsVerdictOver (size_of problem.now.space + 1) result }
 {
     let verdict = proofs_verdict(problem, bounds.rows.as_slice(), bounds.proofs.as_slice());
@@ -39,7 +37,7 @@ fn parts_verdict(problem: &Problem, bounds: &ReportedBounds) -> Verdict
     }
 }
 
-/// The verdict on the rows as the hull of the rays: multipliers stand at the first rate that goes.
+/// The verdict on the rows as the hull of the rays. Multipliers stand at the first rate that is eliminated.
 fn hull_verdict(
     alloc: Global,
     question: &Question,
@@ -67,8 +65,8 @@ fn hull_verdict(
     Ok(verdict)
 }
 
-/// The line about an outer bound: what is wrong first with a certificate of a row or with a point of a ray; where nothing is, whether the
-/// rows are the hull of the rays. All lines of the question are constraints, `row` lines too.
+/// The line about an outer bound: the first thing wrong with a certificate of a row or with a point of a ray; if nothing is,
+/// whether the rows are the hull of the rays. All lines of the question are constraints, `row` lines too.
 pub fn bounds_line(
     alloc: Global,
     k: usize,

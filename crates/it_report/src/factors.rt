@@ -1,7 +1,6 @@
 //! The verdict on what is said of factors, by the rows of both sides of the relation under a problem.
 ghost use Rattle.std.specs.Prelude.{◌≡◌, ◌+◌, ℕ, length, pos, IfOk, Some};
 ghost use Rattle.it_space.specs.Answers.{certificate_view};
-ghost use Rattle.it_space.specs.Problems.{IsProblem, problem_view};
 ghost use Rattle.it_space.specs.Rows.{IsOver, point_of};
 ghost use Rattle.it_space.specs.Spaces.{size_of};
 ghost use Rattle.it_elemental.specs.Generators.{generators};
@@ -20,26 +19,27 @@ use it_ratio::{RowStop, side_row};
 use it_space::{Certificate, Point, Problem, Row, value};
 use std::alloc::{AllocError, Global};
 
-/// What is wrong with what is said of factors, or that nothing is.
+/// The verdict on what is said of factors: what is wrong with it, or that nothing is.
 #[derive(Clone, Copy)]
 pub enum FactorVerdict {
     /// The factor's denominator is below 1.
     BelowOne { den: i128 },
-    /// What the checker finds of a certificate or of a point; `Valid` where nothing is wrong. `Width` comes too where a coefficient of a
-    /// row passes the limit, with its coordinate, and where the sum that is to be 0 does, with the place after that of a point's target.
+    /// What the checker finds of a certificate or of a point; `Valid` where nothing is wrong. `Width` also where a coefficient
+    /// of a row passes the limit, with its coordinate, and where the sum that has to be 0 does, with the place after that of a
+    /// point's target.
     Checked(Verdict),
-    /// What is to be 0 at the point has this value.
+    /// The row that has to be 0 at the point has this value there.
     NotZero { value: i128 },
 }
 
-/// Whether the row is 0 at the point.
+/// The verdict on whether `row` is 0 at `point`.
 fn zero_verdict(problem: &Problem, row: &Row, point: &Point) -> FactorVerdict
-    requires problem { IsProblem (problem_view problem.now) }
     requires row { IsOver (size_of problem.now.space) row.now }
     requires complete { length point.now ≡ size_of problem.now.space }
-    ensures verdict { result ≡ zero_verdict (length (generators (problem_view problem.now)) + 1) (sum_within (pos 0) row.now (point_of point.now)) }
+    ensures verdict { result ≡ zero_verdict (length (generators problem.now) + 1) (sum_within (pos 0) row.now (point_of point.now)) }
     ensures over { IsFactorVerdictOver (size_of problem.now.space + 1) result }
 {
+    problem.facts();
     let Ok(value) = value(row, point) else {
         let place = generator_count(problem) + 1;
         return FactorVerdict::Checked(Verdict::Width { place });
@@ -51,13 +51,12 @@ fn zero_verdict(problem: &Problem, row: &Row, point: &Point) -> FactorVerdict
     }
 }
 
-/// Whether the point meets the problem with `below` at most -1 there, and `zero` 0.
+/// The verdict on whether `point` meets `problem`, with `below` at most -1 there and `zero` 0.
 fn tight_verdict(problem: &Problem, below: &Row, zero: &Row, point: &Point) -> FactorVerdict
-    requires problem { IsProblem (problem_view problem.now) }
     requires below { IsOver (size_of problem.now.space) below.now }
     requires zero { IsOver (size_of problem.now.space) zero.now }
     requires complete { length point.now ≡ size_of problem.now.space }
-    ensures verdict { result ≡ tight_verdict (problem_view problem.now) below.now zero.now point.now }
+    ensures verdict { result ≡ tight_verdict problem.now below.now zero.now point.now }
     ensures over { IsFactorVerdictOver (size_of problem.now.space + 1) result }
 {
     let verdict = check_no(problem, below, point);
@@ -68,7 +67,7 @@ fn tight_verdict(problem: &Problem, below: &Row, zero: &Row, point: &Point) -> F
     }
 }
 
-/// The certificate of the factor's row, and then the point.
+/// The verdict on the certificate of the row `factor`, and then on the point.
 fn factor_verdict(
     problem: &Problem,
     factor: &Row,
@@ -76,11 +75,10 @@ fn factor_verdict(
     proof: &Certificate,
     point: &Point,
 ) -> FactorVerdict
-    requires problem { IsProblem (problem_view problem.now) }
     requires factor { IsOver (size_of problem.now.space) factor.now }
     requires turned { IsOver (size_of problem.now.space) turned.now }
     requires complete { length point.now ≡ size_of problem.now.space }
-    ensures verdict { result ≡ first_wrong (proof_verdict (problem_view problem.now) factor.now (certificate_view proof.now)) (tight_verdict (problem_view problem.now) turned.now factor.now point.now) }
+    ensures verdict { result ≡ first_wrong (proof_verdict problem.now factor.now (certificate_view proof.now)) (tight_verdict problem.now turned.now factor.now point.now) }
     ensures over { IsFactorVerdictOver (size_of problem.now.space + 1) result }
 {
     let verdict = proof_verdict(problem, factor, proof);
@@ -91,7 +89,7 @@ fn factor_verdict(
     }
 }
 
-/// The certificates of two rows.
+/// The verdict on the certificates of two rows, the first one first.
 fn both_verdict(
     problem: &Problem,
     factor: &Row,
@@ -99,10 +97,9 @@ fn both_verdict(
     proof: &Certificate,
     below: &Certificate,
 ) -> FactorVerdict
-    requires problem { IsProblem (problem_view problem.now) }
     requires factor { IsOver (size_of problem.now.space) factor.now }
     requires turned { IsOver (size_of problem.now.space) turned.now }
-    ensures verdict { result ≡ first_wrong (proof_verdict (problem_view problem.now) factor.now (certificate_view proof.now)) (Checked (proof_verdict (problem_view problem.now) turned.now (certificate_view below.now))) }
+    ensures verdict { result ≡ first_wrong (proof_verdict problem.now factor.now (certificate_view proof.now)) (Checked (proof_verdict problem.now turned.now (certificate_view below.now))) }
     ensures over { IsFactorVerdictOver (size_of problem.now.space + 1) result }
 {
     let verdict = proof_verdict(problem, factor, proof);
@@ -113,7 +110,7 @@ fn both_verdict(
     }
 }
 
-/// What is wrong with a least factor.
+/// The verdict on a least factor.
 fn least_verdict(
     alloc: Global,
     problem: &Problem,
@@ -124,20 +121,20 @@ fn least_verdict(
     proof: &Certificate,
     point: &Point,
 ) -> Result<FactorVerdict, RowStop>
-    requires sides { AreSideRows (problem_view problem.now) left.now right.now }
+    requires sides { AreSideRows problem.now left.now right.now }
     requires complete { length point.now ≡ size_of problem.now.space }
-    ensures verdict { Gives result (least_verdict (problem_view problem.now) left.now right.now num.now den.now (certificate_view proof.now) point.now) }
+    ensures verdict { Gives result (least_verdict problem.now left.now right.now num.now den.now (certificate_view proof.now) point.now) }
     ensures over { IfOk result (IsFactorVerdictOver (size_of problem.now.space + 1)) }
 {
     if *den < 1 {
         return Ok(FactorVerdict::BelowOne { den: *den });
     }
-    let factor = side_row(alloc, problem.space, left, right, num, den)?;
-    let turned = side_row(alloc, problem.space, left, right, &-1, &0)?;
+    let factor = side_row(alloc, problem.space(), left, right, num, den)?;
+    let turned = side_row(alloc, problem.space(), left, right, &-1, &0)?;
     Ok(factor_verdict(problem, &factor, &turned, proof, point))
 }
 
-/// What is wrong with a point at which no factor holds.
+/// The verdict on a point that shows that no factor holds.
 fn never_verdict(
     alloc: Global,
     problem: &Problem,
@@ -145,16 +142,16 @@ fn never_verdict(
     right: &Row,
     point: &Point,
 ) -> Result<FactorVerdict, RowStop>
-    requires sides { AreSideRows (problem_view problem.now) left.now right.now }
+    requires sides { AreSideRows problem.now left.now right.now }
     requires complete { length point.now ≡ size_of problem.now.space }
-    ensures verdict { Gives result (never_verdict (problem_view problem.now) left.now right.now point.now) }
+    ensures verdict { Gives result (never_verdict problem.now left.now right.now point.now) }
     ensures over { IfOk result (IsFactorVerdictOver (size_of problem.now.space + 1)) }
 {
-    let turned = side_row(alloc, problem.space, left, right, &0, &1)?;
+    let turned = side_row(alloc, problem.space(), left, right, &0, &1)?;
     Ok(tight_verdict(problem, &turned, left, point))
 }
 
-/// What is wrong with a factor where there is no least one.
+/// The verdict on a factor where there is no least one.
 fn unbounded_verdict(
     alloc: Global,
     problem: &Problem,
@@ -165,19 +162,19 @@ fn unbounded_verdict(
     proof: &Certificate,
     below: &Certificate,
 ) -> Result<FactorVerdict, RowStop>
-    requires { AreSideRows (problem_view problem.now) left.now right.now }
-    ensures verdict { Gives result (unbounded_verdict (problem_view problem.now) left.now right.now num.now den.now (certificate_view proof.now) (certificate_view below.now)) }
+    requires { AreSideRows problem.now left.now right.now }
+    ensures verdict { Gives result (unbounded_verdict problem.now left.now right.now num.now den.now (certificate_view proof.now) (certificate_view below.now)) }
     ensures over { IfOk result (IsFactorVerdictOver (size_of problem.now.space + 1)) }
 {
     if *den < 1 {
         return Ok(FactorVerdict::BelowOne { den: *den });
     }
-    let factor = side_row(alloc, problem.space, left, right, num, den)?;
-    let turned = side_row(alloc, problem.space, left, right, &-1, &0)?;
+    let factor = side_row(alloc, problem.space(), left, right, num, den)?;
+    let turned = side_row(alloc, problem.space(), left, right, &-1, &0)?;
     Ok(both_verdict(problem, &factor, &turned, proof, below))
 }
 
-/// A verdict by rows; where one isn't formed, that a number is wide at the coordinate.
+/// The verdict `given`; where a row wasn't formed, `Width` with the coordinate of its wide number.
 fn verdict_or_wide(given: Result<FactorVerdict, RowStop>) -> Result<FactorVerdict, AllocError>
     ensures verdict { (v : FactorVerdict) → Gives given v → IfOk result (λ w. w ≡ v) }
     ensures over { (bound : ℕ) → IfOk given (IsFactorVerdictOver bound) → IfOk result (IsFactorVerdictOver bound) }
@@ -191,8 +188,9 @@ fn verdict_or_wide(given: Result<FactorVerdict, RowStop>) -> Result<FactorVerdic
     }
 }
 
-/// The verdict on what is found of the factors between two rows; none where nothing is claimed. `Width` comes with the coordinate at
-/// which a row isn't formed within the limit, else with the place that the checker gives, or with the one after that of a point's target.
+/// The verdict on what is found of the factors between two rows; None where nothing is claimed. `Width` comes with the
+/// coordinate at which a row isn't formed within the limit, else with the place that the checker gives, or with the one after
+/// that of a point's target.
 pub fn best_verdict(
     alloc: Global,
     problem: &Problem,
@@ -200,9 +198,9 @@ pub fn best_verdict(
     right: &Row,
     best: &Best,
 ) -> Result<Option<FactorVerdict>, AllocError>
-    requires sides { AreSideRows (problem_view problem.now) left.now right.now }
+    requires sides { AreSideRows problem.now left.now right.now }
     requires complete { IsComplete (size_of problem.now.space) (best_view best.now) }
-    ensures verdict { IfOk result (λ v. v ≡ best_verdict (problem_view problem.now) left.now right.now (best_view best.now)) }
+    ensures verdict { IfOk result (λ v. v ≡ best_verdict problem.now left.now right.now (best_view best.now)) }
     ensures over { IfOk result (λ o. (v : FactorVerdict) → o ≡ Some v → IsFactorVerdictOver (size_of problem.now.space + 1) v) }
 {
     let given = match best {

@@ -32,13 +32,18 @@ use it_space::{Answer, Certificate, Mark, Point, Row, VarSet};
 use it_syntax::types::Relation;
 use std::alloc::{AllocError, Global};
 
-/// The line about line k of a report; lines are counted from 1, and `line` comes without its end. A yes and a containment
-/// have the verdict of the first of their certificates that isn't valid, a no that of its point against the target on its
-/// side; one that has a code, where that is valid, the first set whose value is another by the code. A region that has origins has the verdict of the
-/// first of its rows' certificates that isn't valid. A least factor has the verdict of its certificate and then of its point, at which the left side is at least 1 and the factor holds
-/// with equality; no factor that of its point, at which the left side is 0; no least one that of its two certificates. An outer bound has
-/// that of its rows, its rays and their hull. Answers that claim nothing of polymatroids, or whose claim isn't judged, are skipped:
-/// undecided, regions without origins, open questions and misfits.
+/// The line about line `k` of a report; lines are counted from 1, and `line` comes without its end. The verdict is:
+/// of a yes and of a containment, that on the first of its certificates that isn't valid;
+/// of a no, that on its point against the target on its side; with a code, where that is valid, the first set whose value is
+/// another by the code;
+/// of a region with origins, that on the first of its rows' certificates that isn't valid;
+/// of a least factor, that on its certificate and then on its point, at which the left side is at least 1 and the factor holds
+/// with equality;
+/// of no factor, that on its point, at which the left side is 0;
+/// of no least factor, that on its two certificates;
+/// of an outer bound, that on its rows, its rays and their hull.
+/// Answers that claim nothing of polymatroids, or whose claim isn't judged, are skipped: undecided, regions without origins,
+/// open questions and misfits.
 pub fn judge(alloc: Global, k: usize, line: &[u8]) -> Result<JudgedLine, AllocError>
     ensures { IfOk result (λ j. IsJudgedLine k line.now j.text.items j.invalid) }
 {
@@ -128,7 +133,7 @@ fn yes_line(
     ensures { IfOk result (λ j. IsJudgedAnswer k (question_body question.now) (Yes (map certificate_view proofs.now)) j.text.items j.invalid) }
 {
     let problem = problem(alloc, question)?;
-    let rows = target_rows(alloc, relation_of(question), problem.space)?;
+    let rows = target_rows(alloc, relation_of(question), problem.space())?;
     let verdict = proofs_verdict(&problem, rows.as_slice(), proofs);
     verdict_line(alloc, k, problem_names(question), &verdict)
 }
@@ -146,7 +151,7 @@ fn no_line(
     ensures { IfOk result (λ j. IsJudgedAnswer k (question_body question.now) (No back point.now) j.text.items j.invalid) }
 {
     let problem = problem(alloc, question)?;
-    let rows = target_rows(alloc, relation_of(question), problem.space)?;
+    let rows = target_rows(alloc, relation_of(question), problem.space())?;
     let verdict = point_verdict(&problem, rows.as_slice(), back, point);
     verdict_line(alloc, k, problem_names(question), &verdict)
 }
@@ -162,7 +167,7 @@ fn point_of(answer: &Answer) -> &Point
     point
 }
 
-/// The line about a no with a code: what is wrong with the no; where nothing is, the first set whose value is another by the code.
+/// The line about a no with a code: what is wrong with the no; if nothing is, the first set whose value is another by the code.
 fn coded_line(
     alloc: Global,
     k: usize,
@@ -197,8 +202,8 @@ fn rows_of(answer: &Answer) -> &[(Mark, Row)]
     rows.as_slice()
 }
 
-/// The line about a region with origins: what is wrong first with a certificate of a row. All lines of the question are constraints, `row`
-/// lines too.
+/// The line about a region with origins: the first thing wrong with a certificate of a row. All lines of the question are
+/// constraints, `row` lines too.
 fn derived_line(
     alloc: Global,
     k: usize,
@@ -246,7 +251,7 @@ fn best_line(
     ensures { IfOk result (λ j. IsLineOf k (factor_line_verdict (question_body question.now) (best_view best.now)) j.text.items j.invalid) }
 {
     let problem = problem(alloc, question)?;
-    let (left, right) = sides(alloc, relation_of(question), problem.space)?;
+    let (left, right) = sides(alloc, relation_of(question), problem.space())?;
     match best_verdict(alloc, &problem, &left, &right, best)? {
         Some(verdict) => factor_line(alloc, k, problem_names(question), &verdict),
         None => skipped_line(alloc, k),

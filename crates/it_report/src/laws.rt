@@ -32,9 +32,9 @@ pub fn valid_origins_are_true()
     ensures { ValidOriginsAreTrue }
 {}
 
-/// What a valid line says of factors is true of the question that is asked: the least one holds wherever the question's lines are true, and
-/// no smaller one does; or none holds; or the one that is told and each smaller one. Of a sharing file, it is true of the factors that hold
-/// wherever the secret is shared perfectly.
+/// What a valid line says of factors is true of the question that is asked: the least factor holds wherever the question's
+/// lines are true, and no smaller one does; or no factor holds; or the one that the line names and all smaller ones hold. Of a
+/// sharing file, it is true of the factors that hold wherever the secret is shared perfectly.
 pub fn valid_factor_is_true()
     ensures claim { ValidFactorIsTrue }
     ensures sharing { ValidFactorIsTrueOfSharing }

@@ -23,7 +23,7 @@ pub struct JudgedLine {
     pub invalid: bool,
 }
 
-/// The number of the line and words about it.
+/// The line `words` about line `k`, with a line feed.
 #[tactic(auto, unfolding(crate::specs::LineVerdicts::numbered_line))]
 fn numbered_line(alloc: Global, k: usize, words: &[u8]) -> Result<Vec<u8>, AllocError>
     ensures { IfOk result (λ t. t.items ≡ numbered_line k words.now) }
@@ -120,7 +120,7 @@ pub fn factor_line(
     })
 }
 
-/// The line about a no with a code by which the value of this set is another.
+/// The line about a no with a code, by which the value of `set` is another than the point's.
 pub fn other_line(
     alloc: Global,
     k: usize,

@@ -1,4 +1,4 @@
-//! What the verdicts of the checker and of the judge of hulls are called.
+//! The words of verdicts: of the checker's, and of those on hulls.
 ghost use Rattle.std.specs.Prelude.{◌≡◌, ◌<◌, ◌+◌, ◌^◌, ◌++◌, length, OnOk, codes, decimal};
 ghost use Rattle.std.specs.Fmt.{signed_decimal};
 ghost use Rattle.it_report.specs.BoundsVerdicts.{is_hull};
@@ -148,7 +148,7 @@ pub fn write_other(out: &mut Vec<u8>, names: &Names, set: u16) -> Result<(), All
     write_coordinate(out, names, set as u32)
 }
 
-/// Appends words, and the number of a ray with that of a row that goes after it.
+/// Appends words, and the number of a ray with that of a row that is dropped after it.
 fn write_drop(out: &mut Vec<u8>, words: &[u8], ray: usize, number: usize) -> Result<(), AllocError>
     ensures { OnOk result (out.new.items ≡ out.old.items ++ (words.now ++ decimal ray ++ codes " " ++ decimal number)) }
 {

@@ -10,7 +10,7 @@ use Rattle.it_run.specs.Runs.RunEndView.{Weights, Point, Pivots, Width}
 use Rattle.it_run.proofs.RunLemmas.{one_end, with_readings, end_with_readings, run_right, EndIsRight}
 
 module _ {S W P : Type 0} (IsDone IsStuck Fits : S → Type 0) (next : S → S) (weights : S → W) (point : S → P) where
-  -- how a run with so many steps left ends
+  -- the end of a run, by the number of steps left
   abbrev Run : ℕ → ℕ → S → RunEndView W P → Type 0
   Run = EndsAs IsDone IsStuck Fits next weights point
 

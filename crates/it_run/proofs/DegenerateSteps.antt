@@ -28,7 +28,7 @@ module _ {A : Type 0} (F : OrderedField A) (m n : ℕ) (p : FeasibilityProblem A
     row = leaving_row (operations_of F) m n t (entering_column (operations_of F) m n t)
 
     module _ (degenerate : t.entry row (n + m) ≡ F.ring.null) where
-      -- what a degenerate step takes off a right side
+      -- the amount by which a degenerate step lowers a right side
       null_times : (x : A) → F.ring.mul (t.entry row (n + m)) x ≡ F.ring.null
       null_times x = ap (λ y. F.ring.mul y x) degenerate ∙ F.ring.mul_comm F.ring.null x ∙ mul-null F.ring x
 

@@ -7,23 +7,23 @@ use Rattle.it_run.specs.Runs.RunEndView.{Pivots, Width}
 use Rattle.it_run.specs.FirstEnds.{EndsAt, EndsFirst, GoesOnAt}
 
 module _ {S W P : Type 0} (IsDone IsStuck Fits : S → Type 0) (next : S → S) (weights : S → W) (point : S → P) where
-  -- how a run with so many steps left ends
+  -- the end of a run, by the number of steps left
   abbrev Run : ℕ → ℕ → S → RunEndView W P → Type 0
   Run = EndsAs IsDone IsStuck Fits next weights point
 
-  -- its end at the first number of steps
+  -- the end of a run at the first number of steps at which it doesn't go on
   abbrev First : Option ℕ → S → RunEndView W P → Type 0
   First = EndsFirst IsDone IsStuck Fits next weights point
 
-  -- it goes on after so many steps
+  -- the run goes on after a number of steps
   abbrev On : Option ℕ → ℕ → S → Type 0
   On = GoesOnAt IsDone IsStuck Fits next weights point
 
-  -- it ends after so many steps
+  -- the run ends after a number of steps
   abbrev At : Option ℕ → ℕ → S → RunEndView W P → Type 0
   At = EndsAt IsDone IsStuck Fits next weights point
 
-  -- the state after so many steps
+  -- the state after a number of steps
   abbrev state : S → ℕ → S
   state = state_after_steps next
 

@@ -14,7 +14,7 @@ use Rattle.it_run.proofs.BlandRule.{entering_is, some_column, leaving_is, may_en
 use Rattle.it_run.proofs.Ends.{weights_right, point_right}
 
 module _ {S W P : Type 0} (IsDone IsStuck Fits : S → Type 0) (next : S → S) (weights : S → W) (point : S → P) where
-  -- how a run with so many steps left ends
+  -- the end of a run, by the number of steps left
   abbrev Run : ℕ → ℕ → S → RunEndView W P → Type 0
   Run = EndsAs IsDone IsStuck Fits next weights point
 
@@ -72,14 +72,14 @@ module _ {S W P : Type 0} (IsDone IsStuck Fits : S → Type 0) (next : S → S) 
         by_cases (inr a) ih = ih a.1
 
 module _ {A : Type 0} (F : OrderedField A) (m n : ℕ) where
-  -- a step of the run keeps what every table keeps
+  -- a step of the run keeps the invariants
   pub next_holds : (p : FeasibilityProblem A) (t : SimplexTable A) → HasInvariants (operations_of F) m n p t → ¬ (IsStuck (operations_of F) m n t) → HasInvariants (operations_of F) m n p (next (operations_of F) m n t)
   next_holds p t h s =
       let e = entering_is F m n t (some_column F m n t s) in
       let l = leaving_is F m n p t (entering_column (operations_of F) m n t) h e.below in
       pivot_keeps_invariants F m n p t (leaving_row (operations_of F) m n t (entering_column (operations_of F) m n t)) (entering_column (operations_of F) m n t) h (may_enter F m n t (entering_column (operations_of F) m n t) (leaving_row (operations_of F) m n t (entering_column (operations_of F) m n t)) e l)
 
--- what is read off the last table of a run
+-- the weights or the point, read off the last table of a run
 module _ {S W P : Type 0} (IsDone IsStuck Fits : S → Type 0) (next : S → S) (weights : S → W) (point : S → P) where
   -- the end with what is read off its state
   abbrev pub with_readings : RunEndView S S → RunEndView W P

@@ -95,7 +95,7 @@ holds_next old new s h = (
       (subst (HasInvariants rationals (height old) old.generator_columns h.0) (sym s.table_is) (next_holds field_ℚ (height old) old.generator_columns h.0 (table old) h.1 s.moves))),
 )
 
--- what the rest of the run does after a step it does from before it
+-- the end of the run after a step is its end from before it
 pub step_on : (old new : TableauView) (left k : ℕ) (e : RunEndView (SimplexTable Rational) (SimplexTable Rational)) → 0 < left → ¬ (IsDone rationals (height old) old.generator_columns (table old)) → IsStep old new
     → ReachesFrom new (left - 1) (k + 1) e → ReachesFrom old left k e
 step_on old new left k e h d s r = run_more (height old) old.generator_columns left k (table old) (table new) e h d s.moves s.fits s.table_is

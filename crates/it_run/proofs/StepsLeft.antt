@@ -1,4 +1,4 @@
--- A run without a budget ends: how many steps are left to a table falls with each step.
+-- A run without a budget ends: the number of steps that are left to a table falls with each step.
 use Rattle.std.proofs.Common.{◌≡◌, ℕ, zero, suc, ◌+◌, ◌^◌, ◌<◌, ◌≤◌, Bool, true, false, ltb, cond, refl, sym, ap, ◌∙◌, ◌⊎◌, inl, inr, arith}
 use Rattle.std.proofs.lemmas.Bool.{cases_lt, cases_eq, cases_Bool, ltb-true, ltb-false, true≢false}
 use Rattle.it_rational.proofs.Ordered.{not_both}
@@ -25,7 +25,7 @@ module _ {A : Type 0} (F : OrderedField A) (m n : ℕ) where
       by_cases (inl q) = omega arith
       by_cases (inr q) = omega arith
 
-  -- some table within so many steps has no column to enter
+  -- some table within most_steps steps has no column to enter
   pub not_always : (p : FeasibilityProblem A) (t : SimplexTable A) → HasInvariants (operations_of F) m n p t → ((k : ℕ) → k ≤ most_steps → ¬ (IsStuck (operations_of F) m n (table_after (operations_of F) m n t k))) → ⊥
   not_always p t h s =
       let q = pigeonhole most_steps (λ k. digits (n + m) m (table_after (operations_of F) m n t k).basis) (λ k l. digits_below (n + m) m (table_after (operations_of F) m n t k).basis (basis_below p (table_after (operations_of F) m n t k) (invariants_after k l))) in
@@ -37,7 +37,7 @@ module _ {A : Type 0} (F : OrderedField A) (m n : ℕ) where
       invariants_after zero l = h
       invariants_after (suc k) l = next_holds F m n p (table_after (operations_of F) m n t k) (invariants_after k (omega arith)) (s k (omega arith))
 
-  -- how many steps are left to a table with no column to enter
+  -- the number of steps that are left to a table with no column to enter
   abbrev pub is_moving : SimplexTable A → Bool
   is_moving t = ltb (entering_column (operations_of F) m n t) n
 

@@ -16,7 +16,7 @@ use Rattle.it_run.proofs.StepsLeft.{steps_left, steps_fall}
 abbrev EndsWithoutBudget : TableauView → RunEndView (SimplexTable Rational) (SimplexTable Rational) → Type 0
 EndsWithoutBudget t e = ReachesBy (height t) t.generator_columns None (table t) e
 
--- so many steps are left to a tableau whose table has the invariants
+-- the number of steps that are left to a tableau whose table has the invariants
 unfoldable pub steps_left_to : TableauView → ℕ
 steps_left_to t = steps_left field_ℚ (height t) t.generator_columns (table t)
 

@@ -14,7 +14,7 @@ module _ {A : Type 0} (K : Operations A) where
   is_candidate t c i = not (K.is_least (K.neg (t.entry i c)))
 
   module _ (m n : ℕ) where
-    -- the column that enters: the least-numbered with a cost below 0 that is no artificial, n where there is none
+    -- the entering column: the least-numbered with a cost below 0 that isn't artificial, n where there is none
     abbrev pub entering_column : SimplexTable A → ℕ
     entering_column t = first_false (λ j. K.is_least (t.entry m j)) 0 n
 
@@ -28,7 +28,7 @@ module _ {A : Type 0} (K : Operations A) where
     leaving_row_of t c zero = m
     leaving_row_of t c (suc i) = cond (is_candidate t c i) (cond (eqb (leaving_row_of t c i) m) i (cond (precedes t c i (leaving_row_of t c i)) i (leaving_row_of t c i))) (leaving_row_of t c i)
 
-    -- the row that leaves
+    -- the leaving row
     abbrev pub leaving_row : SimplexTable A → ℕ → ℕ
     leaving_row t c = leaving_row_of t c m
 

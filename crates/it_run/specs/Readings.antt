@@ -1,4 +1,4 @@
--- What is read off the last table of a run, and what weights and a point are to show.
+-- The weights and the point of the last table of a run, and the conditions that they have to satisfy.
 use Rattle.std.specs.Prelude.{◌≡◌, ℕ, suc, ◌+◌, ◌<◌, ◌≤◌, true, false, cond, eqb, ◌&&◌, not, List, [], ◌∷◌, length, map, filter, slice_index_or}
 use Rattle.std.specs.List.{range_with_len}
 use Rattle.it_tableau.specs.Operations.{Operations}
@@ -10,7 +10,7 @@ module _ {A : Type 0} (K : Operations A) (m n : ℕ) where
   abbrev pub weight : SimplexTable A → ℕ → A
   weight t j = sum_by K.null K.add m (λ i. cond (eqb (t.basis i) j) (t.entry i (n + m)) K.null)
 
-  -- the weights other than 0 of all columns but the artificial ones, by column
+  -- the nonzero weights of all columns but the artificial ones, by column
   abbrev pub weights : SimplexTable A → List (ℕ × A)
   weights t = filter (λ (w : ℕ × A). not (K.is_least w.1 && K.is_least (K.neg w.1))) (map (λ j. (j, weight t j)) (range_with_len 0 n))
 
@@ -24,7 +24,7 @@ module _ {A : Type 0} (K : Operations A) where
   ring_combination [] f = K.null
   ring_combination (w ∷ ws) f = K.add (K.mul w.1 (f w.0)) (ring_combination ws f)
 
-  -- weights above 0, each of a column from a number on, by ascending column
+  -- the weights are above 0, and their columns ascend, from at least `from` on and below n
   abbrev pub AreWeights : ℕ → ℕ → List (ℕ × A) → Type 0
   AreWeights n from [] = Unit {0}
   AreWeights n from (w ∷ ws) = (from ≤ w.0) × (w.0 < n) × (K.is_least (K.neg w.1) ≡ false) × AreWeights n (suc w.0) ws
@@ -35,11 +35,11 @@ module _ {A : Type 0} (K : Operations A) (m n : ℕ) where
     pub ordered : AreWeights K n 0 ws
     pub sum_is : (k : ℕ) → k < m → ring_combination K ws (λ j. p.column j k) ≡ p.target k
 
-  -- the value at a point, a list of m numbers, of what has f k at row k
+  -- the value at the point q, a list of m numbers, of the form with coefficient f k at row k
   abbrev pub value_at_point : List A → (ℕ → A) → A
   value_at_point q f = sum_by K.null K.add m (λ k. K.mul (f k) (slice_index_or q k K.null))
 
-  -- a point at which each column is at least 0 and the target is below 0
+  -- at the point q each column is at least 0 and the target is below 0
   pub record Separates (p : FeasibilityProblem A) (q : List A) : Type 0 where
     pub complete : length q ≡ m
     pub columns : (j : ℕ) → j < n → K.is_least (value_at_point q (p.column j)) ≡ true

@@ -15,14 +15,14 @@ pub enum Solved {
     Weights(Vec<(usize, Fraction)>),
     /// At this point, a value for each coordinate in order, each column is at least 0 and the target is below 0.
     Point(Vec<Fraction>),
-    /// The budget's steps were made, and the run isn't at its end.
+    /// The run made all steps of its budget, the number given here, without reaching its end.
     Pivots(u32),
-    /// A number of this step is more than 2^127 - 1 in absolute value. Steps are counted from 1, the start is 0, and a step past
-    /// number 2^32 - 1 is told under that number.
+    /// A number of this step is more than 2^127 - 1 in absolute value. Steps are counted from 1, the start is 0, and a step past number
+    /// 2^32 - 1 is reported with that number.
     Width(u32),
 }
 
-/// The run from a start, with a budget of steps or without one, and what is read off its last table.
+/// Makes the run from `start`, with `budget` as the most steps or without a budget, and returns the answer read off its last table.
 pub fn exact_run(alloc: Global, start: Tableau, budget: Option<u32>) -> Result<Solved, AllocError>
     requires usable { start.spent ≡ false }
     requires start { HasProblem start }

@@ -1,4 +1,4 @@
-//! The column that enters and the row that leaves.
+//! The entering column and the leaving row.
 ghost use Rattle.std.specs.Prelude.{◌≡◌, ◌<◌, false, IfOk, OnErr, OnOk};
 ghost use Rattle.std.specs.Option.{IfNone, IfSome};
 ghost use Rattle.it_tableau.specs.TableauViews.{height, table};
@@ -25,7 +25,8 @@ pub fn entering_column(tableau: &Tableau) -> Option<usize>
     None
 }
 
-/// Whether a row comes before the best so far: its ratio is less, or as great with a smaller basic column.
+/// Whether a row with `ratio` and basic column `column` comes before the best so far, with `best` and `best_column`: its ratio is
+/// less, or equal with a smaller basic column.
 #[tactic(auto, using(crate::proofs::SearchLemmas::before_less, crate::proofs::SearchLemmas::before_greater, crate::proofs::SearchLemmas::before_equal))]
 fn ratio_precedes(ratio: Fraction, column: usize, best: Fraction, best_column: usize) -> bool
     ensures { result ≡ ratio_precedes ratio column best best_column }
@@ -37,7 +38,7 @@ fn ratio_precedes(ratio: Fraction, column: usize, best: Fraction, best_column: u
     }
 }
 
-/// The best row with its ratio, of the best so far and one more.
+/// The better of `best`, the best row so far with its ratio, and `row` with `ratio`.
 fn best_after(
     best: Option<(usize, Fraction)>,
     row: usize,
@@ -61,7 +62,8 @@ fn best_after(
     }
 }
 
-/// The row with the least ratio of those with an entry above 0, of several the one with the least basic column.
+/// Of the rows with an entry above 0 at `column` the one with the least ratio; of several, the one with the least basic column.
+/// `None` if no entry is above 0; `Wide` if a ratio passes the limit.
 pub fn leaving_row(tableau: &Tableau, column: usize) -> Result<Option<usize>, Wide>
     requires usable { tableau.now.spent ≡ false }
     requires column { column < tableau.now.generator_columns }

@@ -1,4 +1,4 @@
-//! What is read off the last table of a run.
+//! The weights or the point, read off the last table of a run.
 ghost use Rattle.std.specs.Prelude.{◌≡◌, ◌<◌, ◌+◌, false, pos, IfOk};
 ghost use Rattle.std.specs.Option.{IfNone, IfSome};
 ghost use Rattle.it_rational.specs.Rational.{times, integer};
@@ -12,7 +12,7 @@ use it_fraction::Fraction;
 use it_tableau::Tableau;
 use std::alloc::{AllocError, Global};
 
-/// The right side of the row in which column j is basic, None where it is basic in none.
+/// The right side of the row in which column `j` is basic; `None` if it is basic in none.
 fn weight_of(tableau: &Tableau, j: usize) -> Option<Fraction>
     requires usable { tableau.now.spent ≡ false }
     requires holds { HasInvariantsForSome tableau.now }
@@ -27,7 +27,7 @@ fn weight_of(tableau: &Tableau, j: usize) -> Option<Fraction>
     None
 }
 
-/// The weights other than 0, by column.
+/// The nonzero weights, each after its column, by ascending column.
 pub fn weights(alloc: Global, tableau: &Tableau) -> Result<Vec<(usize, Fraction)>, AllocError>
     requires usable { tableau.now.spent ≡ false }
     requires holds { HasInvariantsForSome tableau.now }
@@ -44,7 +44,7 @@ pub fn weights(alloc: Global, tableau: &Tableau) -> Result<Vec<(usize, Fraction)
     Ok(out)
 }
 
-/// The value at coordinate k: the cost of its artificial column, with the row's sign.
+/// The value at row `k`: the cost of its artificial column, with the row's sign.
 fn value_at(tableau: &Tableau, k: usize) -> Fraction
     requires usable { tableau.now.spent ≡ false }
     requires row { k < height tableau.now }
@@ -59,7 +59,7 @@ fn value_at(tableau: &Tableau, k: usize) -> Fraction
     }
 }
 
-/// The point, by rows.
+/// The point: a value for each row, in order.
 pub fn point(alloc: Global, tableau: &Tableau) -> Result<Vec<Fraction>, AllocError>
     requires usable { tableau.now.spent ≡ false }
     ensures { IfOk result (λ out. IsPointRead tableau.now out.items) }

@@ -21,7 +21,7 @@ pub enum RunEnd {
     Width(u32),
 }
 
-/// Makes one step, if there is one to make.
+/// Makes one step, if one is left, and returns whether it did. `Wide` if a number of the step passes the limit.
 fn step(tableau: &mut Tableau) -> Result<bool, RowFault>
     requires usable { tableau.old.spent ≡ false }
     requires ready { IsReady (height tableau.old) tableau.old.generator_columns (table tableau.old) }
@@ -50,7 +50,7 @@ fn is_done(tableau: &Tableau) -> bool
     tableau.cost_rhs().is_zero()
 }
 
-/// Makes the run with a budget of steps.
+/// Makes the run with `budget` as the most steps.
 fn run_within(tableau: &mut Tableau, budget: u32) -> Result<RunEnd, AllocError>
     requires usable { tableau.old.spent ≡ false }
     requires holds { HasInvariantsForSome tableau.old }
@@ -77,7 +77,7 @@ fn run_within(tableau: &mut Tableau, budget: u32) -> Result<RunEnd, AllocError>
     }
 }
 
-/// The number of the step after, or the greatest of 32 bits again.
+/// `number` + 1, or the greatest number of 32 bits if that is greater.
 fn next_number(number: u32) -> u32
     ensures { result ≡ clip_number (number + 1) }
 {
@@ -88,7 +88,7 @@ fn next_number(number: u32) -> u32
     }
 }
 
-/// Makes the run without a budget. It ends since no set of basic columns comes back (Bland 1977).
+/// Makes the run without a budget. It terminates, since no set of basic columns recurs (Bland 1977).
 fn run_on(tableau: &mut Tableau) -> Result<RunEnd, AllocError>
     requires usable { tableau.old.spent ≡ false }
     requires holds { HasInvariantsForSome tableau.old }
@@ -110,7 +110,7 @@ fn run_on(tableau: &mut Tableau) -> Result<RunEnd, AllocError>
     }
 }
 
-/// Makes the run with a budget of steps, or without one.
+/// Makes the run with `budget` as the most steps, or without a budget.
 pub fn run(tableau: &mut Tableau, budget: Option<u32>) -> Result<RunEnd, AllocError>
     requires usable { tableau.old.spent ≡ false }
     requires holds { HasInvariantsForSome tableau.old }

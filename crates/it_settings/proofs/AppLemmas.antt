@@ -1,4 +1,4 @@
--- What clap's clauses say of the command.
+-- The command by clap's contracts.
 use Rattle.std.proofs.Common.{◌≡◌, [], List, refl, true, subst, Result, Ok, Err, IfOk, IfErr, inl, inr}
 use Rattle.clap.specs.Words.{App, Text, Kinds, FailsBy, IsAmong, fault_of, is_simple_and_free, is_simple, matches_of, HasMatchesOf, kind_of, rows_of, found_of}
 use Rattle.clap.specs.declared.error.Error.{Error}

@@ -36,6 +36,7 @@ forms_are_read = record {
   joined = refl;
   text = refl;
   proof = refl;
+  derived = refl;
   capitals = refl;
   before_mode = refl;
   all_options = refl;

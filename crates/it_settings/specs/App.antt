@@ -12,11 +12,11 @@ option_rule name = record (new_rule name) { long = Some name; action = Some Set 
 unfoldable pub flag_rule : Text → Rule
 flag_rule name = record (new_rule name) { long = Some name; action = Some SetTrue }
 
--- the one word that must be there
+-- the argument for the mode, which is required
 unfoldable pub mode_rule : Rule
 mode_rule = record (new_rule (codes "mode")) { action = Some Set; required = true }
 
--- neither a program's name before the words nor a flag for help or a version
+-- the command without arguments: no program's name before the words, and no flags for help or the version
 unfoldable pub bare_app : App
 bare_app = let a = new_app (codes "itip") in record a { top = record a.top { no_binary_name = true; disable_help_flag = true; disable_version_flag = true } }
 

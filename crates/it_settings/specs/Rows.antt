@@ -1,4 +1,4 @@
--- Command lines and what they are read as.
+-- Command lines and their readings.
 use Rattle.std.specs.Prelude.{true, false, Option, ℕ, ◌≡◌, List, [], ◌∷◌, Some, None, codes}
 use Rattle.it_settings.specs.declared.types.Format.TheVariants as formats
 use Rattle.it_settings.specs.declared.types.Run.{Run}
@@ -15,7 +15,7 @@ AreReadAs words s = settings_of words ≡ Some s
 abbrev pub HaveNoReading : List (List ℕ) → Type 0
 HaveNoReading words = settings_of words ≡ None
 
--- the word for the mode, alone and among others
+-- the word for the mode, alone and with others
 pub record ModesAreRead : Type 0 where
   pub answer : AreReadAs (codes "answer" ∷ []) (settings.Answer formats.Text runs.Bland (Some 20000) 512 256)
   pub check : AreReadAs (codes "check" ∷ []) settings.Check
@@ -37,12 +37,13 @@ pub record ModesAreRead : Type 0 where
   pub options_after_hyphens : HaveNoReading (codes "answer" ∷ codes "--" ∷ codes "--pivots" ∷ codes "5" ∷ [])
   pub only_option : HaveNoReading (codes "--pivots" ∷ codes "5" ∷ [])
 
--- how an option is written
+-- the spellings of an option
 pub record FormsAreRead : Type 0 where
   pub spaced : AreReadAs (codes "answer" ∷ codes "--format" ∷ codes "json" ∷ []) (settings.Answer formats.Json runs.Bland (Some 20000) 512 256)
   pub joined : AreReadAs (codes "answer" ∷ codes "--format=json" ∷ []) (settings.Answer formats.Json runs.Bland (Some 20000) 512 256)
   pub text : AreReadAs (codes "answer" ∷ codes "--format" ∷ codes "text" ∷ []) (settings.Answer formats.Text runs.Bland (Some 20000) 512 256)
   pub proof : AreReadAs (codes "answer" ∷ codes "--format" ∷ codes "proof" ∷ []) (settings.Answer formats.Proof runs.Bland (Some 20000) 512 256)
+  pub derived : AreReadAs (codes "answer" ∷ codes "--format" ∷ codes "derived" ∷ []) (settings.Answer formats.Derived runs.Bland (Some 20000) 512 256)
   pub capitals : HaveNoReading (codes "answer" ∷ codes "--format" ∷ codes "JSON" ∷ [])
   pub before_mode : AreReadAs (codes "--tries" ∷ codes "1" ∷ codes "answer" ∷ []) (settings.Answer formats.Text runs.Bland (Some 20000) 512 1)
   pub all_options : AreReadAs (codes "answer" ∷ codes "--tries=7" ∷ codes "--rows" ∷ codes "6" ∷ codes "--format" ∷ codes "json" ∷ codes "--pivots" ∷ codes "5" ∷ []) (settings.Answer formats.Json runs.Bland (Some 5) 6 7)
@@ -58,7 +59,7 @@ pub record FormsAreRead : Type 0 where
   pub empty_spaced : HaveNoReading (codes "answer" ∷ codes "--rows" ∷ codes "" ∷ [])
   pub empty_format : HaveNoReading (codes "answer" ∷ codes "--format=" ∷ [])
 
--- which numbers an option takes
+-- the numbers that an option takes
 pub record NumbersAreRead : Type 0 where
   pub pivots_zero : HaveNoReading (codes "answer" ∷ codes "--pivots" ∷ codes "0" ∷ [])
   pub pivots_least : AreReadAs (codes "answer" ∷ codes "--pivots" ∷ codes "1" ∷ []) (settings.Answer formats.Text runs.Bland (Some 1) 512 256)
@@ -117,7 +118,7 @@ pub record OtherModesAreRead : Type 0 where
   pub check_pivots_without : HaveNoReading (codes "check" ∷ codes "--pivots" ∷ codes "none" ∷ [])
   pub bench_format : HaveNoReading (codes "bench" ∷ codes "--format" ∷ codes "text" ∷ [])
 
--- how targets are decided, in the modes with a file to answer
+-- the option `--run`, in the modes that answer files
 pub record RunsAreRead : Type 0 where
   pub quick : AreReadAs (codes "answer" ∷ codes "--run" ∷ codes "quick" ∷ []) (settings.Answer formats.Text runs.Quick (Some 20000) 512 256)
   pub bland : AreReadAs (codes "answer" ∷ codes "--run=bland" ∷ []) (settings.Answer formats.Text runs.Bland (Some 20000) 512 256)
@@ -131,7 +132,7 @@ pub record RunsAreRead : Type 0 where
   pub twice : HaveNoReading (codes "answer" ∷ codes "--run" ∷ codes "quick" ∷ codes "--run=bland" ∷ [])
   pub check : HaveNoReading (codes "check" ∷ codes "--run" ∷ codes "quick" ∷ [])
 
--- a mode that takes how targets are decided, a budget of steps and no other option
+-- a mode with the options `--run`, `--pivots` and no other but `--report`
 pub record IsReadWithRuns (mode : List ℕ) (read : Run → Option ℕ → Settings) : Type 0 where
   pub alone : AreReadAs (mode ∷ []) (read runs.Bland (Some 20000))
   pub pivots : AreReadAs (mode ∷ codes "--pivots" ∷ codes "5" ∷ []) (read runs.Bland (Some 5))
@@ -171,7 +172,7 @@ pub record OuterIsRead : Type 0 where
   pub count : HaveNoReading (codes "outer" ∷ codes "--count" ∷ codes "1" ∷ [])
   pub two_modes : HaveNoReading (codes "outer" ∷ codes "answer" ∷ [])
 
--- which modes write reports, and how they are asked for one
+-- the modes that write reports, and how one is asked for
 pub record ReportsAreRead : Type 0 where
   pub copy : AreReadAs (codes "copy" ∷ codes "--report" ∷ []) (settings.Copy true runs.Bland (Some 20000))
   pub best : AreReadAs (codes "best" ∷ codes "--report" ∷ []) (settings.Best true runs.Bland (Some 20000))

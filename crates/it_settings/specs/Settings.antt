@@ -1,4 +1,4 @@
--- The settings that words give: what the command takes from them, each value then judged.
+-- The settings that words give: the command matches the words, then each value is read.
 use Rattle.std.specs.Prelude.{ℕ, ◌^◌, ◌≡◌, ◌≤◌, ◌<◌, ◌==◌, ◌&&◌, List, [], ◌∷◌, length, Bool, false, Option, Some, None, is_none, Result, Ok, Err, if◌then◌else◌, codes, option_and_then, option_map, nat_le}
 use Rattle.std.specs.Str.{bytes_eq}
 use Rattle.std.specs.List.{list_all}
@@ -18,7 +18,7 @@ use Rattle.it_settings.specs.declared.types.WordsFault.TheVariants.{Usage, Memor
 
 -- ---- the value of an option
 
--- one to ten decimal digits with a value from `least` to `most`
+-- the number that text spells in one to ten decimal digits, if it is from `least` to `most`
 unfoldable pub number_of : ℕ → ℕ → Text → Option ℕ
 number_of least most text =
     if nat_le 1 (length text) && nat_le (length text) 10 then option_and_then (λ n. if nat_le least n && nat_le n most then Some n else None) (value_from 0 text) else None
@@ -29,7 +29,7 @@ pivots_of text = if bytes_eq text (codes "none") then Some None else option_map 
 
 -- a format by its name
 unfoldable pub format_of : Text → Option Format
-format_of text = lookup (bytes_eq text) ((codes "text", formats.Text) ∷ (codes "json", formats.Json) ∷ (codes "proof", formats.Proof) ∷ [])
+format_of text = lookup (bytes_eq text) ((codes "text", formats.Text) ∷ (codes "json", formats.Json) ∷ (codes "proof", formats.Proof) ∷ (codes "derived", formats.Derived) ∷ [])
 
 -- a run by its name
 unfoldable pub run_of : Text → Option Run
@@ -45,7 +45,7 @@ number_in given name least most default = option_map_or (number_of least most) (
 abbrev pub pivots_in : (Text → Option Text) → Option (Option ℕ)
 pivots_in given = option_map_or pivots_of (given (codes "pivots")) (Some (Some 20000))
 
--- how targets are decided, or by the run of Bland's rule where nothing was given
+-- the run that was given, or the one by Bland's rule where nothing was given
 abbrev pub run_in : (Text → Option Text) → Option Run
 run_in given = option_map_or run_of (given (codes "run")) (Some runs.Bland)
 
@@ -53,15 +53,15 @@ run_in given = option_map_or run_of (given (codes "run")) (Some runs.Bland)
 abbrev pub report_in : (Text → Option Text) → Bool
 report_in given = option_map_or (λ text. bytes_eq text (codes "true")) (given (codes "report")) false
 
--- what is read where none is
+-- read, where no report is asked for
 abbrev pub without_report : {A : Type 0} → (Text → Option Text) → Option A → Option A
 without_report given read = if report_in given then None else read
 
--- what is read where none of these options was given
+-- read, where no option in names was given
 abbrev pub without : {A : Type 0} → (Text → Option Text) → List Text → Option A → Option A
 without given names read = if list_all (λ name. is_none (given name)) names then read else None
 
--- what is read with a value that has a reading
+-- the reading f with the value of o, if there is one
 infixl 10 ◌>>=◌
 abbrev pub ◌>>=◌ : {A B : Type 0} → Option A → (A → Option B) → Option B
 o >>= f = option_and_then f o
@@ -76,7 +76,7 @@ answer_of given = do
   tries ← number_in given (codes "tries") 1 4096 256
   Some (settings.Answer format run pivots rows tries)
 
--- those of mode `bench`
+-- the settings of mode `bench`
 unfoldable pub bench_of : (Text → Option Text) → Option Settings
 bench_of given = do
   seed ← number_in given (codes "seed") 0 2147483647 1
@@ -87,14 +87,14 @@ bench_of given = do
   tries ← number_in given (codes "tries") 1 4096 256
   Some (settings.Bench seed count run pivots rows tries)
 
--- those of a mode whose options are how targets are decided and the budget of steps
+-- the settings of a mode with the options `--run` and `--pivots`
 unfoldable pub runs_of : (Text → Option Text) → (Run → Option ℕ → Settings) → Option Settings
 runs_of given read = without given (codes "format" ∷ codes "rows" ∷ codes "tries" ∷ codes "seed" ∷ codes "count" ∷ []) do
   run ← run_in given
   pivots ← pivots_in given
   Some (read run pivots)
 
--- those of mode `outer`
+-- the settings of mode `outer`
 unfoldable pub outer_of : (Text → Option Text) → Option Settings
 outer_of given = without given (codes "format" ∷ codes "seed" ∷ codes "count" ∷ []) do
   run ← run_in given
@@ -103,7 +103,7 @@ outer_of given = without given (codes "format" ∷ codes "seed" ∷ codes "count
   tries ← number_in given (codes "tries") 1 4096 256
   Some (settings.Outer (report_in given) run pivots rows tries)
 
--- by the mode's word, without the options of other modes; the modes not named have no reading
+-- the settings of a mode, given without the options of other modes; other words for the mode have no reading
 abbrev pub settings_in : (Text → Option Text) → Text → Option Settings
 settings_in given mode =
     if bytes_eq mode (codes "answer") then without_report given (without given (codes "seed" ∷ codes "count" ∷ []) (answer_of given)) else
@@ -114,17 +114,17 @@ settings_in given mode =
     if bytes_eq mode (codes "outer") then outer_of given else
     if bytes_eq mode (codes "sharing") then runs_of given (settings.Sharing (report_in given)) else None
 
--- without a mode there are none
+-- the settings of the mode that was given; without a mode there are none
 unfoldable pub settings_by : (Text → Option Text) → Option Settings
 settings_by given = option_and_then (settings_in given) (given (codes "mode"))
 
 -- ---- the words
 
--- the settings of the words, if they have a reading; they have none where the command finds a fault in them
+-- the settings of the words, if they have a reading; they have none if the command finds a fault in them
 unfoldable pub settings_of : List Text → Option Settings
 settings_of words = if length (fault_of itip_app words) == 0 then settings_by (λ id. first_of id (matches_of itip_app words)) else None
 
--- an answer tells the reading: its settings, or `Usage` exactly where there is none
+-- `Ok` has the settings of the reading, `Usage` says that there is no reading, and `Memory` says nothing
 abbrev pub TellsReading : Option Settings → Result Settings WordsFault → Type 0
 TellsReading reading (Ok s) = reading ≡ Some s
 TellsReading reading (Err Usage) = reading ≡ None

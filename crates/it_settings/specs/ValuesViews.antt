@@ -5,7 +5,7 @@ use Rattle.std.specs.Str.{bytes_eq}
 use Rattle.clap.specs.Words.{Text}
 use Rattle.it_settings.specs.declared.reading.Values.{Values}
 
--- these texts of the mode and of each option, by their names
+-- the texts of the mode and of each option, as a function of their names
 abbrev pub by_name : (mode format pivots rows tries seed count run report : Option Text) → Text → Option Text
 by_name mode format pivots rows tries seed count run report name =
     if bytes_eq name (codes "mode") then mode else
@@ -22,11 +22,11 @@ by_name mode format pivots rows tries seed count run report name =
 abbrev pub text_of : Option (Bor Text) → Option Text
 text_of o = option_map (λ s. s.now) o
 
--- the texts that were given
+-- the texts of the values, by name
 abbrev pub texts_of : Values → Text → Option Text
 texts_of v name = by_name (text_of v.mode) (text_of v.format) (text_of v.pivots) (text_of v.rows) (text_of v.tries) (text_of v.seed) (text_of v.count) (text_of v.run) (text_of v.report) name
 
--- the values are these texts
+-- the values have the texts of given
 pub record AreTexts (given : Text → Option Text) (v : Values) : Type 0 where
   pub mode : text_of v.mode ≡ given (codes "mode")
   pub format : text_of v.format ≡ given (codes "format")

@@ -8,7 +8,7 @@ use clap::error::ErrorKind;
 use clap::{Arg, ArgAction, ArgMatches, Command, Error};
 use std::alloc::{AllocError, Global};
 
-/// An option that takes one value.
+/// The option `--name`, which takes one value.
 #[tactic(auto, unfolding(crate::specs::App::option_rule))]
 fn option<'a>(alloc: Global, name: &'a str) -> Arg<'a>
     ensures rule { rule_of result ≡ option_rule name.entry.now }
@@ -17,7 +17,7 @@ fn option<'a>(alloc: Global, name: &'a str) -> Arg<'a>
     Arg::new(alloc, name).long(name).action(ArgAction::Set)
 }
 
-/// An option without a value.
+/// The option `--name`, which takes no value.
 #[tactic(auto, unfolding(crate::specs::App::flag_rule))]
 fn flag<'a>(alloc: Global, name: &'a str) -> Arg<'a>
     ensures rule { rule_of result ≡ flag_rule name.entry.now }
@@ -26,7 +26,7 @@ fn flag<'a>(alloc: Global, name: &'a str) -> Arg<'a>
     Arg::new(alloc, name).long(name).action(ArgAction::SetTrue)
 }
 
-/// The word for the mode, which must be there.
+/// The argument for the mode, which is required.
 #[tactic(auto, unfolding(crate::specs::App::mode_rule))]
 fn mode<'a>(alloc: Global) -> Arg<'a>
     ensures rule { rule_of result ≡ mode_rule }
@@ -37,7 +37,7 @@ fn mode<'a>(alloc: Global) -> Arg<'a>
         .required(true)
 }
 
-/// The command without arguments, whose words begin with no program's name.
+/// The command without arguments. Its words don't begin with the program's name.
 #[tactic(auto, unfolding(crate::specs::App::bare_app))]
 fn bare_command<'a>(alloc: Global) -> Command<'a>
     ensures { app_of result ≡ bare_app }
@@ -48,7 +48,7 @@ fn bare_command<'a>(alloc: Global) -> Command<'a>
         .disable_version_flag(true)
 }
 
-/// The command with one more option.
+/// `command` with the option `--name`, which takes one value.
 fn with_option<'a>(
     command: Command<'a>,
     alloc: Global,
@@ -59,7 +59,7 @@ fn with_option<'a>(
     command.arg(option(alloc, name))
 }
 
-/// The command with one more option without a value.
+/// `command` with the option `--name`, which takes no value.
 fn with_flag<'a>(
     command: Command<'a>,
     alloc: Global,
@@ -70,14 +70,14 @@ fn with_flag<'a>(
     command.arg(flag(alloc, name))
 }
 
-/// The command with the word for the mode.
+/// `command` with the argument for the mode.
 fn with_mode<'a>(command: Command<'a>, alloc: Global) -> Result<Command<'a>, AllocError>
     ensures { IfOk result (λ r. app_of r ≡ with_rule (app_of command.entry) mode_rule) }
 {
     command.arg(mode(alloc))
 }
 
-/// The command with the options of answers: how they are written and what they may cost.
+/// `command` with the options of answers: their format and their budgets.
 fn with_answers<'a>(command: Command<'a>, alloc: Global) -> Result<Command<'a>, AllocError>
     ensures { IfOk result (λ r. app_of r ≡ fold (λ a name. with_rule a (option_rule name)) (app_of command.entry) (codes "format" ∷ codes "pivots" ∷ codes "rows" ∷ codes "tries" ∷ [])) }
 {
@@ -87,7 +87,7 @@ fn with_answers<'a>(command: Command<'a>, alloc: Global) -> Result<Command<'a>, 
     with_option(command, alloc, "tries")
 }
 
-/// The whole command. It knows the options of every mode; which of them a mode allows is judged later.
+/// The whole command. It has the options of every mode; which of them a mode allows is decided later.
 #[tactic(auto, unfolding(crate::specs::App::itip_app))]
 fn itip<'a>(alloc: Global) -> Result<Command<'a>, AllocError>
     ensures { IfOk result (λ r. app_of r ≡ itip_app) }
@@ -100,7 +100,7 @@ fn itip<'a>(alloc: Global) -> Result<Command<'a>, AllocError>
     with_flag(command, alloc, "report")
 }
 
-/// The matches of the words, or clap's error: one of memory, or words that the command doesn't read.
+/// The matches of `words`, or clap's error: that allocation failed, or that the command doesn't accept the words.
 pub fn parse<'a>(alloc: Global, words: &'a [&'a str]) -> Result<ArgMatches<'a>, Error>
     ensures fits { IfOk result (λ m. fault_of itip_app (map (λ w. w.now) words.entry.now) ≡ []) }
     ensures rows { IfOk result (λ m. rows_of (found_of m) ≡ matches_of itip_app (map (λ w. w.now) words.entry.now)) }

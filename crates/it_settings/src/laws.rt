@@ -1,19 +1,19 @@
-//! What command lines are read as, each table as the contract of a function.
+//! Readings of command lines, each table as the contract of a function.
 ghost use Rattle.it_settings.specs.Rows.{ModesAreRead, FormsAreRead, NumbersAreRead, BenchIsRead, RunsAreRead, CopyIsRead, BestIsRead, SharingIsRead, OuterIsRead, OtherModesAreRead, ReportsAreRead};
 
-/// The word for the mode, alone and among others.
+/// The word for the mode, alone and with others.
 #[tactic(auto, using(crate::proofs::RowLemmas::modes_are_read))]
 pub fn modes_are_read()
     ensures { ModesAreRead }
 {}
 
-/// How an option is written.
+/// The spellings of an option.
 #[tactic(auto, using(crate::proofs::RowLemmas::forms_are_read))]
 pub fn forms_are_read()
     ensures { FormsAreRead }
 {}
 
-/// Which numbers an option takes.
+/// The numbers that an option takes.
 #[tactic(auto, using(crate::proofs::RowLemmas::numbers_are_read))]
 pub fn numbers_are_read()
     ensures { NumbersAreRead }
@@ -25,13 +25,13 @@ pub fn bench_is_read()
     ensures { BenchIsRead }
 {}
 
-/// How targets are decided, in the modes that answer files.
+/// The option `--run`, in the modes that answer files.
 #[tactic(auto, using(crate::proofs::RowLemmas::runs_are_read))]
 pub fn runs_are_read()
     ensures { RunsAreRead }
 {}
 
-/// The modes that take how targets are decided, a budget of steps and no other option.
+/// The modes with the options `--run`, `--pivots` and no other but `--report`.
 #[tactic(auto, using(crate::proofs::RowLemmas::copy_is_read, crate::proofs::RowLemmas::best_is_read, crate::proofs::RowLemmas::sharing_is_read))]
 pub fn modes_with_runs_are_read()
     ensures copy { CopyIsRead }
@@ -45,7 +45,7 @@ pub fn outer_is_read()
     ensures { OuterIsRead }
 {}
 
-/// Options of another mode have no reading.
+/// Options of another mode are refused.
 #[tactic(auto, using(crate::proofs::RowLemmas::other_modes_are_read))]
 pub fn other_modes_are_read()
     ensures { OtherModesAreRead }

@@ -8,7 +8,7 @@ ghost use Rattle.it_settings.specs.declared.types.Run.TheVariants as runs;
 
 use crate::types::{Format, Run};
 
-/// The value of decimal digits.
+/// The value of decimal digits; `None` if a byte isn't a digit.
 fn value(bytes: &[u8]) -> Option<u64>
     requires few { length bytes.now ≤ 10 }
     ensures { result ≡ value_from 0 bytes.now }
@@ -23,7 +23,7 @@ fn value(bytes: &[u8]) -> Option<u64>
     Some(n)
 }
 
-/// A number that is in its range.
+/// `n`, if it is from `least` to `most`.
 fn number_within(least: u32, most: u32, n: u64) -> Option<u32>
     ensures reads { result ≡ (if nat_le least n && nat_le n most then Some n else None) }
     ensures range { IfSome result (λ m. (least ≤ m) × (m ≤ most)) }
@@ -35,7 +35,7 @@ fn number_within(least: u32, most: u32, n: u64) -> Option<u32>
     }
 }
 
-/// A number as text, in its range.
+/// The number that `text` spells in one to ten digits, if it is from `least` to `most`.
 #[tactic(auto, unfolding(crate::specs::Settings::number_of))]
 fn number(text: &str, least: u32, most: u32) -> Option<u32>
     ensures reads { result ≡ number_of least most text.now }
@@ -49,7 +49,7 @@ fn number(text: &str, least: u32, most: u32) -> Option<u32>
     }
 }
 
-/// The number that was given, or the default where none was.
+/// The number that `text` spells, if it is from `least` to `most`; `default` where no text was given.
 pub fn number_or(text: Option<&str>, least: u32, most: u32, default: u32) -> Option<u32>
     requires default { (least ≤ default) × (default ≤ most) }
     ensures reads { result ≡ option_map_or (number_of least most) (option_map (λ s. s.now) text.entry) (Some default) }
@@ -61,7 +61,7 @@ pub fn number_or(text: Option<&str>, least: u32, most: u32, default: u32) -> Opt
     }
 }
 
-/// The most rows that were given, or the default where none was.
+/// The value of `--rows`, the most rows; 512 where none was given.
 pub fn rows_or(text: Option<&str>) -> Option<u32>
     ensures reads { result ≡ option_map_or (number_of 1 4096) (option_map (λ s. s.now) text.entry) (Some 512) }
     ensures range { IfSome result (λ n. (1 ≤ n) × (n ≤ 4096)) }
@@ -69,7 +69,7 @@ pub fn rows_or(text: Option<&str>) -> Option<u32>
     number_or(text, 1, 4096, 512)
 }
 
-/// The most candidates that were given, or the default where none was.
+/// The value of `--tries`, the most candidates; 256 where none was given.
 pub fn tries_or(text: Option<&str>) -> Option<u32>
     ensures reads { result ≡ option_map_or (number_of 1 4096) (option_map (λ s. s.now) text.entry) (Some 256) }
     ensures range { IfSome result (λ n. (1 ≤ n) × (n ≤ 4096)) }
@@ -77,7 +77,7 @@ pub fn tries_or(text: Option<&str>) -> Option<u32>
     number_or(text, 1, 4096, 256)
 }
 
-/// A budget of steps as text: a number in its range, or the word `none` for no budget.
+/// The budget of steps that `text` spells: a number from 1 to 1,000,000, or the word `none` for no budget.
 #[tactic(auto, unfolding(crate::specs::Settings::pivots_of))]
 fn pivots(text: &str) -> Option<Option<u32>>
     ensures { result ≡ pivots_of text.now }
@@ -88,7 +88,7 @@ fn pivots(text: &str) -> Option<Option<u32>>
     }
 }
 
-/// The budget of steps that was given, or the default where none was.
+/// The value of `--pivots`, the budget of steps; 20,000 where none was given.
 pub fn pivots_or(text: Option<&str>) -> Option<Option<u32>>
     ensures { result ≡ option_map_or pivots_of (option_map (λ s. s.now) text.entry) (Some (Some 20000)) }
 {
@@ -98,7 +98,7 @@ pub fn pivots_or(text: Option<&str>) -> Option<Option<u32>>
     }
 }
 
-/// A format by its name.
+/// The format with the name `text`.
 #[tactic(auto, unfolding(crate::specs::Settings::format_of))]
 fn format(text: &str) -> Option<Format>
     ensures { result ≡ format_of text.now }
@@ -107,11 +107,12 @@ fn format(text: &str) -> Option<Format>
         "text" => Some(Format::Text),
         "json" => Some(Format::Json),
         "proof" => Some(Format::Proof),
+        "derived" => Some(Format::Derived),
         _ => None,
     }
 }
 
-/// The format that was given, or text where none was.
+/// The value of `--format`; text where none was given.
 pub fn format_or(text: Option<&str>) -> Option<Format>
     ensures { result ≡ option_map_or format_of (option_map (λ s. s.now) text.entry) (Some formats.Text) }
 {
@@ -121,7 +122,7 @@ pub fn format_or(text: Option<&str>) -> Option<Format>
     }
 }
 
-/// A run by its name.
+/// The run with the name `text`.
 #[tactic(auto, unfolding(crate::specs::Settings::run_of))]
 fn run(text: &str) -> Option<Run>
     ensures { result ≡ run_of text.now }
@@ -133,7 +134,7 @@ fn run(text: &str) -> Option<Run>
     }
 }
 
-/// The run that was given, or Bland's where none was.
+/// The value of `--run`; the defined run, by Bland's rule, where none was given.
 pub fn run_or(text: Option<&str>) -> Option<Run>
     ensures { result ≡ option_map_or run_of (option_map (λ s. s.now) text.entry) (Some runs.Bland) }
 {

@@ -1,4 +1,4 @@
-//! The reading of the words: what the command takes, each value then judged.
+//! The reading of the words: clap matches them, then each value is read.
 ghost use Rattle.std.specs.Prelude.{◌≡◌, [], ◌∷◌, Option, Some, codes, is_none, map, IfOk, IfSome};
 ghost use Rattle.std.specs.List.{list_all};
 ghost use Rattle.clap.specs.Words.{first_value, found_of, kind_of};
@@ -15,7 +15,7 @@ use clap::error::ErrorKind;
 use clap::{ArgMatches, Error};
 use std::alloc::Global;
 
-/// The text of the mode and of each option that stands among the words.
+/// The texts of the mode and of each option that was given.
 #[derive(Clone, Copy)]
 struct Values<'a> {
     mode: Option<&'a str>,
@@ -53,7 +53,7 @@ fn has_report(values: Values) -> bool
     values.report == Some("true")
 }
 
-/// The settings of a mode that has no reports, unless one is asked for.
+/// `read`, the settings of a mode that has no reports; `None` if a report is asked for.
 fn without_report(values: Values, read: Option<Settings>) -> Option<Settings>
     requires { IfSome read AreInRange }
     ensures reads { result ≡ without_report (texts_of values.entry) read }
@@ -125,7 +125,7 @@ fn bench(values: Values) -> Option<Settings>
     })
 }
 
-/// Whether no option was given but how targets are decided, the budget of steps and a report.
+/// Whether no option was given but `--run`, `--pivots` and `--report`.
 fn has_runs_alone(values: Values) -> bool
     ensures { result ≡ list_all (λ name. is_none (texts_of values.entry name)) (codes "format" ∷ codes "rows" ∷ codes "tries" ∷ codes "seed" ∷ codes "count" ∷ []) }
 {
@@ -216,7 +216,7 @@ fn sharing(values: Values) -> Option<Settings>
     })
 }
 
-/// The settings by the mode's word.
+/// The settings of the mode that was given.
 #[tactic(auto, unfolding(crate::specs::Settings::settings_by))]
 fn settings_by_mode(values: Values) -> Option<Settings>
     ensures reads { result ≡ settings_by (texts_of values.entry) }
@@ -234,7 +234,7 @@ fn settings_by_mode(values: Values) -> Option<Settings>
     }
 }
 
-/// The settings of what was matched.
+/// The settings of the values that clap matched.
 #[tactic(auto, using(crate::proofs::ReadingLemmas::same_settings))]
 fn matched_settings(matches: &ArgMatches) -> Option<Settings>
     ensures reads { result ≡ settings_by (first_value (found_of matches.now)) }
@@ -243,7 +243,7 @@ fn matched_settings(matches: &ArgMatches) -> Option<Settings>
     settings_by_mode(matched_values(matches))
 }
 
-/// What an error of clap says of the words.
+/// The fault of the words that an error of clap means.
 fn fault(error: Error) -> WordsFault
     ensures { IsFaultOf (kind_of error) result }
 {
@@ -254,7 +254,7 @@ fn fault(error: Error) -> WordsFault
     }
 }
 
-/// The settings that the words after the program's name give, or that they have no reading.
+/// The settings that `words`, those after the program's name, give. `Usage` if they have no reading; `Memory` if allocation fails.
 pub fn settings(alloc: Global, words: &[&str]) -> Result<Settings, WordsFault>
     ensures reads { TellsReading (settings_of (map (λ w. w.now) words.now)) result }
     ensures ranges { IfOk result AreInRange }

@@ -1,11 +1,13 @@
-//! What the words say.
+//! The settings that the words give.
 
-/// How answers are written.
+/// The format of answers.
 #[derive(Clone, Copy, Debug, PartialEq, Eq)]
 pub enum Format {
     Text,
     Json,
     Proof,
+    /// As `Json`, with a certificate of each row of a region from the question's lines, where each has one.
+    Derived,
 }
 
 /// How a target is decided.
@@ -13,22 +15,22 @@ pub enum Format {
 pub enum Run {
     /// By the defined run, that of the simplex method with Bland's rule.
     Bland,
-    /// By a quick run first, whose proposal the check judges, and where that settles nothing by the defined run.
+    /// By a quick run first, whose proposal the check judges; if that doesn't settle the target, by the defined run.
     Quick,
 }
 
-/// The mode with its options, each as given or its default.
+/// The mode with its options, each as given or by default.
 #[derive(Clone, Copy, Debug, PartialEq, Eq)]
 pub enum Settings {
     /// Answer a question file.
     Answer {
         format: Format,
         run: Run,
-        /// Steps of the defined run, 1 to 1,000,000, or as many as it takes.
+        /// The most steps of the defined run, 1 to 1,000,000, or no bound.
         pivots: Option<u32>,
-        /// Rows of an elimination, 1 to 4,096.
+        /// The most rows of an elimination, 1 to 4,096.
         rows: u32,
-        /// Candidates of a containment, 1 to 4,096.
+        /// The most candidates of a containment, 1 to 4,096.
         tries: u32,
     },
     /// Judge a report.
@@ -37,7 +39,7 @@ pub enum Settings {
     Bench {
         /// The number that the file is generated from, 0 to 2,147,483,647.
         seed: u32,
-        /// Its questions, 1 to 1,000.
+        /// The number of its questions, 1 to 1,000.
         count: u32,
         /// As in mode `answer`.
         run: Run,
@@ -47,7 +49,7 @@ pub enum Settings {
     },
     /// Answer the questions of a file whose head asks for copies of variables.
     Copy {
-        /// Whether a line of a report is written in the place of lines of text.
+        /// Whether a line of a report is written instead of lines of text.
         report: bool,
         /// As in mode `answer`.
         run: Run,
@@ -68,12 +70,12 @@ pub enum Settings {
         /// As in mode `answer`.
         run: Run,
         pivots: Option<u32>,
-        /// Rows that one more ray may leave, 1 to 4,096.
+        /// The most rows after a further ray, 1 to 4,096.
         rows: u32,
-        /// Rays, 1 to 4,096.
+        /// The most rays, 1 to 4,096.
         tries: u32,
     },
-    /// Answer what is asked of a secret sharing file.
+    /// Answer the question of a secret sharing file.
     Sharing {
         /// As in mode `copy`.
         report: bool,
@@ -83,7 +85,7 @@ pub enum Settings {
     },
 }
 
-/// The words have no reading, or memory is wanted.
+/// Why there are no settings: the words have no reading, or allocation failed.
 #[derive(Clone, Copy, Debug, PartialEq, Eq)]
 pub enum WordsFault {
     Usage,

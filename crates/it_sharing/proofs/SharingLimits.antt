@@ -46,7 +46,7 @@ secret_is_one l e m = (refl, refl)
 pub one_secret : (ls r : List Letter) (v : NamesView) → read (new_name Variable 1 no_names) ls ≡ Ok (v, r) → length v.variables ≡ 1
 one_secret ls r v e = (value_read (new_name Variable 1 no_names) IsOne ls r v secret_is_one e).0
 
--- more variables than before, at most so many, and the same rates
+-- more variables than before, at most `most`, and the same rates
 abbrev HasGrown : ℕ → NamesView → NamesView → Type 0
 HasGrown most v w = (length v.variables < length w.variables) × (length w.variables ≤ most) × (w.rates ≡ v.rates)
 

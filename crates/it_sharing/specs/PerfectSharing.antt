@@ -1,4 +1,5 @@
--- Perfect secret sharing (Karnin, Greene, Hellman 1983; Beimel 2011): each qualified set knows the secret, and each other set of parties nothing of it.
+-- Perfect secret sharing (Karnin, Greene, Hellman 1983; Beimel 2011): each qualified set knows the secret, and each other set of parties
+-- nothing of it.
 use Rattle.std.specs.Prelude.{◌≡◌, ℕ, ◌≤◌, ◌↔◌, true, false, ℤ, pos, List, length, All}
 use Rattle.it_polymatroid.specs.Polymatroid.{IsPolymatroid}
 use Rattle.it_syntax.specs.declared.types.Atom.TheVariants.{Entropy, Mutual}

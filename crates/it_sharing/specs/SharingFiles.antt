@@ -6,11 +6,11 @@ use Rattle.it_question.specs.WholeForms.{SaysInForm, FormFaultAt, IsFirstFormFau
 use Rattle.it_sharing.specs.Sharings.{SharingView, IsSharing, IsBoundWhereBest}
 use Rattle.it_sharing.specs.SharingForms.{sharing}
 
--- the bytes say so
+-- the bytes say x
 abbrev pub IsSharingFile : List ℕ → SharingView → Type 0
 IsSharingFile bytes x = SaysInForm sharing (λ lines y. y) bytes x
 
--- Of these bytes the first fault is `code`, at this line and column.
+-- The first fault of these bytes is `code`, at this line and column.
 abbrev pub SharingFaultAt : List ℕ → ℕ → ℕ → Code → Type 0
 SharingFaultAt bytes line column code = FormFaultAt sharing bytes line column code
 
@@ -18,15 +18,15 @@ SharingFaultAt bytes line column code = FormFaultAt sharing bytes line column co
 abbrev pub IsFirstSharingFault : List ℕ → FileFault → Type 0
 IsFirstSharingFault bytes fault = IsFirstFormFault sharing bytes fault
 
--- a file says one thing at most
+-- a file has at most one reading
 abbrev pub SharingIsOne : Type 0
 SharingIsOne = (bytes : List ℕ) (x y : SharingView) → IsSharingFile bytes x → IsSharingFile bytes y → x ≡ y
 
--- and has one first fault at most, with its place and its code
+-- a file has at most one first fault, with its place and its code
 abbrev pub SharingFaultIsOne : Type 0
 SharingFaultIsOne = (bytes : List ℕ) (line column row place : ℕ) (c d : Code) → SharingFaultAt bytes line column c → SharingFaultAt bytes row place d → (line ≡ row) × (column ≡ place) × (c ≡ d)
 
--- and not both
+-- no file has both a reading and a first fault
 abbrev pub SharingOrFault : Type 0
 SharingOrFault = (bytes : List ℕ) (x : SharingView) (line column : ℕ) (c : Code) → IsSharingFile bytes x → SharingFaultAt bytes line column c → ⊥
 

@@ -1,6 +1,5 @@
--- The grammar of sharing files: the secret, the parties, one or more lists of parties who know the secret together, and what
--- is asked. `Name` stands against the secret in a list, `Many` against a ninth party and against the keyword of a list past
--- the limit.
+-- The grammar of sharing files: the secret, the parties, one or more lists of parties who know the secret together, and what is asked.
+-- `Name` flags the secret in a list, `Many` a ninth party and the keyword of a list past the limit.
 use Rattle.std.specs.Prelude.{ℕ, ◌+◌, ◌-◌, Bool, true, false, List, [], ◌∷◌, ◌++◌, length, codes}
 use Rattle.it_forms.specs.declared.types.Symbol.TheVariants as symbols
 use Rattle.it_syntax.specs.declared.types.Sign.TheVariants.{AtLeast}
@@ -16,7 +15,7 @@ use Rattle.it_sharing.specs.Sharings.{SharingView}
 use Rattle.it_forms.specs.Forms.{Form, Give, Take, If}
 use Rattle.it_forms.specs.Words.{◌>>=◌, ◌>>◌, symbol, word, each_flagged, to_end, file_end, limit_flag}
 
--- further lists, each after `qualified`, up to so many in all
+-- the lists `sets` and further ones, each after `qualified`, at most 64 in all
 unfoldable pub more_lists : Environment → List ℕ → Form (List ℕ)
 more_lists env sets =
     each_flagged (codes "qualified") (λ sets. limit_flag (most_qualified - length sets)) (λ sets. to_end (names env)) (λ sets set. sets ++ set ∷ []) sets
@@ -35,11 +34,11 @@ aim v =
     If (word (codes "prove")) (λ u. to_end (relation (scope_of v true)) >>= λ x. Give (false, x))
     (Take (word (codes "best")) >> (to_end (bound (scope_of v true)) >>= λ x. Give (true, x)))
 
--- after `secret`
+-- the name of the secret, after `secret`
 abbrev pub secret_name : Form NamesView
 secret_name = to_end (new_name Variable 1 no_names)
 
--- after `parties`, where the secret has its name
+-- the names of the parties, after `parties`, where the secret has its name
 abbrev pub party_names : NamesView → Form NamesView
 party_names secret = new_names Variable (length secret.variables + most_parties) secret
 

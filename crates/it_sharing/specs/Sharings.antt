@@ -11,18 +11,19 @@ use Rattle.it_sharing.specs.declared.types.Sharing.{Sharing}
 use Rattle.it_sharing.specs.Parties.{most_parties, most_qualified}
 use Rattle.it_sharing.specs.AccessStructures.{secret, IsPartySet, minimal_sets, maximal_sets}
 
--- the names, the listed sets in order, whether the least factor is asked for, and the relation
+-- what a sharing file says: the names, the listed sets in order, whether the least factor is asked for, and the relation
 pub record SharingView : Type 0 where
   pub names : NamesView
   pub qualified : List ℕ
   pub best : Bool
   pub relation : RelationView
 
--- what contracts see of it
+-- what contracts see of what a sharing file says
 abbrev pub sharing_view : Sharing → SharingView
 sharing_view x = record { names = x.names; qualified = x.qualified.items; best = x.best; relation = relation_view x.relation }
 
--- 1 to 8 parties beside the secret, no rates, 1 to 64 listed sets, each a nonempty one of parties, and a relation of the variables
+-- within the limits: 1 to 8 parties beside the secret, no rates, 1 to 64 listed sets, each a nonempty one of parties, and a relation of
+-- the variables
 pub record IsSharing (x : SharingView) : Type 0 where
   pub some : 2 ≤ length x.names.variables
   pub few : length x.names.variables ≤ 1 + most_parties
@@ -37,11 +38,11 @@ pub record IsSharing (x : SharingView) : Type 0 where
 abbrev pub IsBoundWhereBest : SharingView → Type 0
 IsBoundWhereBest x = x.best ≡ true → x.relation.sign ≡ AtLeast
 
--- the relation that an entropy or an information is 0
+-- the relation that the atom is 0
 abbrev pub vanishing_relation : Atom → RelationView
 vanishing_relation atom = record { left = record { negative = false; number = 1; denominator = 1; atom = atom } ∷ []; sign = Equal; right = record { negative = false; number = 0; denominator = 1; atom = Nothing } ∷ [] }
 
--- the `given` line with this relation
+-- the given that the atom is 0
 abbrev pub vanishing : Atom → GivenView
 vanishing atom = Relation (vanishing_relation atom)
 
@@ -57,18 +58,18 @@ knows_nothing b = vanishing (Mutual secret b 0)
 unfoldable pub made_givens : ℕ → List ℕ → List GivenView
 made_givens n listed = map knows (minimal_sets listed) ++ map knows_nothing (maximal_sets n listed)
 
--- how many minimal qualified sets there are
+-- the number of minimal qualified sets
 abbrev pub minimal_count : SharingView → ℕ
 minimal_count x = length (minimal_sets x.qualified)
 
--- how many maximal unqualified sets there are
+-- the number of maximal unqualified sets
 abbrev pub maximal_count : SharingView → ℕ
 maximal_count x = length (maximal_sets (length x.names.variables) x.qualified)
 
--- whether the relation of a sharing file holds under some givens
+-- the question whether the relation of a sharing file holds under `givens`
 abbrev pub question_under : SharingView → List GivenView → QuestionView
 question_under x givens = record { body = record { names = x.names; lines = record { givens = givens; rows = [] }; verb = Prove x.relation }; text = [] }
 
--- the question that is made: whether the relation holds wherever the secret is shared so
+-- the question that is made of a sharing file: whether its relation holds wherever the secret is shared perfectly
 unfoldable pub made_question : SharingView → QuestionView
 made_question x = question_under x (made_givens (length x.names.variables) x.qualified)

@@ -1,5 +1,5 @@
--- What it means that an answer to what a sharing file asks is true, by the meaning of the file. Nothing here speaks of certificates, of
--- runs or of which answer is due.
+-- What it means that an answer to what a sharing file asks is true, by the meaning of the file. Nothing here speaks of certificates or of
+-- runs.
 use Rattle.std.specs.Prelude.{ℕ, ℤ, pos, ◌-ℤ◌, ◌*ℤ◌, ◌≤ℤ◌, length}
 use Rattle.it_space.specs.Answers.{AnswerView}
 use Rattle.it_space.specs.Answers.AnswerView.{Yes, No, Undecided}
@@ -9,7 +9,7 @@ use Rattle.it_canon.specs.Sides.{left_form, right_form}
 use Rattle.it_sharing.specs.Sharings.{SharingView}
 use Rattle.it_sharing.specs.PerfectSharing.{SharesPerfectly}
 
--- the relation of the file holds at a polymatroid
+-- the relation of the file holds at h
 abbrev pub HoldsAt : SharingView → (ℕ → ℤ) → Type 0
 HoldsAt x h = Holds (length x.names.variables) h x.relation
 

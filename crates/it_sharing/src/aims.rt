@@ -22,7 +22,7 @@ const PROVE: &[u8] = b"prove";
 /// Before the two sides of which the least factor is asked for.
 const BEST: &[u8] = b"best";
 
-/// Two sums with `>=` between them.
+/// Reads two sums with `>=` between them.
 #[tactic(auto, unfolding(crate::specs::SharingForms::bound, it_forms::specs::FormReading::read))]
 fn bound_part(alloc: Global, rest: &mut Rest<'_>, names: &Names) -> Result<Relation, Stop>
     ensures { line.ParsesBy relation_view result (forms.bound (scope_of names.now true)) rest.old rest.new }
@@ -38,7 +38,7 @@ fn bound_part(alloc: Global, rest: &mut Rest<'_>, names: &Names) -> Result<Relat
     })
 }
 
-/// Two sums with `>=` between them, up to the line's end.
+/// Like `bound_part`, up to the line's end.
 #[tactic(auto, unfolding(it_forms::specs::FormReading::read))]
 fn bound_to_end(alloc: Global, rest: &mut Rest<'_>, names: &Names) -> Result<Relation, Stop>
     ensures { GivesAll relation_view result (line.letters_left rest.new) (read (to_end (forms.bound (scope_of names.now true))) (line.letters_left rest.old)) }
@@ -48,7 +48,7 @@ fn bound_to_end(alloc: Global, rest: &mut Rest<'_>, names: &Names) -> Result<Rel
     Ok(bound)
 }
 
-/// Two sums with `>=` between them, with the line's end.
+/// Reads two sums with `>=` between them, up to the line's end, from a file's cursor.
 fn bound(alloc: Global, cursor: &mut Cursor<'_>, names: &Names) -> Result<Relation, Stop>
     ensures { ParsesBy relation_view result (to_end (forms.bound (scope_of names.now true))) cursor.old cursor.new }
 {
@@ -67,7 +67,7 @@ fn bound(alloc: Global, cursor: &mut Cursor<'_>, names: &Names) -> Result<Relati
     }
 }
 
-/// Whether the least factor is asked for, and of which relation.
+/// What is asked: whether the least factor is asked for (`best`) or a proof (`prove`), and of which relation.
 #[tactic(auto, unfolding(crate::specs::SharingForms::aim, it_forms::specs::FormReading::read))]
 pub fn aim(alloc: Global, cursor: &mut Cursor<'_>, names: &Names) -> Result<(bool, Relation), Stop>
     ensures { ParsesBy (λ x. (x.0, relation_view x.1)) result (forms.aim names.now) cursor.old cursor.new }

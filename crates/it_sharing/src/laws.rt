@@ -14,7 +14,7 @@ pub fn made_question_is_of_perfect_sharing()
     ensures { MadeQuestionIsOfPerfectSharing }
 {}
 
-/// A file says one thing at most, or has at most one first fault, and not both.
+/// A file has at most one reading, or has at most one first fault, and not both.
 pub fn sharing_is_one()
     ensures one { SharingIsOne }
     ensures fault { SharingFaultIsOne }
@@ -26,7 +26,7 @@ pub fn sharing_has_one()
     ensures { SharingHasOne }
 {}
 
-/// What a file says is within the limits: what holds of what is within them holds of what a file says.
+/// What a file says is within the limits, so what holds of all that is within them holds of it.
 pub fn sharing_is_within()
     ensures { SharingIsWithin }
 {}

@@ -1,4 +1,4 @@
-//! Secret sharing: files that tell who may know a secret, and the constraints of perfect sharing that they make.
+//! Secret sharing: files that say which parties may know a secret, and the constraints of perfect sharing that they make.
 #![tactic(auto)]
 
 mod aims;

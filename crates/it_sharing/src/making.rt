@@ -15,7 +15,7 @@ use it_space::VarSet;
 use it_syntax::types::{Atom, Expr, Given, Relation, Sign, Term};
 use std::alloc::{AllocError, Global};
 
-/// One term as a side of a relation.
+/// The sum of one term, `number` times `atom`.
 fn side(alloc: Global, number: u64, atom: Atom) -> Result<Expr, AllocError>
     ensures { IfOk result (λ e. e.terms.items ≡ (record { negative = false; number = number; denominator = 1; atom = atom } ∷ [])) }
 {
@@ -29,7 +29,7 @@ fn side(alloc: Global, number: u64, atom: Atom) -> Result<Expr, AllocError>
     Ok(Expr { terms })
 }
 
-/// The `given` line that says that an entropy or an information is 0.
+/// The given that says that `atom` is 0.
 fn vanishing(alloc: Global, atom: Atom) -> Result<Given, AllocError>
     ensures { IfOk result (λ g. given_view g ≡ vanishing atom) }
 {
@@ -42,7 +42,7 @@ fn vanishing(alloc: Global, atom: Atom) -> Result<Given, AllocError>
     }))
 }
 
-/// That the parties of a set know the secret.
+/// The given that says that the parties of `set` know the secret.
 fn knows(alloc: Global, set: VarSet) -> Result<Given, AllocError>
     ensures { IfOk result (λ g. given_view g ≡ knows set) }
 {
@@ -55,7 +55,7 @@ fn knows(alloc: Global, set: VarSet) -> Result<Given, AllocError>
     )
 }
 
-/// That the parties of a set know nothing of the secret.
+/// The given that says that the parties of `set` know nothing of the secret.
 fn knows_nothing(alloc: Global, set: VarSet) -> Result<Given, AllocError>
     ensures { IfOk result (λ g. given_view g ≡ knows_nothing set) }
 {
@@ -69,11 +69,11 @@ fn knows_nothing(alloc: Global, set: VarSet) -> Result<Given, AllocError>
     )
 }
 
-/// Puts a given after the others.
+/// Appends `given` to `givens`.
 fn add(givens: &mut Vec<Given>, given: Given) -> Result<(), AllocError>
     ensures { OnOk result (map given_view givens.new.items ≡ map given_view givens.old.items ++ given_view given ∷ []) }
 {
-    // a match, so that each case is a goal of its own; a call lets the given go, not a step for each of its fields
+    // a match, so that each case is a goal of its own; a call drops the given, not a step for each of its fields
     match givens.push(given) {
         Ok(()) => Ok(()),
         Err(failed) => {
@@ -83,7 +83,7 @@ fn add(givens: &mut Vec<Given>, given: Given) -> Result<(), AllocError>
     }
 }
 
-/// Adds that the parties of each of these sets know the secret.
+/// Appends, for each of `sets`, that its parties know the secret.
 fn add_known(alloc: Global, sets: &[VarSet], givens: &mut Vec<Given>) -> Result<(), AllocError>
     ensures { OnOk result (map given_view givens.new.items ≡ map given_view givens.old.items ++ map knows sets.now) }
 {
@@ -94,7 +94,7 @@ fn add_known(alloc: Global, sets: &[VarSet], givens: &mut Vec<Given>) -> Result<
     Ok(())
 }
 
-/// Adds that the parties of each of these sets know nothing of the secret.
+/// Appends, for each of `sets`, that its parties know nothing of the secret.
 fn add_hidden(alloc: Global, sets: &[VarSet], givens: &mut Vec<Given>) -> Result<(), AllocError>
     ensures { OnOk result (map given_view givens.new.items ≡ map given_view givens.old.items ++ map knows_nothing sets.now) }
 {
@@ -105,7 +105,7 @@ fn add_hidden(alloc: Global, sets: &[VarSet], givens: &mut Vec<Given>) -> Result
     Ok(())
 }
 
-/// That each of the minimal sets knows the secret, and each of the maximal ones nothing of it.
+/// The givens that the parties of each minimal set know the secret, and those of each maximal set nothing of it.
 fn made_givens(
     alloc: Global,
     minimal: &[VarSet],
@@ -119,7 +119,7 @@ fn made_givens(
     Ok(givens)
 }
 
-/// The question whether the relation holds under some givens.
+/// The question whether the relation of `from` holds under `givens`.
 fn question(alloc: Global, from: &Sharing, givens: Vec<Given>) -> Result<Question, AllocError>
     ensures { IfOk result (λ q. question_view q ≡ question_under (sharing_view from.now) (map given_view givens.items)) }
 {

@@ -30,7 +30,7 @@ IsReading (Pivots k) = ⊥
 IsReading (Width k) = ⊥
 
 module _ (cs : List ℕ) (columns : List Terms) (target : Terms) (t : TableauView) (s : IsStart cs columns target t) where
-  -- what is said of the start's sizes and table, and of the tableau's
+  -- the claims about the start's sizes and table hold for the tableau's
   by_start : (P : ℕ → ℕ → SimplexTable Rational → Type 0) → P (height t) t.generator_columns (table t) → P (length cs) (length columns) (start_of cs columns target)
   by_start P x = subst (P (length cs) (length columns)) s.table_is (subst (λ (n : ℕ). P (length cs) n (table t)) s.generator_columns_are (subst (λ (m : ℕ). P m t.generator_columns (table t)) s.height_is x))
 
@@ -76,7 +76,7 @@ pub if_none : (o : Option ℕ) (P : Type 0) → (o ≡ None → P) → IfNone o 
 if_none None P f = f refl
 if_none (Some k) P f = tt
 
--- without a budget the answer isn't that the budget is used up
+-- without a budget the answer is never `Pivots`
 pub ends_within_budget : (cs : List ℕ) (columns : List Terms) (target : Terms) (e : RunEndView (List (ℕ × Rational)) (List Rational)) → Solves cs columns target None e → (k : ℕ) → e ≢ Pivots k
 ends_within_budget cs columns target e (inl a) = λ k q. let h = a.1 in cc
 ends_within_budget cs columns target e (inr a) = a.1.2

@@ -1,4 +1,4 @@
-//! The answer to a question.
+//! The answer to a feasibility problem.
 ghost use Rattle.std.specs.Prelude.{◌≢◌, ℕ, IfOk};
 ghost use Rattle.std.specs.Option.{IfNone};
 ghost use Rattle.it_run.specs.Answers.{end_of_answer};
@@ -12,7 +12,7 @@ use it_space::{Row, RowFault};
 use it_tableau::Tableau;
 use std::alloc::{AllocError, Global};
 
-/// The run by fractions from the start.
+/// The run from the start in fractions.
 fn exact_answer(
     alloc: Global,
     coordinates: &[u32],
@@ -29,7 +29,7 @@ fn exact_answer(
     }
 }
 
-/// The run by whole numbers, and where these give up by fractions from the start.
+/// The run in whole numbers, or if that gives up, from the start in fractions.
 fn run_answer(
     alloc: Global,
     coordinates: &[u32],
@@ -45,9 +45,9 @@ fn run_answer(
     }
 }
 
-/// Whether the target is a sum of the columns with weights of at least 0, by the simplex method with artificial columns and Bland's
-/// rule (Bland 1977), in exact fractions. The coordinates ascend and hold all that the columns and the target use: a row's
-/// coefficient elsewhere doesn't count. Without a budget the run goes on to its end, and is never `Pivots`.
+/// Whether `target` is a sum of `columns` with weights of at least 0, by the simplex method with artificial columns and Bland's rule
+/// (Bland 1977), in exact fractions. `coordinates` should ascend and include all at which the columns and the target have coefficients:
+/// others are ignored. Without a budget the run goes on to its end, and never returns `Pivots`.
 pub fn solve(
     alloc: Global,
     coordinates: &[u32],
@@ -59,7 +59,7 @@ pub fn solve(
     ensures unbound { IfNone budget (IfOk result (λ solved. (k : ℕ) → end_of_answer solved ≢ Pivots k)) }
     ensures right { IfOk result (λ solved. IsRightSolved coordinates.now columns.now target.now solved) }
 {
-    // named before it is answered, so that the contract of the call stands at the answer
+    // named before it is returned, so that the contract of the call is available at the return
     let solved = run_answer(alloc, coordinates, columns, target, budget)?;
     Ok(solved)
 }

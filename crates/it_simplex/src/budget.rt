@@ -3,7 +3,7 @@ ghost use Rattle.std.specs.Prelude.{◌≡◌, None, Some};
 
 use std::marker::Model;
 
-/// How many steps a run may make, or as many as it takes.
+/// The most steps that a run may make, or no bound.
 #[derive(Debug, Clone, Copy)]
 pub struct Budget {
     steps: Option<u32>,
@@ -20,14 +20,14 @@ impl Model for Budget {
 }
 
 impl Budget {
-    /// So many steps and no more.
+    /// A budget of `steps` steps.
     pub fn at_most(steps: u32) -> Budget
         ensures { result ≡ Some steps }
     {
         Budget { steps: Some(steps) }
     }
 
-    /// As many steps as the run takes.
+    /// No bound on the steps.
     pub fn none() -> Budget
         ensures { result ≡ None }
     {

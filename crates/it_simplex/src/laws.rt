@@ -1,4 +1,4 @@
-//! What is true of runs, each theorem as the contract of a function.
+//! Theorems about runs, each as the contract of a function.
 ghost use Rattle.it_run.specs.FirstEnds.{EndsAreFirst};
 ghost use Rattle.it_run.specs.Meetings.{MeetsNoBasisTwice, RunsEnd};
 ghost use Rattle.it_simplex.specs.Answers.{EndsOnce};

@@ -1,4 +1,4 @@
--- Values that are there, and those that are not.
+-- Options with and without a value.
 use Rattle.std.proofs.Common.{◌≡◌, Some, None}
 
 pub some_same : {X : Type 0} (a b : X) → Some a ≡ Some b → a ≡ b

@@ -1,4 +1,4 @@
--- Sums by place: what one addition changes, and the terms of the numbers other than 0.
+-- Sums by place: the effect of one addition, and the terms of the nonzero numbers.
 use Rattle.std.proofs.Common.{◌≡◌, ℕ, zero, suc, ◌+◌, ◌<◌, ◌≤◌, ℤ, pos, negsuc, ◌+ℤ◌, List, [], ◌∷◌, ◌++◌, length, drop, set, length-set, replicate, Bool, true, false, cond, nat_eq, refl, sym, ap, ap₂, ◌∙◌, arith, eq-eqb, ne_eqb, All}
 use Rattle.std.proofs.lemmas.Int.{ints}
 use Rattle.std.proofs.lemmas.Bool.{eqb-true, true≢false}

@@ -85,7 +85,7 @@ value-one_at (t ∷ ts) c = ap₂ (λ x y. x +ℤ y) (by_test (nat_eq t.0 c)) (v
     by_test true = omega (arith, ints)
     by_test false = omega (arith, ints)
 
--- ---- rows with all signs turned
+-- ---- negated rows
 
 pub value-negated_terms : (row : Terms) (p : ℕ → ℤ) → value (negated_terms row) p ≡ neg_ℤ (value row p)
 value-negated_terms [] p = refl

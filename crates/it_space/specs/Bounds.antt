@@ -1,4 +1,4 @@
--- The bound that rows from a question file keep.
+-- A bound on rows from a question file.
 use Rattle.std.specs.Prelude.{◌^◌, ◌≤◌, unsigned_abs, length, All}
 use Rattle.it_space.specs.Rows.{Terms}
 

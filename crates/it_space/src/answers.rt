@@ -1,4 +1,4 @@
-//! Answers to questions, and what they are made of.
+//! Answers to questions, with their certificates, marks and causes.
 ghost use Rattle.std.specs.Prelude.{◌≡◌, IfOk};
 ghost use Rattle.it_space.specs.Answers.{certificate_view, is_nonzero_weight, mark_word};
 
@@ -24,7 +24,7 @@ impl Drop for Certificate {
 }
 
 impl Certificate {
-    /// The same certificate once more.
+    /// A copy of the certificate.
     pub fn copy(&self, alloc: Global) -> Result<Certificate, AllocError>
         ensures { IfOk result (λ c. certificate_view c ≡ certificate_view self.now) }
     {
@@ -54,16 +54,16 @@ pub enum Answer {
         back: bool,
         point: Point,
     },
-    /// Neither, and why.
+    /// Neither is known, and why.
     Undecided(Cause),
-    /// The rows of a region, each with what is known of it.
+    /// The rows of a region, each with its mark.
     Region(Vec<(Mark, Row)>),
     /// A set of the first region's variables for each auxiliary variable of the second region, and a proof of each obligation.
     Contained {
         parts: Vec<VarSet>,
         proofs: Vec<Certificate>,
     },
-    /// So many candidates were tried, and none was proved.
+    /// `tried` candidates were tried, and none was proved.
     Open {
         tried: u32,
     },
@@ -85,7 +85,7 @@ impl Drop for Answer {
     }
 }
 
-/// What is known of a region's row: nothing; that the other rows don't give it; or that this stayed undecided.
+/// What is known of a region's row: nothing; that it doesn't follow from the other rows; or that this stayed undecided.
 #[derive(Clone, Copy, Debug, PartialEq, Eq)]
 pub enum Mark {
     Plain,
@@ -94,7 +94,7 @@ pub enum Mark {
 }
 
 impl Mark {
-    /// The mark in a word, as outputs have it.
+    /// The mark's word in reports.
     pub fn word(self) -> &'static str
         ensures { result.now ≡ mark_word self }
     {
@@ -109,7 +109,7 @@ impl Mark {
 /// Why a question stays undecided.
 #[derive(Clone, Copy, Debug, PartialEq, Eq)]
 pub enum Cause {
-    /// The budget's steps were made, and the run isn't at its end.
+    /// The run made all steps of its budget, the number given here, without reaching its end.
     Pivots(u32),
     /// A number of this step passes the limit.
     Width(u32),

@@ -1,4 +1,4 @@
-//! A coordinate cancelled between two rows.
+//! Cancelling a coordinate between two rows.
 ghost use Rattle.std.specs.Prelude.{◌≡◌, ◌≢◌, pos, ◌*ℤ◌, ◌<◌, ◌^◌, ◌<ℤ◌, ◌++◌, OkIff, OnOk, IfOk, IfErr, IfSome, IfNone, [], unsigned_abs};
 ghost use Rattle.it_number.specs.Limit.{IsWithin};
 ghost use Rattle.it_space.specs.Rows.{Ascends, IsCanonical, coefficient, single_term};
@@ -11,8 +11,9 @@ use crate::rows::Row;
 use it_fraction::{Wide, gcd, signed_product, sum};
 use std::alloc::Global;
 
-/// The row without a coordinate that two rows give: one that is positive there and one that is negative there, each so many
-/// times that their sum has no term there. `Wide` where at another coordinate a product or the sum passes the limit.
+/// Cancels coordinate `at`: the sum of the least positive multiples of `up` and `down` that has no term there. The coefficient
+/// at `at` is positive in `up` and negative in `down`. `Wide` if at another coordinate a product or the sum passes the limit;
+/// `Memory` if allocation fails.
 pub fn cancel(alloc: Global, up: &Row, down: &Row, at: u32) -> Result<Row, RowFault>
     requires up { pos 0 <ℤ coefficient up.now at }
     requires down { coefficient down.now at <ℤ pos 0 }
@@ -28,7 +29,7 @@ pub fn cancel(alloc: Global, up: &Row, down: &Row, at: u32) -> Result<Row, RowFa
     Ok(Row::new(terms))
 }
 
-/// The greatest common divisor of the coefficients of two rows at a coordinate.
+/// The greatest common divisor of the coefficients of `up` and `down` at coordinate `at`.
 fn common_divisor(up: &Row, down: &Row, at: u32) -> u128
     requires { pos 0 <ℤ coefficient up.now at }
     ensures value { result ≡ common_at at up.now down.now }
@@ -37,7 +38,7 @@ fn common_divisor(up: &Row, down: &Row, at: u32) -> u128
     gcd(up.coefficient(at), down.coefficient(at)).unsigned_abs()
 }
 
-/// The absolute value of the coefficient at a coordinate.
+/// The absolute value of the coefficient of `row` at coordinate `at`.
 fn size(row: &Row, at: u32) -> u128
     ensures value { result ≡ unsigned_abs (coefficient row.now at) }
     ensures within { result < 2 ^ 127 }
@@ -45,7 +46,7 @@ fn size(row: &Row, at: u32) -> u128
     row.coefficient(at).unsigned_abs()
 }
 
-/// One row so many times and another one so many times, added, without the term at a coordinate.
+/// The terms of `a` times `up` plus `b` times `down`, without the term at coordinate `at`.
 fn mix(
     alloc: Global,
     up: &[(u32, i128)],
@@ -72,7 +73,7 @@ fn mix(
     Ok(terms)
 }
 
-/// The first coordinate of two rows, None where both have no term.
+/// The first coordinate of two rows; `None` if neither has a term.
 fn first_coordinate(left: &[(u32, i128)], right: &[(u32, i128)]) -> Option<u32>
     requires left { IsCanonical left.now }
     requires right { IsCanonical right.now }
@@ -87,7 +88,7 @@ fn first_coordinate(left: &[(u32, i128)], right: &[(u32, i128)]) -> Option<u32>
     }
 }
 
-/// The coefficient at a coordinate that none is before.
+/// The coefficient at `coordinate`, where no term is before it.
 fn front_coefficient(terms: &[(u32, i128)], coordinate: u32) -> i128
     requires { Ascends coordinate terms.now }
     ensures { result ≡ coefficient terms.now coordinate }
@@ -98,7 +99,7 @@ fn front_coefficient(terms: &[(u32, i128)], coordinate: u32) -> i128
     }
 }
 
-/// The terms after a coordinate that none is before.
+/// The terms after `coordinate`, where no term is before it.
 fn rest_after(terms: &[(u32, i128)], coordinate: u32) -> &[(u32, i128)]
     requires { Ascends coordinate terms.now }
     ensures { AreLater coordinate terms.now result.now }
@@ -109,7 +110,7 @@ fn rest_after(terms: &[(u32, i128)], coordinate: u32) -> &[(u32, i128)]
     }
 }
 
-/// Puts the term of the sum at a coordinate after the others, unless it is the coordinate that is left out.
+/// Appends the term at `coordinate` of `a` times `left` plus `b` times `right`, unless `coordinate` is `at`.
 fn put_term(
     terms: &mut Vec<(u32, i128)>,
     coordinate: u32,
@@ -133,7 +134,7 @@ fn put_term(
     put_nonzero(terms, coordinate, total)
 }
 
-/// Puts a term after the others, unless its coefficient is 0.
+/// Appends the term with `coefficient` at `coordinate`, unless `coefficient` is 0.
 fn put_nonzero(
     terms: &mut Vec<(u32, i128)>,
     coordinate: u32,
@@ -149,7 +150,7 @@ fn put_nonzero(
     Ok(())
 }
 
-/// The coefficient of the sum at a coordinate.
+/// The coefficient of `a` times `left` plus `b` times `right` at `coordinate`, where neither has a term before it.
 fn mixed_coefficient(
     left: &[(u32, i128)],
     a: u128,
@@ -169,7 +170,7 @@ fn mixed_coefficient(
     )
 }
 
-/// So many times the coefficient at a coordinate that none is before.
+/// `times` times the coefficient at `coordinate`, where no term is before it.
 fn coefficient_times(terms: &[(u32, i128)], coordinate: u32, times: u128) -> Result<i128, Wide>
     requires terms { Ascends coordinate terms.now }
     requires times { times < 2 ^ 127 }

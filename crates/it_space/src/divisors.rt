@@ -9,7 +9,7 @@ ghost use Rattle.it_space.specs.Divisors.{content, divided_terms, lowest_terms};
 use crate::rows::Row;
 use it_fraction::gcd;
 
-/// The row divided by the greatest common divisor of its coefficients. The zero row stays.
+/// The row divided by the greatest common divisor of its coefficients. The zero row is returned as it is.
 pub fn normal(row: Row) -> Row
     ensures meaning { AreLowestTermsOf row result }
     ensures lowest_terms { result ≡ lowest_terms row }
@@ -45,7 +45,7 @@ fn content(terms: &[(u32, i128)]) -> u128
     common
 }
 
-/// The greatest common divisor of one found so far and a further coefficient.
+/// The greatest common divisor of `common` and `coefficient`.
 fn with_coefficient(common: u128, coefficient: i128) -> u128
     requires common { common < 2 ^ 127 }
     requires coefficient { IsWithin coefficient }
@@ -54,7 +54,7 @@ fn with_coefficient(common: u128, coefficient: i128) -> u128
     gcd(common as i128, coefficient).unsigned_abs()
 }
 
-/// Divides each coefficient by a number, rounded towards 0.
+/// Divides each coefficient by `by`, rounded towards 0.
 fn divide(terms: &mut [(u32, i128)], by: u128)
     requires within { IsCanonical terms.old }
     requires positive { 0 < by }

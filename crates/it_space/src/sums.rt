@@ -7,7 +7,7 @@ use it_fraction::{Wide, sum};
 use std::alloc::{AllocError, Global};
 use std::marker::Model;
 
-/// Whole numbers at places, which are counted from 0, while amounts are added to them.
+/// Whole numbers by place, counted from 0, to which amounts can be added.
 #[derive(Debug, Drop)]
 pub struct Sums {
     values: Vec<i128>,
@@ -22,7 +22,7 @@ impl Model for Sums {
 }
 
 impl Sums {
-    /// A 0 at each of so many places.
+    /// Zeros at `places` places.
     pub fn zeros(alloc: Global, places: usize) -> Result<Sums, AllocError>
         ensures { IfOk result (λ s. s ≡ replicate places (pos 0)) }
     {
@@ -30,7 +30,7 @@ impl Sums {
         Ok(Sums { values })
     }
 
-    /// Puts a number at a place, instead of the one there.
+    /// Sets the number at `place` to `value`.
     pub fn set(&mut self, place: usize, value: i128)
         requires { place < length self.old }
         ensures { self.new ≡ set self.old place value }
@@ -38,7 +38,7 @@ impl Sums {
         self.values[place] = value;
     }
 
-    /// Adds an amount at a place, unless the sum is wide.
+    /// Adds `amount` at `place`; `Wide` if the sum passes the limit.
     pub fn add(&mut self, place: usize, amount: i128) -> Result<(), Wide>
         requires { place < length self.old }
         ensures added { OnOk result (IsAdded self.old self.new place amount) }
@@ -47,7 +47,7 @@ impl Sums {
         add_at(self.values.as_mut_slice(), place, amount)
     }
 
-    /// The numbers other than 0 from a place on, each after its place, in ascending order.
+    /// The nonzero numbers from place `first` on, as pairs of place and number, by ascending place.
     pub fn terms(&self, alloc: Global, first: usize) -> Result<Vec<(u32, i128)>, AllocError>
         requires { length self.now ≤ 2 ^ 31 }
         ensures { IfOk result (λ v. v.items ≡ terms_from first (drop first self.now)) }
@@ -56,7 +56,7 @@ impl Sums {
     }
 }
 
-/// Adds an amount to the number at a place, which must be there.
+/// Adds `amount` to the number at `place`; `Wide` if the sum passes the limit.
 fn add_at(values: &mut [i128], place: usize, amount: i128) -> Result<(), Wide>
     requires { place < length values.old }
     ensures added { OnOk result (IsAdded values.old values.new place amount) }
@@ -66,7 +66,7 @@ fn add_at(values: &mut [i128], place: usize, amount: i128) -> Result<(), Wide>
     Ok(())
 }
 
-/// The numbers other than 0 from a place on, each after its place.
+/// The nonzero numbers from place `first` on, as pairs of place and number, by ascending place.
 fn nonzero_terms(
     alloc: Global,
     values: &[i128],

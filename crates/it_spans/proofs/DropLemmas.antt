@@ -1,12 +1,12 @@
--- Rows that go leave a hull of the same rays.
-use Rattle.std.proofs.Common.{◌≡◌, ◌↔◌, ℕ, suc, ◌+◌, ◌<◌, ◌≤◌, ℤ, pos, ◌≤ℤ◌, List, [], ◌∷◌, ◌++◌, length, take, drop, get_or, Bool, true, false, nat_lt, Option, Some, None, IfNone, is_some, Result, Ok, map, if◌then◌else◌, refl, sym, ap, ap₂, subst, ◌∙◌, arith, length-append, All}
+-- Dropping rows leaves a hull of the same rays.
+use Rattle.std.proofs.Common.{◌≡◌, ◌↔◌, ℕ, suc, ◌+◌, ◌<◌, ◌≤◌, ℤ, pos, ◌≤ℤ◌, List, [], ◌∷◌, ◌++◌, length, take, drop, get_or, Bool, true, false, nat_lt, Option, Some, None, IfNone, is_some, Result, Ok, map, if◌then◌else◌, refl, sym, ap, subst, ◌∙◌, arith, length-append, All}
 use Rattle.std.specs.List.{remove}
 use Rattle.std.proofs.lemmas.Bool.{ltb-true}
 use Rattle.std.proofs.lemmas.List.{take-append-drop, drop_more, length-drop, length-take-le}
 use Rattle.std.proofs.lemmas.List.Elements.{All-append, All-cons, All-drop, All-take}
 use Rattle.it_space.specs.declared.spaces.Space.{Space}
 use Rattle.it_space.proofs.ListLemmas.{drop_item}
-use Rattle.it_space.specs.Problems.{ProblemView, IsProblem}
+use Rattle.it_space.specs.Problems.{IsProblem}
 use Rattle.it_space.specs.Rows.{Terms, IsOver, value}
 use Rattle.it_space.specs.Spaces.{IsSpace, size_of}
 use Rattle.it_eliminate.specs.Projections.{IsPointOf}
@@ -57,11 +57,8 @@ module _ (s : Space) (h : IsSpace s) (rows : List Terms) (d : DropView) (over : 
   own = get_or rows d.row []
 
   -- the problem under which the row is judged
-  pub drop_problem : IsProblem (with_rows (constants s) others)
+  drop_problem : IsProblem (with_rows (constants s) others)
   drop_problem = problem_limits (constants s) others (constants_are_problem s h) (let k = few_constants s h in omega (arith, k)) (let k = fewer-remove rows d.row listed in omega (arith, k, few)) (all-remove (IsOver (size_of s)) rows d.row over)
-
-  pub made_problem : (givens made : ProblemView) (left : List Terms) → givens ≡ constants s → left ≡ others → made ≡ with_rows givens left → IsProblem made
-  made_problem givens made left g l m = subst (λ (q : ProblemView). IsProblem q) (sym (m ∙ ap₂ (λ (q : ProblemView) (rs : List Terms). with_rows q rs) g l)) drop_problem
 
   rows_alike : drop_verdict s rows d ≡ Valid → (x : ℕ → ℤ) → IsZeroAtSets s.variables x → IsPointOf rows x ↔ IsPointOf others x
   rows_alike valid x zero = (λ a. all-remove (RowHolds x) rows d.row a, λ a. all_with (RowHolds x) rows d.row [] listed (own_holds a) a)
@@ -100,7 +97,7 @@ no_fault s ray number rows d e = by_test (nat_lt d.row (length rows)) refl e
 abbrev left_by : List Terms → Result (List Terms) Fault
 left_by rows = Ok rows
 
--- what holds of the rows, and of rows without one that goes, holds of the rows that drops leave
+-- what holds of the rows, and still holds when a row is dropped, holds of the rows that drops leave
 pub drops_keep : (s : Space) (ray : ℕ) (P : List Terms → Type 0) → ((rows : List Terms) (d : DropView) → P rows → d.row < length rows → drop_verdict s rows d ≡ Valid → P (remove rows d.row))
     → (number : ℕ) (rows : List Terms) (ds : List DropView) (left : List Terms) → P rows → after_drops s ray number rows ds ≡ Ok left → P left
 drops_keep s ray P goes number rows [] left p e = subst P (same_rows rows left e) p
@@ -117,7 +114,7 @@ drops_keep s ray P goes number rows (d ∷ ds) left p e = by_fault (drop_fault s
 
 -- ---- the loop over the drops
 
--- so many drops went, from the rows with which it began
+-- rows are left by the first i drops, from the rows begun
 pub record AreUnderWay (s : Space) (ray : ℕ) (begun : List Terms) (drops : List RowDrop) (i : ℕ) (rows : List Terms) : Type 0 where
   pub leads : after_drops s ray i rows (map drop_view (drop i drops)) ≡ after_drops s ray 0 begun (map drop_view drops)
   pub over : All (IsOver (size_of s)) rows

@@ -1,4 +1,4 @@
--- What steps make is the hull of their rays, and they have one end.
+-- The rows that steps leave are the hull of their rays, and steps have one end.
 use Rattle.std.proofs.Common.{◌≡◌, ℕ, ◌+◌, ◌^◌, ◌<◌, ◌≤◌, ℤ, List, [], ◌∷◌, ◌++◌, length, drop, get_or, Result, Ok, Err, refl, sym, ap, subst, ◌∙◌, arith, append_assoc, append-nil, All}
 use Rattle.std.specs.Prelude.{Contains}
 use Rattle.std.specs.List.{remove}
@@ -13,7 +13,6 @@ use Rattle.it_eliminate.specs.Views.{eliminated_view}
 use Rattle.it_space.specs.declared.problems.System.{System}
 use Rattle.it_space.specs.declared.spaces.Space.{Space}
 use Rattle.it_space.specs.Problems.{ProblemView}
-use Rattle.it_space.specs.Spaces.{IsSpace}
 use Rattle.it_space.proofs.ListLemmas.{drop_item}
 use Rattle.it_hull.specs.Constants.{constants}
 use Rattle.it_hull.specs.Hulls.{IsHull, first_rows}
@@ -31,7 +30,7 @@ use Rattle.it_spans.specs.Spans.{GoesOn, SpanEnds, StepEnds, StepView, StepsEnd,
 use Rattle.it_spans.specs.Theorems.{AreKept, IsFrame, IsRightSpan, OneSpanEnd, SpansAreRight}
 use Rattle.it_spans.proofs.DropLemmas.{all-remove, drop_leaves_hull, drops_keep, fewer-remove}
 
--- ---- what steps make is right
+-- ---- the end of steps is right
 
 module _ (f : Frame) (h : IsFrame f) where
   -- rows of the space, few enough for a problem
@@ -100,7 +99,6 @@ one_span_end f ray rows (s ∷ steps) end other (first, e, later) (second, d, mo
 
 -- what the call for the drops requires
 pub record AreDropped (f : Frame) (q : ProblemView) (rows : List Terms) : Type 0 where
-  pub space : IsSpace q.space
   pub givens : q ≡ constants q.space
   pub over : All (IsOver (size_of q.space)) rows
   pub few : length rows ≤ 65535
@@ -110,7 +108,6 @@ pub drops_of_region : (f : Frame) (q : ProblemView) (rows : List Terms) (ray : L
 drops_of_region f q rows ray e next h g a is r =
     let same : f.space ≡ q.space = sym (ap (λ (p : ProblemView). p.space) g) in
     let n = few_next f h rows next.rows.items ray a.over (subst (λ (x : Eliminated). RayEnds (2 ^ f.space.variables) f.rows ray f.spare rows (eliminated_view x)) is r) in record {
-      space = subst (λ (x : Space). IsSpace x) same h.space;
       givens = g ∙ ap (λ (x : Space). constants x) same;
       over = subst (λ (x : Space). All (IsOver (size_of x)) next.rows.items) same n.over;
       few = n.few;

@@ -1,4 +1,4 @@
--- Rows that go from a list, one after the other: each where a certificate shows that it follows from the others. All variables are
+-- Rows that are removed from a list, one after the other, each with a certificate that it follows from the others. All variables are
 -- constant there, so that rows are judged by their rates alone.
 use Rattle.std.specs.Prelude.{ℕ, ◌+◌, List, [], ◌∷◌, length, nat_lt, slice_index_or, Option, Some, None, Result, Ok, Err, if◌then◌else◌}
 use Rattle.std.specs.List.{remove}
@@ -16,7 +16,7 @@ use Rattle.it_spans.specs.declared.types.Fault.{Fault}
 use Rattle.it_spans.specs.declared.types.Fault.TheVariants.{NoRow, Refused}
 use Rattle.it_spans.specs.declared.types.RowDrop.{RowDrop}
 
--- the number of a row in the list as it stands, and a certificate that this row follows from the others
+-- the number of a row in the list at that time, and a certificate that this row follows from the others
 pub record DropView : Type 0 where
   pub row : ℕ
   pub proof : CertificateView
@@ -25,25 +25,25 @@ pub record DropView : Type 0 where
 abbrev pub drop_view : RowDrop → DropView
 drop_view d = record { row = d.row; proof = certificate_view d.proof }
 
--- the verdict on a drop's certificate of its row, where each variable is constant and the other rows hold
+-- the verdict on a drop's certificate of its row, under the problem in which each variable is constant and the other rows hold
 abbrev pub drop_verdict : Space → List Terms → DropView → Verdict
 drop_verdict s rows d = yes_verdict (generators (with_rows (constants s) (remove rows d.row))) (size_of s) (slice_index_or rows d.row []) d.proof
 
--- what a verdict finds wrong with a drop, which has this number after the ray with that one
+-- the fault that a verdict means for drop number after ray number ray
 abbrev pub verdict_fault : ℕ → ℕ → Verdict → Option Fault
 verdict_fault ray number Valid = None
 verdict_fault ray number verdict = Some (Refused ray number verdict)
 
--- what is wrong with it: the list has no such row, or its certificate isn't valid
+-- the fault of a drop: the list has no such row, or its certificate isn't valid
 abbrev pub drop_fault : Space → ℕ → ℕ → List Terms → DropView → Option Fault
 drop_fault s ray number rows d = if nat_lt d.row (length rows) then verdict_fault ray number (drop_verdict s rows d) else Some (NoRow ray number)
 
--- a fault, or else what comes later
+-- a fault if there is one, else the later result
 abbrev pub fault_or : Option Fault → Result (List Terms) Fault → Result (List Terms) Fault
 fault_or (Some fault) later = Err fault
 fault_or None later = later
 
--- the rows that are left by drops, which are numbered from this one on after a ray, or the first fault
+-- the rows that are left by the drops after a ray, which are numbered from number on, or the first fault
 abbrev pub after_drops : Space → ℕ → ℕ → List Terms → List DropView → Result (List Terms) Fault
 after_drops s ray number rows [] = Ok rows
 after_drops s ray number rows (d ∷ ds) = fault_or (drop_fault s ray number rows d) (after_drops s ray (number + 1) (remove rows d.row) ds)

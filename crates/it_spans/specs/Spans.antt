@@ -30,27 +30,27 @@ step_views steps = map step_view steps
 abbrev pub rays_of : List StepView → List (List ℤ)
 rays_of steps = map (λ s. s.ray) steps
 
--- what is left of the rows that a ray leaves by the drops after it, or the first fault
+-- the rows of a ray's elimination that the drops after it leave, or the first fault
 abbrev pub step_end : Space → ℕ → List DropView → EliminatedView → Result (List Terms) Fault
 step_end s ray drops (elimination.Region rows) = after_drops s ray 0 rows drops
 step_end s ray drops (elimination.Rows rate) = Err (TooMany ray)
 step_end s ray drops (elimination.Wide rate) = Err (TooWide ray)
 
--- what a step makes of the rows of a hull, where its ray has this number
+-- end is the result of a step, whose ray has the number ray, on the rows of a hull
 abbrev pub StepEnds : Frame → ℕ → List Terms → StepView → Result (List Terms) Fault → Type 0
 StepEnds f ray rows s end = (left : EliminatedView) × RayEnds (2 ^ f.space.variables) f.rows s.ray f.spare rows left × (end ≡ step_end f.space ray s.drops left)
 
--- there are rows to go on with; a fault is the end
+-- if there are rows, end is as later says for them; a fault is the end
 abbrev pub GoesOn : (List Terms → Result (List Terms) Fault → Type 0) → Result (List Terms) Fault → Result (List Terms) Fault → Type 0
 GoesOn later (Ok rows) end = later rows end
 GoesOn later (Err fault) end = end ≡ Err fault
 
--- what steps make of them one after the other, whose rays are numbered from this one on: the rows that are left, or the first fault
+-- end is the result of steps, whose rays are numbered from ray on, on the rows of a hull: the rows that are left, or the first fault
 abbrev pub StepsEnd : Frame → ℕ → List Terms → List StepView → Result (List Terms) Fault → Type 0
 StepsEnd f ray rows [] end = end ≡ Ok rows
 StepsEnd f ray rows (s ∷ steps) end = (first : Result (List Terms) Fault) × StepEnds f ray rows s first × GoesOn (λ next end. StepsEnd f (ray + 1) next steps end) first end
 
--- and what they make of the rows of no ray
+-- end is the result of steps on the rows of the hull of no rays
 abbrev pub SpanEnds : Frame → List ℕ → List StepView → Result (List Terms) Fault → Type 0
 SpanEnds f kept steps end = StepsEnd f 0 (first_rows kept) steps end
 

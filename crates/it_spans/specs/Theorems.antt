@@ -1,4 +1,4 @@
--- What the hull that a judge makes is good for, and that there is one.
+-- Laws of the hull that a judge makes.
 use Rattle.std.specs.Prelude.{◌≡◌, ◌↔◌, ℕ, ◌+◌, ◌^◌, ◌≤◌, ◌<◌, ℤ, List, length, All, Contains, Result, Ok, Err}
 use Rattle.it_space.specs.Rows.{Terms}
 use Rattle.it_space.specs.Spaces.{IsSpace, size_of}
@@ -10,34 +10,34 @@ use Rattle.it_spans.specs.declared.types.Step.{Step}
 use Rattle.it_spans.specs.Spans.{SpanEnds, StepView, StepsEnd, rays_of}
 use Rattle.it_spans.specs.Verdicts.{VerdictIs}
 
--- the frames that calls take
+-- the frames that functions accept
 pub record IsFrame (f : Frame) : Type 0 where
   pub space : IsSpace f.space
   pub spare : f.spare < f.space.rates
   pub few_rows : f.rows ≤ 65535
 
--- the kept coordinates that calls take: rates', without the one at which multipliers stand
+-- the kept coordinates that functions accept: those of rates, without the one of the multipliers
 pub record AreKept (f : Frame) (kept : List ℕ) : Type 0 where
   pub rates : All (λ c. (2 ^ f.space.variables ≤ c) × (c ≤ size_of f.space)) kept
   pub away : ¬ (Contains kept (2 ^ f.space.variables + f.spare))
 
--- the steps that calls take: rays of the space
+-- the steps that functions accept: rays of the space
 abbrev pub AreSteps : Frame → List Step → Type 0
 AreSteps f steps = All (λ s. length s.ray ≡ size_of f.space) steps
 
--- where rows are left, they hold exactly at what the rays span
+-- if rows are left, they hold exactly at the points that the rays span
 abbrev pub IsRightSpan : List ℕ → List (List ℤ) → Result (List Terms) Fault → Type 0
 IsRightSpan kept rays (Ok rows) = IsHull kept rows rays
 IsRightSpan kept rays (Err fault) = Unit {0}
 
--- an end is right
+-- the end of steps is right
 abbrev pub SpansAreRight : Type 0
 SpansAreRight = (f : Frame) (kept : List ℕ) (steps : List StepView) (end : Result (List Terms) Fault) → IsFrame f → AreKept f kept → SpanEnds f kept steps end → IsRightSpan kept (rays_of steps) end
 
--- from the rows of a hull there is one end
+-- steps on given rows have one end
 abbrev pub OneSpanEnd : Type 0
 OneSpanEnd = (f : Frame) (ray : ℕ) (rows : List Terms) (steps : List StepView) (end other : Result (List Terms) Fault) → StepsEnd f ray rows steps end → StepsEnd f ray rows steps other → end ≡ other
 
--- rows are found valid exactly where they are what the steps leave, row for row
+-- the verdict on rows is `Valid` exactly if the steps leave these rows, row for row
 abbrev pub ValidHull : Type 0
 ValidHull = (f : Frame) (kept : List ℕ) (steps : List StepView) (rows : List Terms) → VerdictIs f kept steps rows Valid ↔ SpanEnds f kept steps (Ok rows)

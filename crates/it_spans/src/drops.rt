@@ -1,9 +1,8 @@
-//! Rows that go.
+//! Drops of rows from the list of a hull.
 ghost use Rattle.std.specs.Prelude.{◌≡◌, ◌<◌, ◌≤◌, length, map, All, IfOk, IfNone, OnOk};
 ghost use Rattle.std.specs.List.{remove};
-ghost use Rattle.it_space.specs.Problems.{problem_view};
 ghost use Rattle.it_space.specs.Rows.{IsOver};
-ghost use Rattle.it_space.specs.Spaces.{IsSpace, size_of};
+ghost use Rattle.it_space.specs.Spaces.{size_of};
 ghost use Rattle.it_hull.specs.Constants.{constants};
 ghost use Rattle.it_spans.specs.Drops.{after_drops, drop_fault, drop_verdict, drop_view, fault_or, verdict_fault};
 
@@ -13,27 +12,27 @@ use it_eliminate::problem_with;
 use it_space::{Problem, Row};
 use std::alloc::{AllocError, Global};
 
-/// Takes a drop's row out of the rows, and tells whether its certificate shows that it follows from those that are left.
+/// Removes the row of `drop` from `rows`, and returns the verdict on its certificate that the row follows from those that are left.
 fn take_row(
     alloc: Global,
     givens: &Problem,
     rows: &mut Vec<Row>,
     drop: &RowDrop,
 ) -> Result<Verdict, AllocError>
-    requires space { IsSpace givens.now.space }
-    requires givens { problem_view givens.now ≡ constants givens.now.space }
+    requires givens { givens.now ≡ constants givens.now.space }
     requires over { All (IsOver (size_of givens.now.space)) rows.old.items }
     requires few { length rows.old.items ≤ 65535 }
     requires listed { drop.now.row < length rows.old.items }
     ensures verdict { IfOk result (λ v. v ≡ drop_verdict givens.now.space rows.old.items (drop_view drop.now)) }
     ensures rows { rows.new.items ≡ remove rows.old.items drop.now.row }
 {
+    givens.facts();
     let row = rows.remove(drop.row);
     let problem = problem_with(alloc, givens, rows.as_slice())?;
     Ok(check_yes(&problem, &row, &drop.proof))
 }
 
-/// What a verdict finds wrong with a drop.
+/// The fault that `verdict` means for the drop of this number after the ray of that one; `None` if it is `Valid`.
 fn verdict_fault(ray: usize, number: usize, verdict: Verdict) -> Option<Fault>
     ensures { result ≡ verdict_fault ray number verdict }
 {
@@ -47,7 +46,7 @@ fn verdict_fault(ray: usize, number: usize, verdict: Verdict) -> Option<Fault>
     }
 }
 
-/// What is wrong with a drop; where nothing is, its row goes.
+/// The fault of `drop`; `None` if it has none, and then its row is removed.
 fn drop_row(
     alloc: Global,
     givens: &Problem,
@@ -56,8 +55,7 @@ fn drop_row(
     ray: usize,
     number: usize,
 ) -> Result<Option<Fault>, AllocError>
-    requires space { IsSpace givens.now.space }
-    requires givens { problem_view givens.now ≡ constants givens.now.space }
+    requires givens { givens.now ≡ constants givens.now.space }
     requires over { All (IsOver (size_of givens.now.space)) rows.old.items }
     requires few { length rows.old.items ≤ 65535 }
     ensures fault { IfOk result (λ f. f ≡ drop_fault givens.now.space ray number rows.old.items (drop_view drop.now)) }
@@ -70,7 +68,7 @@ fn drop_row(
     Ok(verdict_fault(ray, number, verdict))
 }
 
-/// The first fault of the drops after a ray; where there is none, their rows go.
+/// The first fault of the drops after a ray; `None` if there is none, and then their rows are removed.
 pub fn drop_rows(
     alloc: Global,
     givens: &Problem,
@@ -78,8 +76,7 @@ pub fn drop_rows(
     drops: &[RowDrop],
     ray: usize,
 ) -> Result<Option<Fault>, AllocError>
-    requires space { IsSpace givens.now.space }
-    requires givens { problem_view givens.now ≡ constants givens.now.space }
+    requires givens { givens.now ≡ constants givens.now.space }
     requires over { All (IsOver (size_of givens.now.space)) rows.old.items }
     requires few { length rows.old.items ≤ 65535 }
     ensures { IfOk result (λ f. after_drops givens.now.space ray 0 rows.old.items (map drop_view drops.now) ≡ fault_or f (Ok rows.new.items)) }

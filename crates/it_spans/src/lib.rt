@@ -1,4 +1,4 @@
-//! The judge of a hull: whether rows hold exactly at what rays span, by elimination and certificates.
+//! The judge of a hull: whether rows hold exactly at the points that rays span, by elimination and certificates.
 #![tactic(auto)]
 
 mod drops;

@@ -1,8 +1,7 @@
-//! The hull of rays, a step after the other.
+//! The hull of rays, one step after the other.
 ghost use Rattle.std.specs.Prelude.{◌≡◌, ◌≤◌, length, map, All, IfOk};
-ghost use Rattle.it_space.specs.Problems.{problem_view};
 ghost use Rattle.it_space.specs.Rows.{IsOver};
-ghost use Rattle.it_space.specs.Spaces.{IsSpace, size_of};
+ghost use Rattle.it_space.specs.Spaces.{size_of};
 ghost use Rattle.it_hull.specs.Constants.{constants};
 ghost use Rattle.it_spans.specs.Drops.{after_drops, drop_view};
 ghost use Rattle.it_spans.specs.HullRows.{AreHullRows};
@@ -16,7 +15,7 @@ use it_hull::{constants, first_rows, with_ray};
 use it_space::{Problem, Row, System};
 use std::alloc::{AllocError, Global};
 
-/// The rows of a system that is let go.
+/// Consumes the system and returns its rows.
 fn rows_of(alloc: Global, system: System) -> Vec<Row>
     ensures { result.items ≡ system.rows.items }
 {
@@ -24,7 +23,7 @@ fn rows_of(alloc: Global, system: System) -> Vec<Row>
     std::mem::replace(&mut system.rows, Vec::new(alloc))
 }
 
-/// What drops leave of the rows of a system.
+/// The rows of `system` that `drops` leave, or the first fault of the drops.
 fn after_drops(
     alloc: Global,
     givens: &Problem,
@@ -32,8 +31,7 @@ fn after_drops(
     drops: &[RowDrop],
     ray: usize,
 ) -> Result<Spanned, AllocError>
-    requires space { IsSpace givens.now.space }
-    requires givens { problem_view givens.now ≡ constants givens.now.space }
+    requires givens { givens.now ≡ constants givens.now.space }
     requires over { All (IsOver (size_of givens.now.space)) system.rows.items }
     requires few { length system.rows.items ≤ 65535 }
     ensures { IfOk result (λ s. spanned_view s ≡ after_drops givens.now.space ray 0 system.rows.items (map drop_view drops.now)) }
@@ -45,7 +43,7 @@ fn after_drops(
     }
 }
 
-/// What a step makes of the rows of a hull.
+/// The rows of a hull after `step`, whose ray has the number `ray`, or the step's first fault.
 fn after_step(
     alloc: Global,
     frame: Frame,
@@ -55,7 +53,7 @@ fn after_step(
     ray: usize,
 ) -> Result<Spanned, AllocError>
     requires frame { IsFrame frame }
-    requires givens { problem_view givens.now ≡ constants frame.space }
+    requires givens { givens.now ≡ constants frame.space }
     requires rows { AreHullRows frame rows.items }
     requires ray { length step.now.ray ≡ size_of frame.space }
     ensures { IfOk result (λ s. StepEnds frame ray rows.items (step_view step.now) (spanned_view s)) }
@@ -75,7 +73,7 @@ fn after_step(
     }
 }
 
-/// What steps make of the rows of no ray.
+/// The rows of the hull of no rays after `steps`, or the first fault.
 fn after_steps(
     alloc: Global,
     frame: Frame,
@@ -98,8 +96,8 @@ fn after_steps(
     Ok(Spanned::Hull(rows))
 }
 
-/// The hull of the rays of steps: from the rows of no ray one step after the other, each of which puts in its ray by elimination, and
-/// then takes out the rows of its drops. What is wrong first, in the order of the steps and of their drops, is the end.
+/// The hull of the rays of `steps`, made from the rows of no rays by one step after the other: each adds its ray by elimination, and
+/// then removes the rows of its drops. The first fault, in the order of the steps and of their drops, is the end.
 pub fn hull(
     alloc: Global,
     frame: Frame,
@@ -112,7 +110,7 @@ pub fn hull(
     ensures ends { IfOk result (λ s. SpanEnds frame kept.now (step_views steps.now) (spanned_view s)) }
     ensures hull { IfOk result (λ s. IsRightSpan kept.now (rays_of (step_views steps.now)) (spanned_view s)) }
 {
-    // named before it is answered, so that the contract of the call stands at the answer
+    // named before it is returned, so that the contract of the call is available at the return
     let end = after_steps(alloc, frame, kept, steps)?;
     Ok(end)
 }

@@ -1,9 +1,9 @@
-//! What a judge of hulls is given, and what it finds.
+//! The input of the judge of hulls, and its findings.
 use it_check::Verdict;
 use it_space::{Certificate, Point, Row, Space};
 
-/// Where hulls are made: the space, the rate at which multipliers of rays stand, and the most rows that one more ray may leave, before
-/// any of them go.
+/// The setting in which hulls are made: the space, the rate at which multipliers of rays are, and the most rows that a further ray may
+/// leave, before its drops.
 #[derive(Clone, Copy, Debug, PartialEq, Eq)]
 pub struct Frame {
     pub space: Space,
@@ -11,22 +11,23 @@ pub struct Frame {
     pub rows: usize,
 }
 
-/// A row that goes: its number in the list as it stands, counted from 0, and a certificate that it follows from the others. The
-/// certificate's generators are the elemental inequalities, an equation for each variable, which is constant, and the other rows in order.
+/// A row that is removed: its number in the list at that time, counted from 0, and a certificate that it follows from the others. The
+/// certificate's generators are the elemental inequalities, an equation for each variable, which says that it is constant, and the
+/// other rows in order.
 #[derive(Debug, Drop)]
 pub struct RowDrop {
     pub row: usize,
     pub proof: Certificate,
 }
 
-/// One more ray, and the rows that go after it, in turn.
+/// A further ray, and the rows that are removed after it, in turn.
 #[derive(Debug, Drop)]
 pub struct Step {
     pub ray: Point,
     pub drops: Vec<RowDrop>,
 }
 
-/// What is wrong first: at the ray of this number, counted from 0, and at the drop of this number after it.
+/// The first fault: at the ray of this number, and at the drop of this number after it, both counted from 0.
 #[derive(Clone, Copy, Debug, PartialEq, Eq)]
 pub enum Fault {
     /// The ray leaves more rows than are allowed.
@@ -42,7 +43,7 @@ pub enum Fault {
         ray: usize,
         drop: usize,
     },
-    /// The checker doesn't find the drop's certificate valid.
+    /// The checker's verdict on the drop's certificate isn't `Valid`.
     Refused {
         ray: usize,
         drop: usize,
@@ -50,18 +51,18 @@ pub enum Fault {
     },
 }
 
-/// What steps make: the rows of the hull of their rays, or what is wrong.
+/// The result of steps: the rows of the hull of their rays, or the first fault.
 #[derive(Debug, Drop)]
 pub enum Spanned {
     Hull(Vec<Row>),
     Faulty(Fault),
 }
 
-/// What is wrong with rows that are said to be the hull of rays, or that nothing is.
+/// The first fault of rows that are claimed to be the hull of rays, or that they are valid.
 #[derive(Clone, Copy, Debug, PartialEq, Eq)]
 pub enum HullVerdict {
     Valid,
-    /// No hull is made.
+    /// The steps have a fault, and so make no hull.
     Faulty(Fault),
     /// The hull has another row at this place, counted from 0, or one of the two lists ends there.
     OtherRow { place: usize },

@@ -1,4 +1,4 @@
-//! The verdict on rows that are said to be the hull of rays.
+//! The verdict on rows that are claimed to be the hull of rays.
 ghost use Rattle.std.specs.Prelude.{◌≡◌, drop, IfOk};
 ghost use Rattle.it_eliminate.specs.Elimination.{is_same};
 ghost use Rattle.it_hull.specs.Hulls.{IsHull};
@@ -13,21 +13,21 @@ use crate::types::{Frame, HullVerdict, Spanned, Step};
 use it_space::Row;
 use std::alloc::{AllocError, Global};
 
-/// Whether two rows are one.
+/// Whether two rows are equal.
 fn is_same(row: &Row, other: &Row) -> bool
     ensures { result ≡ is_same row.now other.now }
 {
     row.terms() == other.terms()
 }
 
-/// Whether two lists of rows have the same row at a place.
+/// Whether two lists of rows have equal rows at `place`.
 fn is_same_at(rows: &[Row], others: &[Row], place: usize) -> bool
     ensures { result ≡ same_first (drop place rows.now) (drop place others.now) }
 {
     place < rows.len() && place < others.len() && is_same(&rows[place], &others[place])
 }
 
-/// The first place at which two lists of rows differ, or one of them ends.
+/// The first place at which two lists of rows differ, or one of them ends; `None` if they are equal.
 fn first_difference(rows: &[Row], others: &[Row]) -> Option<usize>
     ensures { result ≡ first_difference 0 rows.now others.now }
 {
@@ -43,7 +43,7 @@ fn first_difference(rows: &[Row], others: &[Row]) -> Option<usize>
     }
 }
 
-/// The verdict on rows by what steps make.
+/// The verdict on `rows` by `end`, the result of the steps.
 fn rows_verdict(end: &Spanned, rows: &[Row]) -> HullVerdict
     ensures { result ≡ rows_verdict rows.now (spanned_view end.now) }
 {
@@ -56,8 +56,8 @@ fn rows_verdict(end: &Spanned, rows: &[Row]) -> HullVerdict
     }
 }
 
-/// Whether the hull of the rays of steps has these rows, in this order: what is wrong first with the steps, or the first place at which
-/// it has another row.
+/// Whether the hull of the rays of `steps` has exactly `rows`, in this order: `Valid`, or the first fault of the steps, or the first
+/// place at which the hull has another row.
 pub fn check_hull(
     alloc: Global,
     frame: Frame,

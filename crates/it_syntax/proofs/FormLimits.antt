@@ -127,9 +127,10 @@ term_keeps s n m k minus c small = (
   (λ l e u. over_or_keeps s n m k minus (number_of l) (atom s) c small (atom_keeps s n m c), whole_keeps n m k minus 1 (atom s) small (atom_keeps s n m c)),
 )
 
--- ---- at most so many terms
+-- ---- sums of at most `most` terms
 
--- at most so many, each with an atom within the limits, and the multiple with their denominators
+-- at most `most` terms with atoms of n variables and m rates, where the least common multiple of k and their denominators is
+-- within the limit
 abbrev pub AreFew : ℕ → ℕ → ℕ → ℕ → List Term → Type 0
 AreFew n m k most ts = (length ts ≤ most) × All (λ t. IsAtomOf n m t.atom) ts × IsMultiple (multiple_from k ts)
 

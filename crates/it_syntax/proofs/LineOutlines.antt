@@ -72,7 +72,7 @@ over_a_number = one_then (one_of (Zero ∷ Positive ∷ [])) (one_then (an_atom 
 denominator_has : (m : ℕ) (s : Scope) (minus : Bool) (n : ℕ) → Has (Then (Take (denominator m)) (λ d. counted minus n d (atom s))) over_a_number
 denominator_has m s minus n = has_then _ _ _ _ (has_take _ (Number 1) refl) (λ d. has_then _ _ _ _ (atom_has s) (λ a. has_give _) refl) refl
 
--- after a number: a denominator and an atom, or what the number counts
+-- after a number: a denominator and an atom, or else the atom of the number
 over_atom : (m : ℕ) (s : Scope) (minus : Bool) (n : ℕ) → Has (over_or m s minus n (atom s)) (one_or (Punctuation Slash ∷ []) over_a_number (one_then (an_atom []) nothing))
 over_atom m s minus n = has_if _ _ _ _ _ (λ u. denominator_has m s minus n) (has_then _ _ _ _ (atom_has s) (λ a. has_give _) refl) refl
 

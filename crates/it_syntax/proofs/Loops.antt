@@ -13,7 +13,7 @@ use Rattle.it_forms.specs.FormReading.{if_unflagged, if_taken, read, after}
 use Rattle.it_forms.proofs.FormTraces.{Reader}
 use Rattle.it_forms.proofs.FormLaws.{NoLonger, rest_no_longer, while_turn}
 
--- what is said of a terminal that stands there, and what is after it
+-- what t says of the letter that stands there, and what is after it
 abbrev Standing : Type 0 → Type 0
 Standing A = (Option Code × A) × List Letter
 
@@ -98,7 +98,7 @@ rest_is_shorter {A} {B} t f (l ∷ ls) tail rest p b e h = by_test (is_among t.k
     by_test true e = let s : length ls ≡ length tail = ap (λ (q : Standing A). length q.1) (same_standing (t.says l, ls) (p, tail) e) in let n : length rest ≤ length tail = subst (NoLonger tail) h (rest_no_longer f tail) in omega (arith, n, s)
     by_test false e = absurd cc
 
--- ---- the same after a symbol
+-- ---- symbols, each with a form, over and over
 
 pub symbol_goes : {A C : Type 0} (s : Symbol) (item : A → Form C) (put : A → C → A) (a : A) (c : C) (ls tail rest : List Letter) (total : Reads A) → after (symbol s) ls ≡ Some ((None, tt), tail) → read (item a) tail ≡ Ok (c, rest) → read (each_after s item put a) ls ≡ total → read (each_after s item put (put a c)) rest ≡ total
 symbol_goes s item put a c ls tail rest total e h so_far = each_goes (Punctuation s ∷ []) (λ a l. (None, tt)) (λ a u. item a) put a tt c ls tail rest total e h so_far
@@ -109,7 +109,7 @@ symbol_stops s item put a ls tail rest stop total e h so_far = each_stops (Punct
 pub symbol_ends : {A C : Type 0} (s : Symbol) (item : A → Form C) (put : A → C → A) (a : A) (ls : List Letter) (total : Reads A) → after (symbol s) ls ≡ None → read (each_after s item put a) ls ≡ total → total ≡ Ok (a, ls)
 symbol_ends s item put a ls total e so_far = each_ends (Punctuation s ∷ []) (λ a l. (None, tt)) (λ a u. item a) put a ls total e so_far
 
--- the same terminal under flags that hang on what it says
+-- a terminal whose flags depend on what it says
 pub after_with_flags : {B : Type 0} (ks : List Kind) (f : Letter → B) (m : B → Option Code) (b : B) (ls tail : List Letter) → after (record { kinds = ks; says = λ l. (None, f l) }) ls ≡ Some ((None, b), tail) → after (record { kinds = ks; says = λ l. (m (f l), f l) }) ls ≡ Some ((m b, b), tail)
 after_with_flags ks f m b [] tail e = absurd cc
 after_with_flags {B} ks f m b (l ∷ ls) tail e = by_test (is_among ks l) e

@@ -57,7 +57,7 @@ no_digit : (body : List ℕ) → BeginsNothing body → StartsWith is_ascii_digi
 no_digit [] h s = elim h [ ]
 no_digit (b ∷ body) h s = let x = h.1 in absurd cc
 
--- it is wrong in one way
+-- what stands there is wrong by one code
 wrong_one : (c d : Code) (body : List ℕ) → IsWrong c body → IsWrong d body → c ≡ d
 wrong_one codes.Byte codes.Byte body h k = refl
 wrong_one codes.Byte codes.Many body h k = absurd (no_letter body h k.0)

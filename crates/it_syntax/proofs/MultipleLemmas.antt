@@ -86,7 +86,7 @@ multiple_limited m d x h e = by_tests (nat_eq d 0) (nat_lt most_multiple (lcm m 
         let few : lcm m d ≤ 2 ^ 32 = grind (arith, nat_tests) in
         (lcm-pos m d h some, few)
 
--- a multiple that is within the limit at the end is so from the beginning on
+-- if a multiple is within the limit at the end, it is within the limit from the beginning on
 pub start_limited : (m : ℕ) (ts : List Term) → IsMultiple (multiple_from m ts) → IsMultiple m
 start_limited m ts h =
     let divides = start_divides m (map (λ (t : Term). t.denominator) ts) in

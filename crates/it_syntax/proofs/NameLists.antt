@@ -1,4 +1,4 @@
--- A list of names too many.
+-- The reader of a list of names where no more lists are allowed.
 use Rattle.std.proofs.Common.{◌≡◌, ℕ, Bool, true, false, cond, List, [], ◌∷◌, Option, Some, None, Ok, Err, refl, ap}
 use Rattle.std.specs.Option.{option_or}
 use Rattle.it_forms.specs.declared.types.Code.{Code}

@@ -1,4 +1,4 @@
--- How terms and constraints are read: by what stands in front, and after a number what it counts.
+-- How terms and constraints are read: by what stands in front, and after a number by whether it is 0.
 use Rattle.std.proofs.Common.{◌≡◌, ℕ, zero, suc, Bool, List, ◌∷◌, refl}
 use Rattle.it_forms.specs.Letters.{Letter, Number}
 use Rattle.it_forms.specs.FormReading.{read}
@@ -14,7 +14,7 @@ unfolding read term
 read_at_number m s minus zero ls = refl
 read_at_number m s minus (suc n) ls = refl
 
--- a number other than 0 counts an atom
+-- a number other than 0 has an atom
 pub counted_some : (n : ℕ) (s : Scope) → ¬ (n ≡ 0) → counted_by n s ≡ atom s
 counted_some zero s h = absurd (h refl)
 counted_some (suc n) s h = refl

@@ -43,7 +43,7 @@ abbrev pub sum_of_conditionals : ℕ → (ℕ → ℤ) → List ℕ → ℕ → 
 sum_of_conditionals n p [] given = pos 0
 sum_of_conditionals n p (member ∷ members) given = atom_at n p (Entropy member given) +ℤ sum_of_conditionals n p members given
 
--- The condition is true of the map: each link of a chain is 0, the joint entropy of independent sets is the sum of theirs,
+-- The constraint holds at the map p: each link of a chain is 0, the joint entropy of independent sets is the sum of theirs,
 -- a function has no entropy given its argument.
 abbrev pub IsTrueAt : ℕ → (ℕ → ℤ) → GivenView → Type 0
 IsTrueAt n p (Relation r) = Holds n p r
@@ -51,7 +51,8 @@ IsTrueAt n p (Markov sets) = All (λ link. atom_at n p link ≡ pos 0) (links se
 IsTrueAt n p (Independent members given) = atom_at n p (Entropy (union_of members) given) ≡ sum_of_conditionals n p members given
 IsTrueAt n p (Function value argument) = atom_at n p (Entropy value argument) ≡ pos 0
 
--- sets of n variables, rates among m, at most 256 terms, and denominators other than 0 with a least common multiple of at most 2 ^ 32
+-- a relation of n variables and m rates within the limits: at most 256 terms, and denominators other than 0 whose least common
+-- multiple is at most 2 ^ 32
 pub record IsRelationOf (n m : ℕ) (r : RelationView) : Type 0 where
   pub few : length r.left + length r.right ≤ 256
   pub left : All (λ t. IsAtomOf n m t.atom) r.left
@@ -59,13 +60,13 @@ pub record IsRelationOf (n m : ℕ) (r : RelationView) : Type 0 where
   pub some_multiple : 1 ≤ common_denominator r
   pub small_multiple : common_denominator r ≤ 2 ^ 32
 
--- so many sets of n variables
+-- `least` to `most` sets of n variables
 pub record AreSetsOf (n least most : ℕ) (sets : List ℕ) : Type 0 where
   pub some : least ≤ length sets
   pub few : length sets ≤ most
   pub within : All (λ s. s < 2 ^ n) sets
 
--- the conditions on n variables that are within the limits: without rates, 3 to 16 sets in a chain, 2 to 16 in an independence
+-- a constraint of n variables within the limits: a relation without rates, 3 to 16 sets in a chain, 2 to 16 in an independence
 abbrev pub IsGivenOf : ℕ → GivenView → Type 0
 IsGivenOf n (Relation r) = IsRelationOf n 0 r
 IsGivenOf n (Markov sets) = AreSetsOf n 3 16 sets

@@ -1,6 +1,5 @@
--- The grammar of relations and of the constraints of `given` lines. `Name` stands against a name that is unknown, `Word`
--- against H or I in its place, `Many` against the first letter past a limit, `Number` against a denominator that is 0 or
--- with which the least common multiple passes the limit.
+-- The grammar of relations and of the constraints of `given` lines. `Name` flags a name that is unknown, `Word` H or I in its place,
+-- `Many` the first letter past a limit, `Number` a denominator that is 0 or with which the least common multiple passes the limit.
 use Rattle.it_syntax.specs.MeasureWords.{is_measure}
 use Rattle.std.specs.Prelude.{ℕ, ◌-◌, ◌^◌, bit_or, Bool, true, false, List, [], ◌∷◌, ◌++◌, length, None, codes, unwrap_or, if◌then◌else◌, Some}
 use Rattle.it_forms.specs.declared.types.Symbol.{Symbol}
@@ -78,7 +77,7 @@ atom_or_nothing s = measure_or s.variables (If (rate s.rates) Give (Give Nothing
 
 -- ---- terms and sums; m is the least common multiple of the denominators before
 
--- an atom counted by a fraction, under a sign
+-- n / d times the atom that f reads, negative if `minus`
 abbrev pub counted : Bool → ℕ → ℕ → Form Atom → Form Term
 counted minus n d f = do
   a ← f
@@ -88,7 +87,7 @@ counted minus n d f = do
 abbrev pub denominator : ℕ → Terminal ℕ
 denominator m = number (λ d. missing_flag codes.Number (multiple_with m d))
 
--- after a number n: `/` with a denominator and an atom, or what counts n
+-- after a number n: `/`, a denominator and an atom, or else the atom that f reads
 abbrev pub over_or : ℕ → Scope → Bool → ℕ → Form Atom → Form Term
 over_or m s minus n f = If (symbol Slash) (λ u. Take (denominator m) >>= λ d. counted minus n d (atom s)) (counted minus n 1 f)
 
@@ -103,19 +102,19 @@ term m s minus =
 abbrev pub signs : List Kind
 signs = Punctuation Plus ∷ Punctuation Minus ∷ []
 
--- further terms, each after a sign, up to so many in all
+-- the terms `ts` and further ones, each after a sign, at most `most` in all
 unfoldable pub more_terms : ℕ → ℕ → Scope → List Term → Form (List Term)
 more_terms most m s ts =
     each signs (λ ts l. (None, is_of (Punctuation Minus) l))
     (λ ts minus. allowed (most - length ts) (term (multiple_from m ts) s minus)) (λ ts t. ts ++ t ∷ []) ts
 
--- at most so many terms, the first under a sign
+-- one to `most` terms, the first negative if `minus`
 unfoldable pub terms : ℕ → ℕ → Scope → Bool → Form (List Term)
 terms most m s minus = do
   t ← allowed most (term m s minus)
   more_terms most m s (t ∷ [])
 
--- a sum of at most so many terms, the first with or without a sign
+-- a sum of one to `most` terms, the first with or without a sign
 unfoldable pub sum : ℕ → ℕ → Scope → Form (List Term)
 sum most m s =
     If (symbol Plus) (λ u. terms most m s false)
@@ -141,7 +140,7 @@ relation s = do
 
 -- ---- the constraints of `given` lines
 
--- how many members a chain or an independence has, at most
+-- the most members of a chain or an independence
 abbrev pub most_members : ℕ
 most_members = 16
 

@@ -29,7 +29,7 @@ atom_at n p (Mutual left right given) =
     (p (bit_or left given) +ℤ p (bit_or right given)) -ℤ (p (bit_or (bit_or left right) given) +ℤ p given)
 atom_at n p (Rate r) = p (2 ^ n + r)
 
--- the least common multiple of a number and the denominators of terms
+-- the least common multiple of m and the denominators of `ts`
 abbrev pub multiple_from : ℕ → List Term → ℕ
 multiple_from m ts = fold lcm m (map (λ t. t.denominator) ts)
 
@@ -37,15 +37,15 @@ multiple_from m ts = fold lcm m (map (λ t. t.denominator) ts)
 abbrev pub common_denominator : RelationView → ℕ
 common_denominator r = multiple_from (multiple_from 1 r.left) r.right
 
--- how often a term counts its atom, where m times its fraction is a whole number: its number times m over its denominator
+-- the coefficient of the atom in m times the term, without its sign, where the denominator divides m
 abbrev pub multiplicity : ℕ → Term → ℕ
 multiplicity m t = t.number * (m / t.denominator)
 
--- m times the value of a term: its atom's, so often, with its sign
+-- m times the value of the term at p: its atom's value times the coefficient, with the term's sign
 abbrev pub term_at : ℕ → (ℕ → ℤ) → ℕ → Term → ℤ
 term_at n p m t = (if t.negative then neg_ℤ (pos (multiplicity m t)) else pos (multiplicity m t)) *ℤ atom_at n p t.atom
 
--- m times the sum of the terms
+-- m times the sum of the terms at p
 abbrev pub side_at : ℕ → (ℕ → ℤ) → ℕ → List Term → ℤ
 side_at n p m [] = pos 0
 side_at n p m (t ∷ ts) = term_at n p m t +ℤ side_at n p m ts
@@ -54,17 +54,17 @@ side_at n p m (t ∷ ts) = term_at n p m t +ℤ side_at n p m ts
 abbrev pub difference_at : ℕ → (ℕ → ℤ) → RelationView → ℤ
 difference_at n p r = side_at n p (common_denominator r) r.left -ℤ side_at n p (common_denominator r) r.right
 
--- two numbers compare as the sign says
+-- x and y are related as the sign says
 abbrev pub Relates : Sign → ℤ → ℤ → Type 0
 Relates AtLeast x y = y ≤ℤ x
 Relates AtMost x y = x ≤ℤ y
 Relates Equal x y = x ≡ y
 
--- the relation is true of the map: both sides compare so, times the least common multiple of the denominators
+-- the relation holds at p: the values of its sides, times the least common multiple of the denominators, are related as its sign says
 abbrev pub Holds : ℕ → (ℕ → ℤ) → RelationView → Type 0
 Holds n p r = Relates r.sign (side_at n p (common_denominator r) r.left) (side_at n p (common_denominator r) r.right)
 
--- its sets are sets of n variables, and its rates are among m
+-- the sets of the atom are sets of n variables, and its rate is one of m
 abbrev pub IsAtomOf : ℕ → ℕ → Atom → Type 0
 IsAtomOf n m Nothing = Unit {0}
 IsAtomOf n m (Entropy of given) = (of < 2 ^ n) × (given < 2 ^ n)

@@ -17,7 +17,7 @@ abbrev pub BeginsNothing : List ℕ → Type 0
 BeginsNothing [] = ⊥
 BeginsNothing (b ∷ bs) = (is_ascii_alphabetic b ≡ false) × (is_ascii_digit b ≡ false) × (is_space b ≡ false) × (symbol_of (b ∷ bs) ≡ None)
 
--- what stands in front is wrong by this code
+-- what stands at the front of `body` is wrong by this code
 abbrev pub IsWrong : Code → List ℕ → Type 0
 IsWrong codes.Byte body = BeginsNothing body
 IsWrong codes.Many body = StartsWith is_ascii_alphabetic body × ((n : ℕ) × (IsLongestRun is_word_byte body n × (16 < n)))

@@ -14,10 +14,10 @@ pub record AreNames (v : NamesView) : Type 0 where
   pub short : All (λ name. (1 ≤ length name) × (length name ≤ 16)) (v.variables ++ v.rates)
   pub distinct : IsDistinct bytes_eq (v.variables ++ v.rates)
 
--- which of these names it is, counted from 0
+-- the index of `name` in `names`, counted from 0
 abbrev pub index_of : List (List ℕ) → List ℕ → Option ℕ
 index_of names name = position (bytes_eq name) names
 
--- neither a variable nor a rate
+-- the name is neither a variable's nor a rate's
 abbrev pub IsNew : NamesView → List ℕ → Type 0
 IsNew v name = (index_of v.variables name ≡ None) × (index_of v.rates name ≡ None)

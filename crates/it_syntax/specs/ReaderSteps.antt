@@ -1,4 +1,4 @@
--- What the readers' own functions say of their steps. No public clause cites it.
+-- What the contracts of the readers' own functions say of their steps. No public clause cites it.
 use Rattle.std.specs.Prelude.{◌≡◌, ◌≤◌, ◌<◌, ℕ, zero, suc, ◌-◌, ◌^◌, Bool, List, [], ◌∷◌, length, take, drop, Option, Some, None}
 use Rattle.std.specs.Char.{is_ascii_alphabetic, is_ascii_digit}
 use Rattle.it_number.specs.Decimals.{value_from}
@@ -31,12 +31,12 @@ with_front (pieces.Symbol s) ls = Sym s ∷ ls
 with_front pieces.End ls = End ∷ []
 with_front (pieces.Bad c) ls = Bad c ∷ []
 
--- a word has 1 to 16 bytes
+-- a piece that is a word has 1 to 16 bytes
 abbrev pub HasLength : Piece → Type 0
 HasLength (pieces.Word w) = (1 ≤ length w.now) × (length w.now ≤ 16)
 HasLength p = Unit {0}
 
--- a token of this kind, of n bytes, stands in front, as long as it can be
+-- a token of this kind, of n bytes, stands at the front of `body`, as long as it can be
 abbrev pub IsTokenPrefix : TokenKind → ℕ → List ℕ → Type 0
 IsTokenPrefix kinds.Word n body = StartsWith is_ascii_alphabetic body × IsLongestRun is_word_byte body n × (n ≤ 16)
 IsTokenPrefix (kinds.Number v) n body = StartsWith is_ascii_digit body × IsLongestRun is_ascii_digit body n × (value_from 0 (take n body) ≡ Some v) × (v < 2 ^ 64)
@@ -50,21 +50,21 @@ token_text line t = take (t.end - t.start) (drop t.start line)
 abbrev pub sign : Terminal Bool
 sign = record { kinds = signs; says = λ l. (None, is_of (Punctuation Minus) l) }
 
--- the letter of a terminal was taken where it stands, and nothing where it doesn't
+-- the letter of t was taken if it stands there, else nothing was taken
 abbrev pub MayTake : {A : Type 0} → Terminal A → Option A → Rest → Rest → Type 0
 MayTake t None before rest = (after t (letters_left before) ≡ None) × (letters_left rest ≡ letters_left before)
 MayTake t (Some a) before rest = after t (letters_left before) ≡ Some ((None, a), letters_left rest)
 
--- a form's reading stops at its first letter, and the code's reader as it does
+-- f reads nothing: its reading stops at the first letter of `rest`, and the code's reader as it does
 abbrev pub StopsAtOnce : {A : Type 0} → Stop → Form A → Rest → Type 0
 StopsAtOnce stop f rest = StopsAs stop (letters_left rest) (read f (letters_left rest))
 
--- what a number counts, which may be nothing after 0
+-- what may stand after a number: an atom, or nothing after 0
 abbrev pub counted_by : ℕ → Scope → Form Atom
 counted_by zero s = atom_or_nothing s
 counted_by (suc n) s = atom s
 
--- a denominator and what is counted by a number over it, under a sign
+-- a denominator d and an atom: n / d times the atom, negative if `minus`
 abbrev pub over : ℕ → Scope → Bool → ℕ → Form Term
 over m s minus n = Then (Take (denominator m)) (λ d. counted minus n d (atom s))
 
@@ -72,10 +72,10 @@ over m s minus n = Then (Take (denominator m)) (λ d. counted minus n d (atom s)
 abbrev pub after_number : ℕ → Scope → Bool → ℕ → Form Term
 after_number m s minus n = over_or m s minus n (counted_by n s)
 
--- a sum after its first term
+-- further terms of a sum, after its first term t
 abbrev pub after_first : ℕ → ℕ → Scope → Term → Form (List Term)
 after_first most m s t = more_terms most m s (t ∷ [])
 
--- for each number with which the term's denominator has this least common multiple
+-- P holds of each m with which the denominator of t has the least common multiple `multiple`
 abbrev pub EachBefore : ℕ → Term → (ℕ → Type 0) → Type 0
 EachBefore multiple t P = (m : ℕ) → multiple ≡ lcm m t.denominator → P m

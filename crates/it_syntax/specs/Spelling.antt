@@ -19,16 +19,16 @@ is_word_byte b = is_ascii_alphabetic b || (is_ascii_digit b || b == 95)
 abbrev pub is_space : ℕ → Bool
 is_space b = b == 32
 
--- each byte is of this kind
+-- f holds of each byte
 abbrev pub AreAll : (ℕ → Bool) → List ℕ → Type 0
 AreAll f bytes = AllByRecursion (λ b. f b ≡ true) bytes
 
--- a byte of this kind stands in front
+-- f holds of the first byte, and there is one
 abbrev pub StartsWith : (ℕ → Bool) → List ℕ → Type 0
 StartsWith f [] = ⊥
 StartsWith f (b ∷ bs) = f b ≡ true
 
--- no byte of this kind stands in front
+-- f doesn't hold of the first byte, or there is none
 abbrev pub Stops : (ℕ → Bool) → List ℕ → Type 0
 Stops f [] = Unit {0}
 Stops f (b ∷ bs) = f b ≡ false

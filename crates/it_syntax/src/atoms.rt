@@ -1,4 +1,4 @@
-//! Readers of entropies, mutual informations and rates, and of terms that count them.
+//! Readers of entropies, mutual informations and rates, and of terms, which are multiples of these.
 ghost use Rattle.std.specs.Prelude.{◌≡◌, ◌≤◌, ℕ, Bool, IfOk};
 ghost use Rattle.it_forms.specs.Forms.{Take};
 ghost use Rattle.it_forms.specs.Words.{allowed};
@@ -16,7 +16,7 @@ use crate::rest::{Piece, Rest, Stop};
 use crate::terminals::{takes, takes_word};
 use crate::types::{Atom, Code, Symbol, Term};
 
-/// The number of a rate, if rates may stand there, and None for a name that isn't one.
+/// The number of the rate `name`; None if no rate has this name, or if `rates` is false: none may stand there.
 #[tactic(auto, unfolding(crate::specs::Scopes::scope_of))]
 fn rate_number(names: &Names, rates: bool, name: &[u8]) -> Option<u8>
     ensures { result ≡ (scope_of names.now rates).rates name.now }
@@ -71,7 +71,7 @@ fn atom_or_nothing(rest: &mut Rest<'_>, names: &Names, rates: bool) -> Result<At
     }
 }
 
-/// What a number counts, which may be nothing after 0.
+/// The atom that `number` multiplies; after 0 it may be missing.
 #[tactic(auto, using(crate::proofs::TermLemmas::counted_some))]
 fn counted(number: u64, rest: &mut Rest<'_>, names: &Names, rates: bool) -> Result<Atom, Stop>
     ensures { Parses result (counted_by number (scope_of names.now rates)) rest.old rest.new }
@@ -83,7 +83,7 @@ fn counted(number: u64, rest: &mut Rest<'_>, names: &Names, rates: bool) -> Resu
     }
 }
 
-/// A term over a denominator, from the denominator on, with the least common multiple of all denominators up to it.
+/// A term from its denominator on, with the least common multiple of `multiple` and the denominator.
 #[tactic(auto, unfolding(it_forms::specs::FormReading::read))]
 fn term_over(
     negative: bool,
@@ -110,7 +110,7 @@ fn term_over(
     ))
 }
 
-/// The term after its number, with the least common multiple of all denominators up to it.
+/// A term after its number, with the least common multiple of `multiple` and the term's denominator.
 #[tactic(auto, unfolding(it_forms::specs::FormReading::read), using(crate::proofs::MultipleLemmas::lcm_one, crate::proofs::Loops::front_lemmas))]
 fn after_number(
     negative: bool,
@@ -144,7 +144,7 @@ fn whole_term(negative: bool, number: u64, atom: Atom) -> Term
     }
 }
 
-/// A term, after its sign, with the least common multiple of all denominators up to it.
+/// A term after its sign, with the least common multiple of `multiple` and the term's denominator.
 #[tactic(auto, unfolding(crate::specs::LineForms::term, it_forms::specs::FormReading::read), using(crate::proofs::MultipleLemmas::lcm_one))]
 fn term(
     negative: bool,
@@ -169,7 +169,7 @@ fn term(
     }
 }
 
-/// The fault of a term too many.
+/// The fault where no more terms are allowed: `Many` at the first token of a term, else what is wrong there.
 #[tactic(auto, unfolding(it_forms::specs::Words::flagged, crate::specs::LineForms::term, crate::specs::LineForms::atom, it_forms::specs::FormReading::read))]
 fn surplus_term_fault(rest: &Rest<'_>, names: &Names, rates: bool) -> Stop
     ensures { (m : ℕ) (minus : Bool) → StopsAtOnce result (allowed 0 (forms.term m (scope_of names.now rates) minus)) rest.now }
@@ -189,7 +189,7 @@ fn surplus_term_fault(rest: &Rest<'_>, names: &Names, rates: bool) -> Stop
     }
 }
 
-/// A term, where `left` more terms are allowed, with the least common multiple of all denominators up to it.
+/// A term, where `left` more terms are allowed, with the least common multiple of `multiple` and the term's denominator.
 #[tactic(auto, using(it_forms::proofs::FlagLemmas::read_allowed))]
 pub fn allowed_term(
     left: usize,

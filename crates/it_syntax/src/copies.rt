@@ -1,4 +1,4 @@
-//! Relations and constraints once more.
+//! Copies of relations and constraints.
 ghost use Rattle.std.specs.Prelude.{◌≡◌, IfOk, map};
 ghost use Rattle.it_syntax.specs.Givens.{given_view};
 ghost use Rattle.it_syntax.specs.Meaning.{relation_view};
@@ -7,7 +7,7 @@ use crate::types::{Expr, Given, Relation};
 use std::alloc::{AllocError, Global};
 
 impl Expr {
-    /// The same sum once more.
+    /// A copy of the sum.
     pub fn copy(&self) -> Result<Expr, AllocError>
         ensures { IfOk result (λ s. s.terms.items ≡ self.now.terms.items) }
     {
@@ -17,7 +17,7 @@ impl Expr {
 }
 
 impl Relation {
-    /// The same relation once more.
+    /// A copy of the relation.
     pub fn copy(&self) -> Result<Relation, AllocError>
         ensures { IfOk result (λ r. relation_view r ≡ relation_view self.now) }
     {
@@ -32,7 +32,7 @@ impl Relation {
 }
 
 impl Given {
-    /// The same constraint once more.
+    /// A copy of the constraint.
     pub fn copy(&self) -> Result<Given, AllocError>
         ensures { IfOk result (λ g. given_view g ≡ given_view self.now) }
     {
@@ -60,7 +60,7 @@ impl Given {
     }
 }
 
-/// The same relations once more, in order.
+/// Copies of `relations`, in order.
 pub fn relations(alloc: Global, relations: &[Relation]) -> Result<Vec<Relation>, AllocError>
     ensures { IfOk result (λ v. map relation_view v.items ≡ map relation_view relations.now) }
 {
@@ -72,7 +72,7 @@ pub fn relations(alloc: Global, relations: &[Relation]) -> Result<Vec<Relation>,
     Ok(copies)
 }
 
-/// The same constraints once more, in order.
+/// Copies of `givens`, in order.
 pub fn givens(alloc: Global, givens: &[Given]) -> Result<Vec<Given>, AllocError>
     ensures { IfOk result (λ v. map given_view v.items ≡ map given_view givens.now) }
 {

@@ -15,7 +15,7 @@ use std::alloc::{AllocError, Global};
 /// The most bytes that a word has.
 const LONGEST_WORD: usize = 16;
 
-/// The bytes after the first n.
+/// `bytes` without the first `n`.
 fn bytes_after(bytes: &[u8], n: usize) -> &[u8]
     requires { n ≤ length bytes.now }
     ensures { result.now ≡ drop n bytes.now }
@@ -23,7 +23,7 @@ fn bytes_after(bytes: &[u8], n: usize) -> &[u8]
     bytes.split_at(n).1
 }
 
-/// How many bytes a symbol has.
+/// The number of bytes of `symbol`.
 fn symbol_len(symbol: Symbol) -> usize
     ensures { result ≡ length (symbol_text symbol) }
 {
@@ -33,7 +33,7 @@ fn symbol_len(symbol: Symbol) -> usize
     }
 }
 
-/// The number that the digits are.
+/// The value of `text`, a string of decimal digits; None if it is 2^64 or more.
 #[tactic(auto, using(crate::proofs::RunLemmas::value_lemmas))]
 fn value(text: &[u8]) -> Option<u64>
     requires { AreAll is_ascii_digit text.now }
@@ -47,7 +47,7 @@ fn value(text: &[u8]) -> Option<u64>
     Some(n)
 }
 
-/// The word in front and its length, or `Many` for more than 16 bytes.
+/// The word at the front of `body` and its length, or `Many` if it has more than 16 bytes.
 fn word(body: &[u8]) -> Result<(TokenKind, usize), Code>
     requires { StartsWith is_ascii_alphabetic body.now }
     ensures shape { IfOk result (λ x. IsTokenPrefix x.0 x.1 body.now) }
@@ -61,7 +61,7 @@ fn word(body: &[u8]) -> Result<(TokenKind, usize), Code>
     }
 }
 
-/// The number in front and its length, or `Number` for one above 2^64 - 1.
+/// The number at the front of `body` and its length, or `Number` if it is above 2^64 - 1.
 fn number(body: &[u8]) -> Result<(TokenKind, usize), Code>
     requires { StartsWith is_ascii_digit body.now }
     ensures shape { IfOk result (λ x. IsTokenPrefix x.0 x.1 body.now) }
@@ -74,7 +74,7 @@ fn number(body: &[u8]) -> Result<(TokenKind, usize), Code>
     }
 }
 
-/// The kind and the length of the token in front, or what is wrong there.
+/// The kind and the length of the token at the front of `body`, or what is wrong there.
 fn front(body: &[u8]) -> Result<(TokenKind, usize), Code>
     requires some { 1 ≤ length body.now }
     requires stops { Stops is_space body.now }

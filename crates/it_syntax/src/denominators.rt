@@ -13,10 +13,10 @@ use crate::rest::{Piece, Rest, Stop};
 use crate::types::{Code, Relation, Term};
 use it_fraction::{Wide, lcm};
 
-/// The most that the least common multiple of a relation's denominators is.
+/// The limit of the least common multiple of a relation's denominators.
 const MOST_MULTIPLE: u128 = 4294967296;
 
-/// The least common multiple of two numbers above 0.
+/// The least common multiple of `a` and `b`; the error is `Wide` if it is 2^127 or more.
 fn common_multiple(a: u64, b: u64) -> Result<u128, Wide>
     requires a_some { 1 ≤ a }
     requires b_some { 1 ≤ b }
@@ -26,7 +26,7 @@ fn common_multiple(a: u64, b: u64) -> Result<u128, Wide>
     Ok(multiple as u128)
 }
 
-/// The least common multiple with one more denominator, and None where that is 0 or the multiple would pass 2^32.
+/// The least common multiple of `multiple` and `denominator`; None if `denominator` is 0 or the result would pass 2^32.
 fn multiple_with(multiple: u64, denominator: u64) -> Option<u64>
     requires some { 1 ≤ multiple }
     ensures { result ≡ multiple_with multiple denominator }
@@ -46,7 +46,7 @@ fn multiple_with(multiple: u64, denominator: u64) -> Option<u64>
     }
 }
 
-/// A denominator, with the least common multiple of those before it and it.
+/// Reads a denominator and gives it, with the least common multiple of `multiple` and it.
 #[tactic(auto, using(crate::proofs::MultipleLemmas::multiple_found), unfolding(it_forms::specs::FormReading::read))]
 pub fn denominator(multiple: u64, rest: &mut Rest<'_>) -> Result<(u64, u64), Stop>
     requires some { 1 ≤ multiple }
@@ -75,7 +75,7 @@ pub fn common_denominator(relation: &Relation) -> u64
     multiple_from(left, relation.right.terms.as_slice())
 }
 
-/// The least common multiple of a number and the denominators of terms.
+/// The least common multiple of `first` and the denominators of `terms`.
 fn multiple_from(first: u64, terms: &[Term]) -> u64
     requires some { 1 ≤ multiple_from first terms.now }
     requires small { multiple_from first terms.now ≤ 2 ^ 32 }
@@ -88,7 +88,7 @@ fn multiple_from(first: u64, terms: &[Term]) -> u64
     multiple
 }
 
-/// The least common multiple with one more denominator, which is within the limit.
+/// The least common multiple of `multiple` and `denominator`, which is at most 2^32.
 fn next_multiple(multiple: u64, denominator: u64) -> u64
     requires some { 1 ≤ multiple }
     requires both { 1 ≤ denominator }

@@ -19,14 +19,14 @@ pub const ENTROPY: &[u8] = b"H";
 /// The word that stands for a mutual information.
 pub const MUTUAL: &[u8] = b"I";
 
-/// Whether it is `H` or `I`, which stand for entropy and mutual information and are no names.
+/// Whether `text` is `H` or `I`, which stand for entropy and mutual information and are no names.
 pub fn is_measure(text: &[u8]) -> bool
     ensures { result ≡ is_measure text.now }
 {
     text == ENTROPY || text == MUTUAL
 }
 
-/// The number of a variable, None for a name that isn't one.
+/// The number of the variable `name`; None if no variable has this name.
 #[tactic(auto, unfolding(crate::specs::Scopes::env_of))]
 fn variable(names: &Names, name: &[u8]) -> Option<u8>
     ensures found { result ≡ env_of names.now name.now }
@@ -35,7 +35,7 @@ fn variable(names: &Names, name: &[u8]) -> Option<u8>
     names.variable(name)
 }
 
-/// The name of a variable, which must stand there, by the variable's number.
+/// Reads the name of a variable, which must stand there, and gives the variable's number.
 #[tactic(auto, unfolding(crate::specs::LineForms::variable, it_forms::specs::FormReading::read))]
 fn name(rest: &mut Rest<'_>, names: &Names) -> Result<u8, Stop>
     ensures gives { Parses result (forms.variable (env_of names.now)) rest.old rest.new }
@@ -59,7 +59,7 @@ fn name(rest: &mut Rest<'_>, names: &Names) -> Result<u8, Stop>
     }
 }
 
-/// The set with further names, each after a comma.
+/// Reads further names, each after a comma, and gives `first` with their variables.
 fn more(first: VarSet, rest: &mut Rest<'_>, names: &Names) -> Result<VarSet, Stop>
     ensures { Parses result (forms.more_names (env_of names.now) first) rest.old rest.new }
 {
@@ -74,7 +74,7 @@ fn more(first: VarSet, rest: &mut Rest<'_>, names: &Names) -> Result<VarSet, Sto
     Ok(set)
 }
 
-/// The set of a list of names.
+/// Reads a list of names, with commas between them, and gives the set of their variables.
 #[tactic(auto, unfolding(crate::specs::LineForms::names, it_forms::specs::FormReading::read))]
 pub fn list(rest: &mut Rest<'_>, names: &Names) -> Result<VarSet, Stop>
     ensures { Parses result (forms.names (env_of names.now)) rest.old rest.new }
@@ -83,7 +83,7 @@ pub fn list(rest: &mut Rest<'_>, names: &Names) -> Result<VarSet, Stop>
     more(VarSet::single(first), rest, names)
 }
 
-/// The fault of a list too many.
+/// The fault where no more lists are allowed: `Many` at the name of a variable, else what is wrong there.
 #[tactic(auto, using(crate::proofs::NameLists::surplus_many))]
 fn surplus_list_fault(rest: &Rest<'_>, names: &Names) -> Stop
     ensures { StopsAtOnce result (allowed 0 (forms.names (env_of names.now))) rest.now }
@@ -95,7 +95,7 @@ fn surplus_list_fault(rest: &Rest<'_>, names: &Names) -> Stop
     }
 }
 
-/// The set of a list of names, where `left` more lists are allowed.
+/// Like `list`, where `left` more lists are allowed.
 #[tactic(auto, using(it_forms::proofs::FlagLemmas::read_allowed))]
 pub fn allowed_list(left: usize, rest: &mut Rest<'_>, names: &Names) -> Result<VarSet, Stop>
     ensures { Parses result (allowed left (forms.names (env_of names.now))) rest.old rest.new }

@@ -11,7 +11,7 @@ use crate::terminals::{symbol, takes};
 use crate::types::{Atom, Symbol};
 use it_space::VarSet;
 
-/// What is given, up to `)`.
+/// Reads `)`, or `|`, a list and `)`, and gives the list's set; it is empty without `|`.
 #[tactic(auto, unfolding(crate::specs::LineForms::given_set, it_forms::specs::FormReading::read), using(crate::proofs::Loops::front_lemmas))]
 fn given_set(rest: &mut Rest<'_>, names: &Names) -> Result<VarSet, Stop>
     ensures { Parses result (forms.given_set (env_of names.now)) rest.old rest.new }

@@ -15,7 +15,7 @@ use it_space::VarSet;
 /// The most members of a chain or an independence.
 const MOST_MEMBERS: usize = 16;
 
-/// Puts a set after the others.
+/// Appends `set` to `sets`.
 fn add(sets: &mut Vec<VarSet>, set: VarSet) -> Result<(), Stop>
     ensures added { OnOk result (sets.new.items ≡ sets.old.items ++ set ∷ []) }
     ensures memory { IfErr result (λ e. e ≡ Memory) }
@@ -24,7 +24,7 @@ fn add(sets: &mut Vec<VarSet>, set: VarSet) -> Result<(), Stop>
     Ok(())
 }
 
-/// The first members and further ones, each after a divider, 16 in all.
+/// The members of `first` and further ones, each after `divider`, at most 16 in all.
 pub fn more_members(
     first: Vec<VarSet>,
     divider: Symbol,

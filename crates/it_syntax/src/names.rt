@@ -47,7 +47,7 @@ impl Names {
         }
     }
 
-    /// The same names once more.
+    /// A copy of the names.
     pub fn copy(&self) -> Result<Names, AllocError>
         ensures { IfOk result (λ n. n ≡ self.now) }
     {
@@ -60,7 +60,7 @@ impl Names {
         })
     }
 
-    /// Declares one more variable; after want of memory nothing has changed.
+    /// Declares `name` as the next variable. If allocation fails, nothing changes.
     pub fn add_variable(&mut self, name: &[u8]) -> Result<(), AllocError>
         requires new { IsNew self.old name.now }
         requires some { 1 ≤ length name.now }
@@ -74,7 +74,7 @@ impl Names {
         Ok(())
     }
 
-    /// Declares one more rate; after want of memory nothing has changed.
+    /// Declares `name` as the next rate. If allocation fails, nothing changes.
     pub fn add_rate(&mut self, name: &[u8]) -> Result<(), AllocError>
         requires new { IsNew self.old name.now }
         requires some { 1 ≤ length name.now }
@@ -88,7 +88,7 @@ impl Names {
         Ok(())
     }
 
-    /// The variable of this name, and None exactly where there is none.
+    /// The variable named `name`; None exactly where there is none.
     pub fn variable(&self, name: &[u8]) -> Option<u8>
         ensures index { result ≡ index_of self.now.variables name.now }
         ensures within { IfSome result (λ i. i < length self.now.variables) }
@@ -97,7 +97,7 @@ impl Names {
         index_in(&self.variables, name)
     }
 
-    /// The rate of this name, and None exactly where there is none.
+    /// The rate named `name`; None exactly where there is none.
     pub fn rate(&self, name: &[u8]) -> Option<u8>
         ensures index { result ≡ index_of self.now.rates name.now }
         ensures within { IfSome result (λ i. i < length self.now.rates) }
@@ -106,7 +106,7 @@ impl Names {
         index_in(&self.rates, name)
     }
 
-    /// The name of variable i.
+    /// The name of variable `i`.
     pub fn variable_name(&self, i: u8) -> &[u8]
         requires { i < length self.now.variables }
         ensures { slice_get self.now.variables i ≡ Some result.now }
@@ -114,7 +114,7 @@ impl Names {
         self.variables.as_slice()[i as usize].as_slice()
     }
 
-    /// The name of rate r.
+    /// The name of rate `i`.
     pub fn rate_name(&self, i: u8) -> &[u8]
         requires { i < length self.now.rates }
         ensures { slice_get self.now.rates i ≡ Some result.now }
@@ -122,7 +122,7 @@ impl Names {
         self.rates.as_slice()[i as usize].as_slice()
     }
 
-    /// How many variables and rates there are.
+    /// The numbers of variables and of rates.
     pub fn space(&self) -> Space
         ensures counts { result ≡ record { variables = length self.now.variables; rates = length self.now.rates } }
         ensures vocabulary { AreNames self.now }
@@ -134,7 +134,7 @@ impl Names {
     }
 }
 
-/// The place of a name in a list of names.
+/// The index of `name` in `names`; None where it isn't among them.
 fn index_in(names: &IndexSet<Vec<u8>>, name: &[u8]) -> Option<u8>
     requires { length names.now.keys ≤ 16 }
     ensures index { result ≡ index_of (map (λ v. v.items) names.now.keys) name.now }

@@ -1,4 +1,4 @@
-//! What is left of a line.
+//! The rest of a line, which is still to be read.
 ghost use Rattle.it_syntax.specs.Spans.{InLine, InLine-prop};
 
 use crate::types::{Code, Misspelling, Symbol, Token};

@@ -1,4 +1,4 @@
-//! What stands at the front of some bytes: spaces, digits, the bytes of a word, a symbol.
+//! What stands at the front of a slice of bytes: spaces, digits, the bytes of a word, a symbol.
 ghost use Rattle.std.specs.Prelude.{◌≡◌};
 ghost use Rattle.std.specs.Char.{is_ascii_alphabetic, is_ascii_digit};
 ghost use Rattle.it_syntax.specs.Spelling.{is_word_byte, is_space};
@@ -6,7 +6,7 @@ ghost use Rattle.it_syntax.specs.Prefixes.{IsLongestRun, symbol_of};
 
 use crate::types::Symbol;
 
-/// Whether it is a letter, a digit or `_`.
+/// Whether `b` is a letter, a digit or `_`.
 #[tactic(auto, unfolding(crate::specs::Spelling::is_word_byte))]
 fn is_word_byte(b: u8) -> bool
     ensures { result ≡ is_word_byte b }
@@ -14,7 +14,7 @@ fn is_word_byte(b: u8) -> bool
     b.is_ascii_alphabetic() || (b.is_ascii_digit() || b == b'_')
 }
 
-/// The number of spaces in front.
+/// The number of spaces at the front of `bytes`.
 #[tactic(auto, using(crate::proofs::RunLemmas::run_lemmas))]
 pub fn spaces(bytes: &[u8]) -> usize
     ensures { IsLongestRun is_space bytes.now result }
@@ -27,7 +27,7 @@ pub fn spaces(bytes: &[u8]) -> usize
     bytes.len()
 }
 
-/// The number of word bytes in front.
+/// The number of word bytes at the front of `bytes`.
 #[tactic(auto, using(crate::proofs::RunLemmas::run_lemmas))]
 pub fn word_bytes(bytes: &[u8]) -> usize
     ensures { IsLongestRun is_word_byte bytes.now result }
@@ -40,7 +40,7 @@ pub fn word_bytes(bytes: &[u8]) -> usize
     bytes.len()
 }
 
-/// The number of digits in front.
+/// The number of digits at the front of `bytes`.
 #[tactic(auto, using(crate::proofs::RunLemmas::run_lemmas))]
 pub fn digits(bytes: &[u8]) -> usize
     ensures { IsLongestRun is_ascii_digit bytes.now result }
@@ -53,7 +53,7 @@ pub fn digits(bytes: &[u8]) -> usize
     bytes.len()
 }
 
-/// The longest symbol in front.
+/// The longest symbol at the front of `bytes`, if there is one.
 #[tactic(auto, unfolding(crate::specs::Prefixes::symbol_of))]
 pub fn symbol(bytes: &[u8]) -> Option<Symbol>
     ensures { result ≡ symbol_of bytes.now }

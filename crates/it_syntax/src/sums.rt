@@ -17,7 +17,7 @@ use crate::terminals::takes;
 use crate::types::{Symbol, Term};
 use std::alloc::Global;
 
-/// Puts a term after the others.
+/// Appends `term` to `terms`.
 fn add(terms: &mut Vec<Term>, term: Term) -> Result<(), Stop>
     ensures added { OnOk result (terms.new.items ≡ terms.old.items ++ term ∷ []) }
     ensures memory { IfErr result (λ e. e ≡ Memory) }
@@ -38,8 +38,8 @@ fn add(terms: &mut Vec<Term>, term: Term) -> Result<(), Stop>
     Ok(())
 }
 
-/// The first term and further ones, `most` in all. `multiple` is the least common multiple of all denominators up to the first
-/// term's, and what is given beside the terms is that up to the last one's.
+/// `first` and further terms, each after a sign, at most `most` in all; with the least common multiple of `multiple` and the
+/// denominators of the further ones. `multiple` takes in the denominator of `first` already.
 fn more_terms(
     alloc: Global,
     first: Term,
@@ -69,7 +69,7 @@ fn more_terms(
     Ok((found, so_far))
 }
 
-/// At least one term, at most `most`, with the least common multiple of all denominators up to the last one's.
+/// One to `most` terms, the first negative if `negative`; with the least common multiple of `multiple` and their denominators.
 #[tactic(auto, unfolding(crate::specs::LineForms::terms, it_forms::specs::FormReading::read))]
 fn terms(
     alloc: Global,
@@ -90,8 +90,8 @@ fn terms(
     }
 }
 
-/// Reads a sum of one to `most` terms, after denominators whose least common multiple is `multiple`, and gives its terms with that of
-/// all denominators up to its end. `rates` says whether rates may stand there. The fault is the first, as `relation` tells it.
+/// Reads a sum of one to `most` terms and gives them, with the least common multiple of `multiple` and their denominators. `rates`
+/// says whether rates may stand there. The fault is the first one; `relation` says which faults there are.
 #[tactic(auto, unfolding(crate::specs::LineForms::sum, it_forms::specs::FormReading::read), using(crate::proofs::Loops::front_lemmas))]
 pub fn sum(
     alloc: Global,

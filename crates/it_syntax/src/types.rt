@@ -72,7 +72,7 @@ pub enum Sign {
     Equal,
 }
 
-/// What a term counts: nothing, for a number 0 that stands alone; the entropy H(of|given); the mutual information
+/// What the number of a term multiplies: nothing, for a 0 that stands alone; the entropy H(of|given); the mutual information
 /// I(left;right|given); a rate, by its number. Where nothing is given the set is empty.
 #[derive(Clone, Copy, Debug, PartialEq, Eq)]
 pub enum Atom {
@@ -89,7 +89,7 @@ pub enum Atom {
     Rate(u8),
 }
 
-/// A number of times an atom, over a denominator, which is 1 where none was written. An atom without a number stands once.
+/// `number` / `denominator` times `atom`, negated if `negative`. The denominator is 1 where none was written, and so is the number.
 #[derive(Clone, Copy, Debug, PartialEq, Eq)]
 pub struct Term {
     pub negative: bool,
@@ -121,8 +121,8 @@ impl Drop for Relation {
     }
 }
 
-/// A constraint as it was written: a relation; a chain of sets, each of which is all that the next depends on; sets that
-/// are independent given another, which is empty where none is named; a set that is a function of another.
+/// A constraint as it was written: a relation; a Markov chain of sets, each of which is all that the next depends on; sets
+/// that are independent given another, which is empty where none is named; a set that is a function of another.
 pub enum Given {
     Relation(Relation),
     Markov(Vec<VarSet>),

@@ -1,4 +1,4 @@
--- A pivot that keeps the right sides at least 0 keeps all that every table keeps.
+-- A pivot that keeps the right sides at least 0 keeps the invariants.
 use Rattle.std.proofs.Common.{◌≡◌, ◌≢◌, ℕ, zero, suc, ◌+◌, ◌<◌, ◌≤◌, Bool, true, false, cond, eqb, [], ◌∷◌, refl, sym, ap, ap₂, subst, ◌∙◌, ◌⊎◌, inl, inr, arith}
 use Rattle.std.proofs.lemmas.Bool.{eq-eqb, ne_eqb, eqb-true, cases_eq, lt-ltb, cases_Bool}
 use Rattle.it_number.proofs.Ring.{ring, mul-null, v, plus, times, minus, nil, one}
@@ -24,7 +24,7 @@ module _ {A : Type 0} (F : OrderedField A) (m n : ℕ) where
   pub old_basis : (t : SimplexTable A) (r c i : ℕ) → i ≢ r → (pivot (operations_of F) t r c).basis i ≡ t.basis i
   old_basis t r c i h = ap (λ b. cond b c (t.basis i)) (ne_eqb i r h)
 
-  -- any pivot keeps each row a sum of start rows
+  -- after any pivot each row is still a sum of start rows
   pub kept_combines : (p : FeasibilityProblem A) (t : SimplexTable A) (r c : ℕ) → r < m → CombinesStart (operations_of F) m n p t → (i j : ℕ) → i ≤ m
       → (pivot (operations_of F) t r c).entry i j ≡ sum_to F.ring m (λ k. F.ring.mul ((pivot (operations_of F) t r c).entry i (n + k)) (start_row (operations_of F) m n p k j))
   kept_combines p t r c hr h i j hi = by_test (eqb i r)

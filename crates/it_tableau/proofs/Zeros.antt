@@ -1,4 +1,4 @@
--- What is left of an operation with a 0.
+-- Operations with a 0.
 use Rattle.std.proofs.Common.{◌≡◌, ◌↔◌, pos, Result, Ok, Err}
 use Rattle.std.specs.Result.{IfErr}
 use Rattle.it_rational.specs.Rational.{Rational, integer, plus, minus, times, inverse}
@@ -11,7 +11,7 @@ pub any_err : {X F : Type 0} (r : Result X F) (w : F) (Q : Type 0) → Q → IfE
 any_err (Ok x) w Q q = tt
 any_err (Err y) w Q q = λ _. q
 
--- nothing is taken off
+-- 0 is subtracted
 pub difference_of_null_entry : (x y q : Rational) → IsNarrow x → y ≡ integer (pos 0) → EntryFits x y q × (plus x (minus (times y q)) ≡ x)
 difference_of_null_entry x y q n e =
     let z : times y q ≡ integer (pos 0) = zero-product y q (top_of_zero y e) in
@@ -23,7 +23,7 @@ difference_of_null_factor x y q n e =
     let z : times y q ≡ integer (pos 0) = product-zero y q (top_of_zero q e) in
     (record { product = product-zero-narrow y q (top_of_zero q e); difference = difference-zero-fits x (times y q) (top_of_zero (times y q) z) n }, difference-zero x (times y q) (top_of_zero (times y q) z))
 
--- something is taken off 0
+-- a product is subtracted from 0
 pub difference_from_null : (x y q : Rational) → x ≡ integer (pos 0) → (IsNarrow (times y q) ↔ EntryFits x y q) × (plus x (minus (times y q)) ≡ minus (times y q))
 difference_from_null x y q e = (
   ((λ n. record { product = n; difference = zero-difference-fits x (times y q) (top_of_zero x e) (minus-narrow (times y q) n) }), (λ f. f.product)),

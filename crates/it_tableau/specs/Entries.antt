@@ -10,6 +10,6 @@ zero_rational = integer (pos 0)
 abbrev pub entry_at : List Rational → ℕ → Rational
 entry_at row k = slice_index_or row k zero_rational
 
--- the row of a number, empty past the end
+-- row i, empty past the end
 abbrev pub row_at : List (List Rational) → ℕ → List Rational
 row_at rows i = slice_index_or rows i []

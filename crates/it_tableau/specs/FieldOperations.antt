@@ -5,7 +5,7 @@ use Rattle.it_rational.specs.OrderedFields.{OrderedField}
 use Rattle.it_tableau.specs.Operations.{Operations}
 use Rattle.it_tableau.specs.Sums.{sum_by}
 
--- the operations of an ordered field, for which its laws hold
+-- the operations of an ordered field, without its laws
 abbrev pub operations_of : {A : Type 0} → OrderedField A → Operations A
 operations_of F = record {
   null = F.ring.null;

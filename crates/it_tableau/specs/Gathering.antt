@@ -10,7 +10,7 @@ use Rattle.it_tableau.specs.SparseRows.{RowTerms, ListsEntries}
 abbrev pub row_terms_at : List RowTerms → ℕ → RowTerms
 row_terms_at lists k = slice_index_or lists k []
 
--- no list but the k-th is changed
+-- no list but list k is changed
 pub record IsListTaken (old : List RowTerms) (k : ℕ) (new : List RowTerms) : Type 0 where
   pub count : length new ≡ length old
   pub others : (i : ℕ) → i ≢ k → row_terms_at new i ≡ row_terms_at old i
@@ -26,7 +26,7 @@ pub record AreAppended (coordinates : List ℕ) (f : ℕ → Rational) (j : ℕ)
   pub count : length new ≡ length old
   pub rows : (k : ℕ) → k < length coordinates → IsAppended (row_terms_at old k) j (f k) (row_terms_at new k)
 
--- so many empty lists
+-- count empty lists
 pub record AreEmpty {A : Type 0} (count : ℕ) (lists : List (List A)) : Type 0 where
   pub count_is : length lists ≡ count
   pub empty : (k : ℕ) → k < count → slice_index_or lists k [] ≡ []

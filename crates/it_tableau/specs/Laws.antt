@@ -1,5 +1,5 @@
--- The laws of tables that the gate proves: the start has the invariants, a pivot on a smallest ratio keeps them, and any pivot
--- keeps each row a sum of start rows.
+-- Laws of tables: the start has the invariants, a pivot on a smallest ratio keeps them, and after any pivot each row is still a sum
+-- of start rows.
 use Rattle.std.specs.Prelude.{ℕ, ◌<◌}
 use Rattle.it_rational.specs.Rational.{Rational}
 use Rattle.it_tableau.specs.Operations.{rationals}
@@ -15,7 +15,7 @@ abbrev pub PivotsKeepInvariants : Type 0
 PivotsKeepInvariants = (m n : ℕ) (p : FeasibilityProblem Rational) (t : SimplexTable Rational) (r c : ℕ)
     → HasInvariants rationals m n p t → MayEnter rationals m n t r c → HasInvariants rationals m n p (pivot rationals t r c)
 
--- any pivot keeps each row a sum of start rows
+-- after any pivot each row is still a sum of start rows
 abbrev pub PivotsCombineStart : Type 0
 PivotsCombineStart = (m n : ℕ) (p : FeasibilityProblem Rational) (t : SimplexTable Rational) (r c : ℕ)
     → r < m → CombinesStart rationals m n p t → CombinesStart rationals m n p (pivot rationals t r c)

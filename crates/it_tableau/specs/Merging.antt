@@ -1,4 +1,4 @@
--- No public clause cites this module: what the merge and the division make of terms.
+-- No public clause cites this module: the merge and the division of terms.
 use Rattle.std.specs.Prelude.{◌≡◌, ◌≢◌, ◌⊎◌, ◌++◌, length, slice_index_or, ℕ, ◌<◌, pos, [], ◌∷◌}
 use Rattle.it_rational.specs.Rational.{Rational, integer, plus, minus, times, inverse}
 use Rattle.it_fraction.specs.Fits.{IsNarrow}
@@ -7,29 +7,29 @@ use Rattle.it_tableau.specs.SparseRows.{RowTerms, entry_in, Climbs}
 use Rattle.it_tableau.specs.declared.merging.TermSource.{TermSource}
 use Rattle.it_tableau.specs.declared.merging.TermSource.TheVariants.{Old, Other, Both}
 
--- what a pivot makes of the number in a column
+-- the number in column k after a pivot: that of old less q times that of by
 abbrev pub less_at : RowTerms → RowTerms → Rational → ℕ → Rational
 less_at old by q k = plus (entry_in old k) (minus (times (entry_in by k) q))
 
--- the numbers of all columns fit
+-- the numbers of the merge are within the limit in all columns
 abbrev pub MergeFits : RowTerms → RowTerms → Rational → Type 0
 MergeFits old by q = (k : ℕ) → EntryFits (entry_in old k) (entry_in by k) q
 
--- the merged row
+-- out is the merged row: old less q times by
 pub record AreMerged (old by : RowTerms) (q : Rational) (width : ℕ) (out : RowTerms) : Type 0 where
   pub entries : (k : ℕ) → entry_in out k ≡ less_at old by q k
   pub ascend : Climbs 0 width out
 
--- the numbers of all columns divided by p fit
+-- the numbers in all columns divided by p are within the limit
 abbrev pub TermQuotientsFit : RowTerms → Rational → Type 0
 TermQuotientsFit old p = (k : ℕ) → IsNarrow (times (entry_in old k) (inverse p))
 
--- the divided row
+-- out is the row old divided by p
 pub record AreDivided (old : RowTerms) (p : Rational) (width : ℕ) (out : RowTerms) : Type 0 where
   pub entries : (k : ℕ) → entry_in out k ≡ times (entry_in old k) (inverse p)
   pub ascend : Climbs 0 width out
 
--- a term is appended, unless its number is 0
+-- new is out with the term v in column c appended, unless v is 0
 abbrev pub IsAppended : RowTerms → ℕ → Rational → RowTerms → Type 0
 IsAppended out c v new = ((v ≡ integer (pos 0)) × (new ≡ out)) ⊎ ((v ≢ integer (pos 0)) × IsNarrow v × (new ≡ out ++ (c, v) ∷ []))
 

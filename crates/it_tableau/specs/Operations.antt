@@ -1,4 +1,4 @@
--- The operations that a table of the simplex method needs, without their laws; those of the rational numbers.
+-- The operations that a table of the simplex method needs, without their laws, and those of the rational numbers.
 use Rattle.std.specs.Prelude.{Bool, pos}
 use Rattle.it_rational.specs.Rational.{Rational, integer, plus, times, minus, inverse, is_at_least_zero}
 
@@ -11,10 +11,10 @@ pub record Operations (A : Type 0) : Type 0 where
   pub neg : A → A
   -- 1 / a
   pub inv : A → A
-  -- whether it is at least 0
+  -- whether an element is at least 0
   pub is_least : A → Bool
 
--- those of the rational numbers
+-- the operations of the rational numbers
 abbrev pub rationals : Operations Rational
 rationals = record {
   null = integer (pos 0);

@@ -1,4 +1,4 @@
--- The problem of sparse rows: the coordinates are the table's rows, each row of the list is a column.
+-- The feasibility problem of sparse rows: each coordinate is a row of the table, and each row of the list is a column.
 use Rattle.std.specs.Prelude.{ℕ, ◌<◌, List, [], length, slice_index_or}
 use Rattle.it_rational.specs.Rational.{Rational, integer}
 use Rattle.it_space.specs.Rows.{Terms, coefficient}

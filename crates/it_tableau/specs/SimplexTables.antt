@@ -10,7 +10,7 @@ pub record FeasibilityProblem (A : Type 0) : Type 0 where
   pub column : ℕ → ℕ → A
   pub target : ℕ → A
 
--- A table of m rows over n columns: entry i j stands in row i and column j, and row i has the basic column basis i.
+-- A table of m rows over n columns: entry i j is in row i and column j, and row i has the basic column basis i.
 -- Row m is the cost row. Columns n to n + m - 1 are the artificial ones, and column n + m is the right side. All else is 0.
 pub record SimplexTable (A : Type 0) : Type 0 where
   pub entry : ℕ → ℕ → A
@@ -21,8 +21,8 @@ module _ {A : Type 0} (K : Operations A) where
   abbrev pub sign : FeasibilityProblem A → ℕ → A
   sign p k = cond (K.is_least (p.target k)) K.unit (K.neg K.unit)
 
-  -- the table after column c has become basic in row r: row r is divided by its entry at c, and every other row has as much of
-  -- row r taken off as makes its entry at c 0
+  -- the table after column c has become basic in row r: row r is divided by its entry at c, and from every other row the multiple of
+  -- row r is subtracted that makes its entry at c 0
   abbrev pub pivot : SimplexTable A → ℕ → ℕ → SimplexTable A
   pivot t r c = record {
     entry = λ i j. cond (eqb i r) (K.mul (t.entry r j) (K.inv (t.entry r c)))

@@ -10,23 +10,23 @@ use Rattle.it_tableau.specs.SparseRows.{RowTerms, entry_in}
 abbrev pub AreNarrow : List Rational → Type 0
 AreNarrow sums = (j : ℕ) → j < length sums → IsNarrow (entry_at sums j)
 
--- a number is added to the sum of column c, and the other sums stay
+-- number is added to the sum of column c, and the other sums are unchanged
 pub record IsNumberAdded (old : List Rational) (c : ℕ) (number : Rational) (new : List Rational) : Type 0 where
   pub same_length : length new ≡ length old
   pub own : entry_at new c ≡ plus number (entry_at old c)
   pub narrow : IsNarrow (entry_at new c)
   pub others : (j : ℕ) → j ≢ c → entry_at new j ≡ entry_at old j
 
--- each number of a row can be added to the sum of its column
+-- each number of a row can be added to the sum of its column within the limit
 abbrev pub SumsFit : RowTerms → List Rational → Type 0
 SumsFit terms sums = (j : ℕ) → j < length sums → SumFits (entry_in terms j) (entry_at sums j)
 
--- the sums with the numbers of a row added
+-- new are the sums old with the numbers of a row added
 pub record IsRowAdded (terms : RowTerms) (old new : List Rational) : Type 0 where
   pub same_length : length new ≡ length old
   pub entries : (j : ℕ) → j < length old → entry_at new j ≡ plus (entry_in terms j) (entry_at old j)
 
--- the sums of the first k rows in each of so many columns
+-- sums are those of the first k rows in each of width columns
 pub record AreColumnSums (rows : List (List Rational)) (width k : ℕ) (sums : List Rational) : Type 0 where
   pub length_is : length sums ≡ width
   pub entries : (j : ℕ) → j < width → entry_at sums j ≡ column_sum rows j k

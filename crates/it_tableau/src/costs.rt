@@ -1,5 +1,5 @@
 //! The cost row of the start.
-//! The loops go by index, since their invariants speak of the sums over the first i.
+//! The loops go by index, since their invariants are about the sums over the first i.
 ghost use Rattle.std.specs.Prelude.{◌≡◌, ◌+◌, ◌-◌, ◌<◌, ℕ, length, IfErr, IfOk, OnErr, OnOk};
 ghost use Rattle.it_rational.specs.Rational.{minus};
 ghost use Rattle.it_fraction.specs.Fits.{SumFits};
@@ -15,7 +15,7 @@ use it_fraction::{Fraction, Wide};
 use it_space::RowFault;
 use std::alloc::Global;
 
-/// Adds a number to the sum of a column.
+/// Adds `number` to the sum of `column`.
 fn add_number(sums: &mut Vec<Fraction>, column: usize, number: Fraction) -> Result<(), Wide>
     requires { column < length sums.old.items }
     ensures ok { OnOk result (SumFits number (entry_at sums.old.items column)) }
@@ -27,7 +27,7 @@ fn add_number(sums: &mut Vec<Fraction>, column: usize, number: Fraction) -> Resu
     Ok(())
 }
 
-/// Adds a row's entries, without its right side, to the sums of their columns. A column in which the row has no term keeps its sum.
+/// Adds a row's `terms`, without its right side, to the sums of their columns. A column in which the row has no term keeps its sum.
 fn add_row(sums: &mut Vec<Fraction>, terms: &[(usize, Fraction)]) -> Result<(), Wide>
     requires terms { Climbs 0 (length sums.old.items) terms.now }
     requires narrow { AreNarrow sums.old.items }
@@ -42,7 +42,7 @@ fn add_row(sums: &mut Vec<Fraction>, terms: &[(usize, Fraction)]) -> Result<(), 
     Ok(())
 }
 
-/// The terms of row i.
+/// The terms of row `i`.
 fn terms_of(rows: &[SparseRow], i: usize) -> &[(usize, Fraction)]
     requires { i < length rows.now }
     ensures { ListsEntries (entry_at (row_at rows.now i)) (length (row_at rows.now i) - 1) result.now }
@@ -50,7 +50,7 @@ fn terms_of(rows: &[SparseRow], i: usize) -> &[(usize, Fraction)]
     rows[i].terms()
 }
 
-/// The sum of a column so far.
+/// The sum of `column` so far.
 fn sum_at(sums: &[Fraction], column: usize) -> Fraction
     requires { column < length sums.now }
     ensures { result ≡ entry_at sums.now column }
@@ -58,7 +58,7 @@ fn sum_at(sums: &[Fraction], column: usize) -> Fraction
     sums[column]
 }
 
-/// The sum of each column, in the order of the rows, without that of the right sides.
+/// The sum of each column, added in the order of the rows, without that of the right sides.
 fn column_sums(alloc: Global, rows: &[SparseRow], width: usize) -> Result<Vec<Fraction>, RowFault>
     requires { AreEven rows.now (width + 1) }
     ensures ok { OnOk result ((j : ℕ) → j < width → ColumnFits rows.now j) }
@@ -72,7 +72,7 @@ fn column_sums(alloc: Global, rows: &[SparseRow], width: usize) -> Result<Vec<Fr
     Ok(sums)
 }
 
-/// The sum of a column with its sign turned, in the order of the rows.
+/// The negated sum of column `j`, added in the order of the rows.
 fn negated_sum(rows: &[SparseRow], j: usize) -> Result<Fraction, Wide>
     requires { (i : ℕ) → i < length rows.now → j < length (row_at rows.now i) }
     ensures ok { OnOk result (ColumnFits rows.now j) }
@@ -86,7 +86,7 @@ fn negated_sum(rows: &[SparseRow], j: usize) -> Result<Fraction, Wide>
     Ok(sum.neg())
 }
 
-/// The negated sum of the rows, each of so many columns.
+/// The negated sum of `rows`, which have `width` columns each.
 pub fn cost_row(alloc: Global, rows: &[SparseRow], width: usize) -> Result<SparseRow, RowFault>
     requires { AreEven rows.now (width + 1) }
     ensures ok { OnOk result (ColumnsFit rows.now (width + 1)) }

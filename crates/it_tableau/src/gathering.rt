@@ -17,7 +17,7 @@ use it_space::Row;
 use std::alloc::{AllocError, Global};
 use std::marker::Model;
 
-/// The terms of a row while they are gathered, by ascending column.
+/// The terms of a row that have been gathered, by ascending column.
 #[derive(Drop)]
 struct TermList {
     terms: Vec<(usize, Fraction)>,
@@ -41,7 +41,7 @@ impl TermList {
         }
     }
 
-    /// Puts a term after the others, unless its number is 0.
+    /// Appends the term `value` in `column`, unless `value` is 0.
     fn put(&mut self, column: usize, value: Fraction) -> Result<(), AllocError>
         ensures { OnOk result (IsAppended self.old column value self.new) }
     {
@@ -49,7 +49,7 @@ impl TermList {
         Ok(())
     }
 
-    /// The terms of the list that is let go.
+    /// Consumes the list and returns its terms.
     fn into_terms(self) -> Vec<(usize, Fraction)>
         ensures { result.items ≡ self }
     {
@@ -70,7 +70,7 @@ pub fn ascends(coordinates: &[u32]) -> bool
     true
 }
 
-/// The row of a coordinate, if it has one.
+/// The row of `coordinate`, if it has one.
 pub fn place_of(coordinates: &[u32], coordinate: u32) -> Option<usize>
     requires { IsAscending coordinates.now }
     ensures some { IfSome result (λ k. (k < length coordinates.now) × (slice_index_or coordinates.now k 0 ≡ coordinate)) }
@@ -82,7 +82,7 @@ pub fn place_of(coordinates: &[u32], coordinate: u32) -> Option<usize>
     }
 }
 
-/// The terms of column j.
+/// The terms of column `j`.
 fn terms_of_column(columns: &[Row], j: usize) -> &[(u32, i128)]
     requires { j < length columns.now }
     ensures value { result.now ≡ slice_index_or columns.now j [] }
@@ -91,7 +91,7 @@ fn terms_of_column(columns: &[Row], j: usize) -> &[(u32, i128)]
     columns[j].terms()
 }
 
-/// The coordinate of term i.
+/// The coordinate of term `i`.
 fn coordinate_at(terms: &[(u32, i128)], i: usize) -> u32
     requires { i < length terms.now }
     ensures { result ≡ (slice_index_or terms.now i (0, pos 0)).0 }
@@ -99,7 +99,7 @@ fn coordinate_at(terms: &[(u32, i128)], i: usize) -> u32
     terms[i].0
 }
 
-/// Puts a term after those of row k, unless its number is 0.
+/// Appends the term `value` in `column` to those of row `k`, unless `value` is 0.
 fn put_in(
     lists: &mut Vec<TermList>,
     k: usize,
@@ -114,7 +114,7 @@ fn put_in(
     Ok(())
 }
 
-/// Puts the entry of column j at a coordinate after the terms of the coordinate's row, if there is one.
+/// Appends the entry of column `j` at `coordinate` to the terms of the coordinate's row, if there is one.
 fn put_term(
     lists: &mut Vec<TermList>,
     coordinates: &[u32],
@@ -134,7 +134,7 @@ fn put_term(
     Ok(())
 }
 
-/// Puts the entries of column j after the terms of their rows.
+/// Appends the entries of column `j` to the terms of their rows.
 fn put_column(
     lists: &mut Vec<TermList>,
     coordinates: &[u32],
@@ -148,7 +148,7 @@ fn put_column(
     ensures { OnOk result (AreAppended coordinates.now (start_column coordinates.now columns.now target.now j) j lists.old.items lists.new.items) }
 {
     let terms = terms_of_column(columns, j);
-    // by index, since the invariant speaks of the first i terms
+    // by index, since the invariant is about the first i terms
     for i in 0..terms.len() {
         put_term(
             lists,
@@ -162,7 +162,7 @@ fn put_column(
     Ok(())
 }
 
-/// So many lists without terms.
+/// `count` lists without terms.
 fn empty_lists(alloc: Global, count: usize) -> Result<Vec<TermList>, AllocError>
     ensures { IfOk result (λ lists. AreEmpty count lists.items) }
 {
@@ -190,7 +190,7 @@ fn gather(
     Ok(lists)
 }
 
-/// The row with its artificial column and its right side.
+/// Row `k` with the gathered terms of `list`, its artificial column and its right side.
 fn finished_row(
     coordinates: &[u32],
     columns: &[Row],
@@ -212,7 +212,7 @@ fn finished_row(
     Ok(SparseRow::new(width, terms, right))
 }
 
-/// The terms of row k, which are taken away.
+/// Takes out the terms of row `k`, leaving none in their place.
 fn take_list(alloc: Global, lists: &mut Vec<TermList>, k: usize) -> TermList
     requires { k < length lists.old.items }
     ensures own { result ≡ row_terms_at lists.old.items k }
@@ -221,7 +221,7 @@ fn take_list(alloc: Global, lists: &mut Vec<TermList>, k: usize) -> TermList
     std::mem::replace(&mut lists[k], TermList::empty(alloc))
 }
 
-/// The rows of the start where the coordinates ascend: each column's terms are put into their rows.
+/// The rows of the start where the coordinates ascend: each column's terms are appended to their rows.
 pub fn gathered_rows(
     alloc: Global,
     coordinates: &[u32],

@@ -18,7 +18,7 @@ pub enum TermSource {
     Both,
 }
 
-/// The column of term i.
+/// The column of term `i`.
 pub fn column(terms: &[(usize, Fraction)], i: usize) -> usize
     requires { i < length terms.now }
     ensures { result ≡ column_at terms.now i }
@@ -26,7 +26,7 @@ pub fn column(terms: &[(usize, Fraction)], i: usize) -> usize
     terms[i].0
 }
 
-/// The number itself: the clauses of its parts say that they are within the limit.
+/// `value` itself: the contracts of `num` and `den` say that both are within the limit.
 pub fn narrow_number(value: Fraction) -> Fraction
     ensures value { result ≡ value }
     ensures narrow { IsNarrow result }
@@ -36,7 +36,7 @@ pub fn narrow_number(value: Fraction) -> Fraction
     value
 }
 
-/// The number of term i.
+/// The number of term `i`.
 pub fn term(terms: &[(usize, Fraction)], i: usize) -> Fraction
     requires { i < length terms.now }
     ensures value { result ≡ number_of_term terms.now i }
@@ -45,7 +45,7 @@ pub fn term(terms: &[(usize, Fraction)], i: usize) -> Fraction
     narrow_number(terms[i].1)
 }
 
-/// Which row has the next column: the old one from term i on, the other from term j on, or both.
+/// Which row has the next term: `old` from term `i` on, `by` from term `j` on, or both.
 fn next_source(
     old: &[(usize, Fraction)],
     by: &[(usize, Fraction)],
@@ -72,14 +72,14 @@ fn next_source(
     }
 }
 
-/// What a product leaves of 0.
+/// The negated product of `by` and `q`; `Wide` if it passes the limit.
 fn negated_product(by: Fraction, q: Fraction) -> Result<Fraction, Wide>
     ensures { OkIff result (IsNarrow (times by q)) (minus (times by q)) }
 {
     Ok(by.mul(q)?.neg())
 }
 
-/// What a product leaves of an entry.
+/// `entry` less the product of `by` and `q`; `Wide` if the product or a number of the difference passes the limit.
 pub fn reduced_entry(entry: Fraction, by: Fraction, q: Fraction) -> Result<Fraction, Wide>
     ensures ok { OnOk result (EntryFits entry by q) }
     ensures value { IfOk result (λ v. v ≡ plus entry (minus (times by q))) }
@@ -88,7 +88,7 @@ pub fn reduced_entry(entry: Fraction, by: Fraction, q: Fraction) -> Result<Fract
     entry.sub(by.mul(q)?)
 }
 
-/// Puts a term after the others, unless its number is 0.
+/// Appends the term `value` in `column`, unless `value` is 0.
 pub fn append(
     terms: &mut Vec<(usize, Fraction)>,
     column: usize,
@@ -102,8 +102,8 @@ pub fn append(
     Ok(())
 }
 
-/// Fills the buffer with what the terms of one row times a number leave of those of the other. Where only one of the rows
-/// has a term the operation with the 0 is left out.
+/// Sets `buffer` to the terms of the row `old` less `q` times the row `by`. Where only one of the rows has a term, the operation
+/// with 0 is left out.
 pub fn merge(
     buffer: &mut Vec<(usize, Fraction)>,
     old: &[(usize, Fraction)],

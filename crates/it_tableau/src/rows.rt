@@ -8,7 +8,7 @@ use it_fraction::Fraction;
 use it_space::RowFault;
 use std::alloc::Global;
 
-/// The entry of row i at column j.
+/// The entry of row `i` at column `j`.
 pub fn read(rows: &[SparseRow], i: usize, j: usize) -> Fraction
     requires row { i < length rows.now }
     requires column { j < length (row_at rows.now i) }
@@ -17,7 +17,7 @@ pub fn read(rows: &[SparseRow], i: usize, j: usize) -> Fraction
     rows[i].entry(j)
 }
 
-/// The pivot at row r and column c, in all rows.
+/// The pivot at row `r` and column `c`, in all rows. After an error nothing is known of the rows.
 pub fn pivot_rows(alloc: Global, rows: &mut [SparseRow], r: usize, c: usize) -> Result<(), RowFault>
     requires row { r < length rows.old }
     requires even { AreEven rows.old (length (row_at rows.old r)) }
@@ -30,7 +30,7 @@ pub fn pivot_rows(alloc: Global, rows: &mut [SparseRow], r: usize, c: usize) -> 
     let pivot = read(rows, r, c);
     let mut own = std::mem::replace(&mut rows[r], SparseRow::placeholder(alloc));
     let mut buffer = Vec::new(alloc);
-    // by index, since the invariant speaks of the rows before i and of those from i on
+    // by index, since the invariant is about the rows before i and those from i on
     for i in 0..rows.len() {
         if i != r {
             rows[i].reduce(&own, c, pivot, &mut buffer)?;

@@ -12,8 +12,8 @@ use it_space::RowFault;
 use std::alloc::Global;
 use std::marker::Model;
 
-/// A row of the table: each entry other than 0 after its column, by ascending column, and the right side. Contracts see the
-/// list of all entries with the right side after them.
+/// A row of the table: the nonzero entries, each after its column, by ascending column, and the right side. Contracts see the list of
+/// all entries with the right side after them.
 pub struct SparseRow {
     width: usize,
     terms: Vec<(usize, Fraction)>,
@@ -44,7 +44,7 @@ impl Model for SparseRow {
 }
 
 impl SparseRow {
-    /// The row of so many columns with these terms.
+    /// The row of `width` columns with `terms` and the right side `right`.
     pub fn new(width: usize, terms: Vec<(usize, Fraction)>, right: Fraction) -> SparseRow
         requires { Climbs 0 width terms.items }
         ensures { result ≡ dense_row width terms.items right }
@@ -56,21 +56,21 @@ impl SparseRow {
         }
     }
 
-    /// A row without columns, whose right side is 0: it stands in where another row is taken out.
+    /// A row without columns, whose right side is 0: a placeholder where another row is taken out.
     pub fn placeholder(alloc: Global) -> SparseRow
         ensures { result ≡ dense_row 0 [] (integer (pos 0)) }
     {
         SparseRow::new(0, Vec::new(alloc), Fraction::whole(0))
     }
 
-    /// The entries other than 0, without the right side.
+    /// The nonzero entries, each after its column, by ascending column, without the right side.
     pub fn terms(&self) -> &[(usize, Fraction)]
         ensures { ListsEntries (entry_at self.now) (length self.now - 1) result.now }
     {
         self.terms.as_slice()
     }
 
-    /// The entry in a column, or after the columns the right side.
+    /// The entry in `column`, or past the last column the right side.
     pub fn entry(&self, column: usize) -> Fraction
         requires { column < length self.now }
         ensures { result ≡ entry_at self.now column }
@@ -81,8 +81,8 @@ impl SparseRow {
         number_in(self.terms.as_slice(), column, self.width)
     }
 
-    /// Takes off as much of another row as makes the entry in a column 0, where the other row has the pivot there. The buffer
-    /// is for the new terms, and gets the old ones.
+    /// Subtracts the multiple of `by` that makes the entry in `column` 0, where `by` has the entry `pivot`. `buffer` is space for the new
+    /// terms, and has the old ones afterwards.
     pub fn reduce(
         &mut self,
         by: &SparseRow,
@@ -99,7 +99,7 @@ impl SparseRow {
     {
         let entry = self.entry(column);
         if entry.is_zero() {
-            // asked for its clause, that the right side is within the limit
+            // called for its contract, which says that the right side is within the limit
             let _right = narrow_number(self.right);
             return Ok(());
         }
@@ -117,7 +117,7 @@ impl SparseRow {
         Ok(())
     }
 
-    /// Divides the row by a number.
+    /// Divides the row by `pivot`. `buffer` is as for `reduce`.
     pub fn divide(
         &mut self,
         pivot: Fraction,
@@ -136,7 +136,7 @@ impl SparseRow {
     }
 }
 
-/// The number in a column by binary search, 0 where no term has it.
+/// The number in column `at`, by binary search; 0 where there is no term.
 fn number_in(terms: &[(usize, Fraction)], at: usize, width: usize) -> Fraction
     requires { Climbs 0 width terms.now }
     ensures { result ≡ entry_in terms.now at }
@@ -147,7 +147,7 @@ fn number_in(terms: &[(usize, Fraction)], at: usize, width: usize) -> Fraction
     }
 }
 
-/// Fills the buffer with the terms, divided by a number.
+/// Sets `buffer` to `terms` divided by `pivot`.
 fn divide_terms(
     buffer: &mut Vec<(usize, Fraction)>,
     terms: &[(usize, Fraction)],
@@ -161,7 +161,7 @@ fn divide_terms(
     ensures wide { IfErr result (λ fault. fault ≡ RowFault.Wide → ¬ (TermQuotientsFit terms.now pivot)) }
 {
     buffer.clear();
-    // by index, since the invariant speaks of the first i terms
+    // by index, since the invariant is about the first i terms
     for i in 0..terms.len() {
         append(buffer, column(terms, i), term(terms, i).div(pivot)?)?;
     }

@@ -14,7 +14,7 @@ use it_fraction::Fraction;
 use it_space::{Row, RowFault};
 use std::alloc::{AllocError, Global};
 
-/// The coefficient of a row at a coordinate, as a fraction.
+/// The coefficient of `row` at `coordinate`, as a fraction.
 fn number(row: &Row, coordinate: u32) -> Fraction
     ensures value { result ≡ integer (coefficient row.now coordinate) }
     ensures whole_number { IsWholeNumber result }
@@ -22,7 +22,7 @@ fn number(row: &Row, coordinate: u32) -> Fraction
     Fraction::whole(row.coefficient(coordinate))
 }
 
-/// Whether the start's row of a coordinate keeps its sign: the target's coefficient isn't below 0.
+/// Whether the start's row of `coordinate` keeps its sign: the target's coefficient isn't below 0.
 pub fn keeps_sign(target: &Row, coordinate: u32) -> bool
     ensures { result ≡ is_at_least_zero (integer (coefficient target.now coordinate)) }
 {
@@ -33,7 +33,7 @@ pub fn keeps_sign(target: &Row, coordinate: u32) -> bool
     }
 }
 
-/// The coefficient of a row at a coordinate, negated unless the sign is kept.
+/// The coefficient of `row` at `coordinate`, negated unless `kept`.
 fn signed_coefficient(row: &Row, coordinate: u32, kept: bool) -> Fraction
     ensures value { result ≡ times (cond kept (integer (pos 1)) (minus (integer (pos 1)))) (integer (coefficient row.now coordinate)) }
     ensures whole_number { IsWholeNumber result }
@@ -42,7 +42,7 @@ fn signed_coefficient(row: &Row, coordinate: u32, kept: bool) -> Fraction
     if kept { value } else { value.neg() }
 }
 
-/// The start's entry of row k at column j: the columns, the artificial ones, then the right side.
+/// The start's entry of row `k` at column `j`: first are `columns`, then the artificial ones, then the right side.
 #[tactic(auto, using(crate::proofs::WholeNumbers::zero_number, crate::proofs::WholeNumbers::one_number))]
 pub fn start_entry(
     coordinates: &[u32],
@@ -67,7 +67,7 @@ pub fn start_entry(
     }
 }
 
-/// Row k of the start.
+/// Row `k` of the start.
 fn start_row(
     alloc: Global,
     coordinates: &[u32],
@@ -92,7 +92,7 @@ fn start_row(
     Ok(SparseRow::new(width, terms, right))
 }
 
-/// The rows of the start entry by entry, whatever the coordinates are.
+/// The rows of the start, entry by entry, for any coordinates.
 fn rows_by_entries(
     alloc: Global,
     coordinates: &[u32],
@@ -108,7 +108,7 @@ fn rows_by_entries(
     Ok(rows)
 }
 
-/// The rows of the start. Coordinates that ascend are found among the columns' terms; else each entry is looked up.
+/// The rows of the start: gathered from the columns' terms if the coordinates ascend, else entry by entry.
 fn start_rows(
     alloc: Global,
     coordinates: &[u32],
@@ -124,7 +124,7 @@ fn start_rows(
     }
 }
 
-/// So many artificial columns, by their numbers from the first on: the basis of the start.
+/// The numbers of `count` artificial columns, from `first` on: the basis of the start.
 pub fn artificials(alloc: Global, first: usize, count: usize) -> Result<Vec<usize>, AllocError>
     requires { first + count < 2 ^ 64 }
     ensures count { IfOk result (λ basis. length basis.items ≡ count) }
@@ -137,20 +137,20 @@ pub fn artificials(alloc: Global, first: usize, count: usize) -> Result<Vec<usiz
     Ok(basis)
 }
 
-/// Whether each row of the start is negated.
+/// For each row of the start, whether it is negated.
 pub fn negations(alloc: Global, coordinates: &[u32], target: &Row) -> Result<Vec<bool>, AllocError>
     ensures count { IfOk result (λ negated. length negated.items ≡ length coordinates.now) }
     ensures value { IfOk result (λ negated. AreNegated coordinates.now target.now negated.items) }
 {
     let mut negated = Vec::with_capacity(alloc, coordinates.len())?;
-    // by index, since the invariant speaks of the first k coordinates
+    // by index, since the invariant is about the first k coordinates
     for k in 0..coordinates.len() {
         negated.push(!keeps_sign(target, coordinates[k]))?;
     }
     Ok(negated)
 }
 
-/// The rows of the start with the cost row after them.
+/// The rows of the start, the cost row last.
 pub fn start_table(
     alloc: Global,
     coordinates: &[u32],

@@ -52,9 +52,9 @@ impl Model for Tableau {
 }
 
 impl Tableau {
-    /// The start on the rows' coefficients at the coordinates: a row for each coordinate in order, negated where the target's
-    /// coefficient is below 0, and a column for each row in order. The coordinates are to ascend and to hold all that the rows
-    /// use: what stands elsewhere is left out.
+    /// The start by the coefficients of `columns` and `target` at `coordinates`: a row for each coordinate in order, negated where the
+    /// target's coefficient is below 0, and a column for each of `columns` in order. The coordinates should ascend and include all at
+    /// which these have coefficients: others are left out. `Wide` if a partial sum of the cost row passes the limit.
     pub fn start(
         alloc: Global,
         coordinates: &[u32],
@@ -79,7 +79,7 @@ impl Tableau {
         })
     }
 
-    /// How many rows there are, without the cost row.
+    /// The number of rows, without the cost row.
     pub fn rows(&self) -> usize
         requires usable { self.now.spent ≡ false }
         ensures { result ≡ height self.now }
@@ -87,7 +87,7 @@ impl Tableau {
         self.basis.len()
     }
 
-    /// How many columns there are, the artificial ones among them.
+    /// The number of columns, the artificial ones included.
     pub fn columns(&self) -> usize
         requires usable { self.now.spent ≡ false }
         ensures { result ≡ width self.now }
@@ -95,7 +95,7 @@ impl Tableau {
         self.width
     }
 
-    /// How many columns there are that aren't artificial. They come first.
+    /// The number of columns that aren't artificial. These come first.
     pub fn generator_columns(&self) -> usize
         requires usable { self.now.spent ≡ false }
         ensures { result ≡ self.now.generator_columns }
@@ -103,7 +103,7 @@ impl Tableau {
         self.generator_columns
     }
 
-    /// The column that is basic in a row.
+    /// The column that is basic in `row`.
     pub fn basic(&self, row: usize) -> usize
         requires usable { self.now.spent ≡ false }
         requires row { row < height self.now }
@@ -112,7 +112,7 @@ impl Tableau {
         self.basis[row]
     }
 
-    /// The sign by which the row was multiplied at the start: -1 or 1.
+    /// The sign by which `row` was multiplied at the start: -1 or 1.
     pub fn sign(&self, row: usize) -> i8
         requires usable { self.now.spent ≡ false }
         requires row { row < height self.now }
@@ -121,7 +121,7 @@ impl Tableau {
         if self.negated[row] { -1 } else { 1 }
     }
 
-    /// The entry of a row at a column.
+    /// The entry of `row` at `column`.
     pub fn entry(&self, row: usize, column: usize) -> Fraction
         requires usable { self.now.spent ≡ false }
         requires row { row < height self.now }
@@ -131,7 +131,7 @@ impl Tableau {
         read(self.rows.as_slice(), row, column)
     }
 
-    /// The entries of a row other than 0, each after its column, by ascending column, without the right side.
+    /// The nonzero entries of `row`, each after its column, by ascending column, without the right side.
     pub fn terms(&self, row: usize) -> &[(usize, Fraction)]
         requires usable { self.now.spent ≡ false }
         requires row { row < height self.now }
@@ -140,7 +140,7 @@ impl Tableau {
         self.rows[row].terms()
     }
 
-    /// The right side of a row.
+    /// The right side of `row`.
     pub fn rhs(&self, row: usize) -> Fraction
         requires usable { self.now.spent ≡ false }
         requires row { row < height self.now }
@@ -149,7 +149,7 @@ impl Tableau {
         read(self.rows.as_slice(), row, self.width)
     }
 
-    /// The entry of the cost row.
+    /// The entry of the cost row at `column`.
     pub fn cost(&self, column: usize) -> Fraction
         requires usable { self.now.spent ≡ false }
         requires column { column < width self.now }
@@ -166,7 +166,7 @@ impl Tableau {
         read(self.rows.as_slice(), self.basis.len(), self.width)
     }
 
-    /// The right side of a row divided by its entry in a column.
+    /// The right side of `row` divided by its entry at `column`, which is above 0; `Wide` if the quotient passes the limit.
     #[tactic(auto, using(crate::proofs::Positive::positive_some))]
     pub fn ratio(&self, row: usize, column: usize) -> Result<Fraction, Wide>
         requires usable { self.now.spent ≡ false }
@@ -178,7 +178,8 @@ impl Tableau {
         self.rhs(row).div(self.entry(row, column))
     }
 
-    /// Makes a column basic in a row. After an error the tableau is spent: all that can be done with it is to let it go.
+    /// Makes `column` basic in `row`, whose entry there is above 0. `Wide` if a number of the pivot passes the limit. After an error the
+    /// tableau is spent: it can only be dropped.
     pub fn pivot(&mut self, row: usize, column: usize) -> Result<(), RowFault>
         requires usable { self.old.spent ≡ false }
         requires row { row < height self.old }

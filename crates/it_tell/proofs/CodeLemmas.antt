@@ -22,7 +22,7 @@ pub function_begins : (cs : List ℕ) (out : List ℕ) → out ++ joined_texts (
 unfolding function_text
 function_begins cs out = refl
 
--- and what it still has to write
+-- a function, and the symbols that are still to write
 pub term_step : (some wanted : Bool) (text : List ℕ) (rest : List (List ℕ)) (out : List ℕ)
     → (out ++ joined_texts (codes " + ") some (if wanted then text ∷ [] else [])) ++ joined_texts (codes " + ") (some || wanted) (or_zero_unless (some || wanted) rest)
     ≡ out ++ joined_texts (codes " + ") some (or_zero_unless some ((if wanted then text ∷ [] else []) ++ rest))

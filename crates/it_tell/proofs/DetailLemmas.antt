@@ -1,5 +1,5 @@
 -- The lines below the first one of an answer: the groups of it_outside, in a list of bytes.
-use Rattle.std.proofs.Common.{◌≡◌, ℕ, ◌+◌, ◌<◌, ◌≤◌, ℤ, Bool, List, [], ◌++◌, append-nil, append_assoc, length, get_or, ◌⊎◌, true, Some, refl, sym, ap, ◌∙◌, Option, None, IfSome}
+use Rattle.std.proofs.Common.{◌≡◌, ℕ, ◌+◌, ◌<◌, ◌≤◌, ℤ, Bool, List, [], ◌++◌, append-nil, append_assoc, length, get_or, refl, sym, ap, subst, subst₂, ◌∙◌, Some}
 use Rattle.std.specs.List.{flat_map}
 use Rattle.it_outside.proofs.GroupLemmas.{UnderWay, under_way_done, under_way_first, under_way_more}
 use Rattle.it_space.specs.Answers.{CertificateView}
@@ -11,11 +11,10 @@ use Rattle.it_polymatroid.specs.Certificates.{Form}
 use Rattle.it_syntax.specs.NamesViews.{NamesView}
 use Rattle.it_question.specs.Questions.{BodyView}
 use Rattle.it_question.specs.ProblemLines.{problem_names}
-use Rattle.it_terms.specs.ProofSteps.{TellsSteps}
-use Rattle.it_terms.specs.FunctionProofs.{ArePrinted}
-use Rattle.it_tell.specs.Tellings.{AreDetails, AreProofTexts, IsMarkedRowText, IsPointText, IsPrintedProof, IsProofText, indented_line, proof_lines, step_line, told_rows}
+use Rattle.it_terms.specs.FunctionProofs.{ArePrinted, TellsFormUnder}
+use Rattle.it_tell.specs.Tellings.{AreDetails, ArePrintedSteps, ArePrintedTexts, AreProofTexts, IsMarkedRowText, IsPointText, MayName, indented_line, proof_lines, step_line, told_rows}
 use Rattle.it_canon.specs.TrueLines.{variable_count}
-use Rattle.it_tell.specs.Steps.{AppendsDetails, AppendsEach, AppendsPoint, AppendsProof, IsStyledText}
+use Rattle.it_tell.specs.Steps.{AppendsDetails, AppendsEach, AppendsPoint, AppendsProof, IsStyled}
 use Rattle.it_tell.specs.declared.settings.Options.{Options}
 use Rattle.it_tell.specs.declared.settings.Style.{Style}
 use Rattle.it_tell.specs.declared.settings.Style.TheVariants.{Plain, Named, Whole}
@@ -40,13 +39,13 @@ module _ {X A : Type 0} (shown : A → List ℕ) (tells : X → A → Type 0) wh
 
 -- ---- a proof
 
--- its line is appended, and then those of its steps
-pub proof_appended : (q : BodyView) (options : Options) (proof : Form × CertificateView) (old now new text : List ℕ) (steps : List (List ℕ)) → IsProofText q options.style proof text
-    → (steps ≡ []) ⊎ ((options.steps ≡ true) × TellsSteps (problem_names q) text steps) → now ≡ old ++ indented_line text → new ≡ now ++ flat_map step_line steps → AppendsProof q options proof old new
-unfolding AreProofTexts proof_lines
-proof_appended q options proof old now new text steps is are first then = record {
+-- the line of a proof is appended, and then those of its steps
+pub proof_appended : (q : BodyView) (options : Options) (proof : Form × CertificateView) (old now new text : List ℕ) (steps : List (List ℕ)) → AreProofTexts q options proof (record { proof = text; steps = steps })
+    → now ≡ old ++ indented_line text → new ≡ now ++ flat_map step_line steps → AppendsProof q options proof old new
+unfolding proof_lines
+proof_appended q options proof old now new text steps are first then = record {
   texts = record { proof = text; steps = steps };
-  are = (is, are);
+  are = are;
   new_is = then ∙ ap (λ t. t ++ flat_map step_line steps) first ∙ append_assoc old (indented_line text) (flat_map step_line steps);
 }
 
@@ -74,29 +73,25 @@ pub open_details : (q : BodyView) (options : Options) (tried : ℕ) (old : List 
 unfolding AppendsDetails AreDetails
 open_details q options tried old = ([], (refl, sym (append-nil old)))
 
--- a printed proof in a style is one with its lines behind it
-pub styled_is_printed : (q : BodyView) (style : Style) (target : Form) (named whole by text : List ℕ) → ArePrinted q target named whole by → IsStyledText style named whole by text
-    → IsPrintedProof q style target text
-styled_is_printed q Plain target named whole by text printed is = absurd is
-styled_is_printed q Named target named whole by text printed is = record {
-  lines = printed.lines;
-  named = printed.named;
-  proof = named;
-  tells = printed.text_tells;
-  names = tt;
-  is = is ∙ ap (λ (b : List ℕ). named ++ b) printed.by_is;
+-- a printed proof in a style, with its steps and with its lines behind it, is texts of a proof
+pub styled_is_printed : (q : BodyView) (options : Options) (style : Style) (target : Form) (lines : List ℕ) (named own_named : List (ℕ × ℤ)) (text whole by own proof : List ℕ) (steps : List (List ℕ)) → options.style ≡ style
+    → ArePrinted q target lines named text whole by → IsStyled style named text whole own_named own → ArePrintedSteps q options lines own_named own steps → proof ≡ own ++ by → ArePrintedTexts q options target (record { proof = proof; steps = steps })
+styled_is_printed q options Plain target lines named own_named text whole by own proof steps e printed is told proof_is = absurd is
+styled_is_printed q options Named target lines named own_named text whole by own proof steps e printed is told proof_is = record {
+  lines = lines;
+  named = own_named;
+  own = own;
+  tells = subst₂ (λ (ws : List (ℕ × ℤ)) (t : List ℕ). TellsFormUnder q lines ws target t) (sym is.0) (sym is.1) printed.text_tells;
+  names = subst (λ (s : Style). MayName s own_named) (sym e) tt;
+  proof_is = proof_is ∙ ap (λ (b : List ℕ). own ++ b) printed.by_is;
+  steps_are = told;
 }
-styled_is_printed q Whole target named whole by text printed is = record {
-  lines = printed.lines;
-  named = [];
-  proof = whole;
-  tells = printed.whole_tells;
-  names = refl;
-  is = is ∙ ap (λ (b : List ℕ). whole ++ b) printed.by_is;
+styled_is_printed q options Whole target lines named own_named text whole by own proof steps e printed is told proof_is = record {
+  lines = lines;
+  named = own_named;
+  own = own;
+  tells = subst₂ (λ (ws : List (ℕ × ℤ)) (t : List ℕ). TellsFormUnder q lines ws target t) (sym is.0) (sym is.1) printed.whole_tells;
+  names = subst (λ (s : Style). MayName s own_named) (sym e) is.0;
+  proof_is = proof_is ∙ ap (λ (b : List ℕ). own ++ b) printed.by_is;
+  steps_are = told;
 }
-
--- so is what may be one
-pub styled_may_be_printed : {X : Type 0} (items : X → List ℕ) (q : BodyView) (style : Style) (target : Form) (named whole by : List ℕ) (o : Option X) → ArePrinted q target named whole by
-    → IfSome o (λ x. IsStyledText style named whole by (items x)) → IfSome o (λ x. IsPrintedProof q style target (items x))
-styled_may_be_printed items q style target named whole by None printed is = tt
-styled_may_be_printed items q style target named whole by (Some x) printed is = styled_is_printed q style target named whole by (items x) printed is

@@ -33,7 +33,7 @@ module _ (r : Call) (options : Options) (asked : AsksToTell r options) where
   end_of_long_report s read long (inl (is, stayed, wrote)) = subst (Ends r) (sym is) ((read, stayed), ((options, asked), long), wrote)
   end_of_long_report s read long (inr (is, failed, took)) = subst (Ends r) (sym is) ((read, failed), inl (((options, asked), long), took))
 
-  -- reading it failed, or there was too little memory for it
+  -- reading it failed, or allocation failed
   pub end_of_failed_read : FaultsAre r (next_count r.read_faults) r.write_faults → Wrote r [] → Ends r ReadFault
   end_of_failed_read failed wrote = (failed, (options, asked), wrote)
 

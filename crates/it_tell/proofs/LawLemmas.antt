@@ -96,7 +96,7 @@ row_there q style row =
 
 proof_there : (q : BodyView) (options : Options) (proof : Form × CertificateView) → (t : ProofTexts) × AreProofTexts q options proof t
 unfolding AreProofTexts IsProofText
-proof_there q options proof = (record { proof = codes "as weights " ++ certificate_text (problem_names q).variables (question_origins q) proof.1; steps = [] }, (inr (inr refl), inl refl))
+proof_there q options proof = (record { proof = codes "as weights " ++ certificate_text (problem_names q).variables (question_origins q) proof.1; steps = [] }, inr (inr refl, inl refl))
 
 point_there : (q : BodyView) (values : List ℤ) → (text : List ℕ) × IsPointText (problem_names q) values text
 unfolding IsPointText
@@ -200,7 +200,7 @@ told_answers_are_true options line source a details (h, lines) = by_verdict h.ve
         let same = same_read is.reading (reports.Answered source a) (one_reading line (Ok is.reading) (Ok (reports.Answered source a)) is.reads h.reads) in
         absurd (subst (λ (x : Reading). IsReadingVerdict x (Hulled v)) same is.verdict)
 
--- of a no with a code
+-- what a told no with a code claims is true
 pub told_codes_are_true : ToldCodesAreTrue
 told_codes_are_true options line source back values code details (h, lines) = by_verdict h.verdict h.is h.accepted
   where

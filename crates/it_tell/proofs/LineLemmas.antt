@@ -38,7 +38,7 @@ invalid_line options k line text invalid judged is = record {
 
 -- ---- any other line
 
--- its verdict, and what it says with it
+-- the verdict on a line, and what the line says
 pub record HasVerdict (line : List ℕ) : Type 0 where
   pub verdict : LineVerdict
   pub is : IsVerdict line verdict
@@ -57,14 +57,14 @@ has_verdict k line text invalid judged e = by_verdict judged.verdict judged.is (
     by_verdict (OtherCode names s) is accepted = absurd (true≢false accepted)
     by_verdict (Hulled v) is accepted = record { verdict = Hulled v; is = is; accepted = accepted; said = is }
 
--- so it is JSON
+-- a line with a verdict on what it says is JSON
 pub is_json : (line : List ℕ) → HasVerdict line → (IsUtf8 line → read line ≡ None) → ⊥
 is_json line h none = some_is_none (sym h.said.reads.is_json ∙ none h.said.reads.utf8)
   where
     some_is_none : Some h.said.reads.value ≡ None → ⊥
     some_is_none e = cc
 
--- and no key is at fault
+-- no key of such a line is at fault
 pub has_no_fault : (line : List ℕ) (key : Key) → HasVerdict line → ReadsReport line (Err key) → ⊥
 has_no_fault line key h reads = fault_is_reading h.said.reading (one_reading line (Err key) (Ok h.said.reading) reads h.said.reads)
   where

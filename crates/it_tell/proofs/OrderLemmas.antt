@@ -73,7 +73,7 @@ place_goes_on n row other rows i h read later e = e ∙ rw add-one (more rows i 
     more (r ∷ rows) zero h read = ap (λ (t : Bool). if t then row ∷ r ∷ rows else r ∷ put_in_order n row rows) (ap (λ (x : Mark × Terms). is_before (order_key n row.1) (order_key n x.1)) read ∙ later)
     more (r ∷ rows) (suc i) h read = ap (λ (rs : List (Mark × Terms)). r ∷ rs) (more rows i (omega arith) read)
 
--- and the row stands before the first one that it comes before
+-- a row is put before the first one before which it comes
 pub place_found : (n : ℕ) (row other : Mark × Terms) (rows : List (Mark × Terms)) (i : ℕ) → i < length rows → get_or rows i other ≡ other → is_before (order_key n row.1) (order_key n other.1) ≡ true
     → put_in_order n row rows ≡ take i rows ++ put_in_order n row (drop i rows) → put_in_order n row rows ≡ insert rows i row
 place_found n row other rows i h read earlier e = e ∙ here rows i h read
@@ -83,7 +83,7 @@ place_found n row other rows i h read earlier e = e ∙ here rows i h read
     here (r ∷ rows) zero h read = ap (λ (t : Bool). if t then row ∷ r ∷ rows else r ∷ put_in_order n row rows) (ap (λ (x : Mark × Terms). is_before (order_key n row.1) (order_key n x.1)) read ∙ earlier)
     here (r ∷ rows) (suc i) h read = ap (λ (rs : List (Mark × Terms)). r ∷ rs) (here rows i (omega arith) read)
 
--- else behind all
+-- a row that comes before none is put behind all
 pub place_behind : (n : ℕ) (row : Mark × Terms) (rows : List (Mark × Terms)) (i : ℕ) → length rows ≤ i → i ≤ length rows → put_in_order n row rows ≡ take i rows ++ put_in_order n row (drop i rows)
     → put_in_order n row rows ≡ insert rows (length rows) row
 place_behind n row rows i h k e = e ∙ behind rows i h k
@@ -100,7 +100,7 @@ map-insert f [] (suc i) x = refl
 map-insert f (y ∷ xs) zero x = refl
 map-insert f (y ∷ xs) (suc i) x = ap (λ (ys : List _). f y ∷ ys) (map-insert f xs i x)
 
--- one row more in order
+-- one more row in order
 pub rates_more : (n : ℕ) (rows : List (Mark × Terms)) (i : ℕ) (row : Mark × Terms) → i < length rows → get_or rows i row ≡ row → rows_by_rates n (take (i + 1) rows) ≡ put_in_order n row (rows_by_rates n (take i rows))
 rates_more n rows i row h read =
     ap (rows_by_rates n) (take_more rows i row h ∙ ap (λ (r : Mark × Terms). take i rows ++ r ∷ []) read) ∙ fold-append (λ (sorted : List (Mark × Terms)) (r : Mark × Terms). put_in_order n r sorted) [] (take i rows) (row ∷ [])
@@ -157,7 +157,7 @@ pub row_put : (n : ℕ) (row : Bor (Mark × Terms)) (old shown new : List (Bor (
 row_put n row old shown new i same place is =
     ap rows_at is ∙ map-insert (λ (r : Bor (Mark × Terms)). r.now) old i row ∙ sym (subst (λ (rs : List (Bor (Mark × Terms))). put_in_order n row.now (rows_at rs) ≡ insert (rows_at rs) i row.now) same place)
 
--- one reference more
+-- one more reference
 pub turn_more : (rows : List (Mark × Terms)) (row : Bor (Mark × Terms)) (old new : List (Bor (Mark × Terms))) (i : ℕ) → i < length rows → row.now ≡ get_or rows i row.now → new ≡ old ++ row ∷ [] → rows_at old ≡ take i rows → rows_at new ≡ take (i + 1) rows
 turn_more rows row old new i h read is before =
     ap rows_at is ∙ map-append (λ (r : Bor (Mark × Terms)). r.now) old (row ∷ []) ∙ ap₂ (λ (xs ys : List (Mark × Terms)). xs ++ ys) before (ap (λ (r : Mark × Terms). r ∷ []) read) ∙ sym (take_more rows i row.now h)

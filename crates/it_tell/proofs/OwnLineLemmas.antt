@@ -11,8 +11,7 @@ use Rattle.it_space.specs.declared.problems.Constraint.{Constraint}
 use Rattle.it_space.specs.declared.problems.Kind.{Kind}
 use Rattle.it_space.specs.declared.problems.Kind.TheVariants.{Inequality, Equation}
 use Rattle.it_space.specs.declared.problems.Origin.{Origin}
-use Rattle.it_space.specs.declared.problems.Problem.{Problem}
-use Rattle.it_space.specs.Problems.{IsMet, IsProblem, problem_view}
+use Rattle.it_space.specs.Problems.{IsMet, IsProblem, ProblemView}
 use Rattle.it_space.specs.Answers.{CertificateView, certificate_view}
 use Rattle.it_space.specs.Answers.AnswerView.{Contained}
 use Rattle.it_space.specs.Rows.{IsOver, Terms, value}
@@ -50,23 +49,19 @@ use Rattle.it_tell.specs.declared.settings.Style.TheVariants.{Plain, Named, Whol
 
 -- ---- what Shannon's inequalities alone say
 
--- a problem without constraints
-pub free_problem : (q : BodyView) (p : Problem) → IsQuestion q → p.space ≡ space_of (problem_names q) → p.constraints.items ≡ [] → IsFreeProblem q p
+-- a space of the question's problem without constraints is a problem
+pub free_problem : (q : BodyView) (p : ProblemView) → IsQuestion q → p.space ≡ space_of (problem_names q) → p.constraints ≡ [] → IsProblem p
 free_problem q p question space none = record {
-  problem = record {
-    space = subst IsSpace (sym space) (space_is q question);
-    rows = subst (λ (cs : List Constraint). All (λ c. IsOver (size_of p.space) c.row) cs) (sym none) (All-nil (λ c. IsOver (size_of p.space) c.row));
-    few = subst (λ (cs : List Constraint). length cs ≤ 2 ^ 20) (sym none) (omega arith);
-  };
-  space = space;
-  none = none;
+  space = subst IsSpace (sym space) (space_is q question);
+  rows = subst (λ (cs : List Constraint). All (λ c. IsOver (size_of p.space) c.row) cs) (sym none) (All-nil (λ c. IsOver (size_of p.space) c.row));
+  few = subst (λ (cs : List Constraint). length cs ≤ 2 ^ 20) (sym none) (omega arith);
 }
 
 -- what a valid certificate from elemental inequalities alone proves
-pub valid_is_by_shannon : (p : Problem) (row : Terms) (w : CertificateView) (v : Verdict) → IsProblem (problem_view p) → p.constraints.items ≡ [] → IsOver (size_of p.space) row
-    → v ≡ yes_verdict (generators (problem_view p)) (size_of p.space) row w → v ≡ Valid → IsByShannon p.space.variables (value row)
+pub valid_is_by_shannon : (p : ProblemView) (row : Terms) (w : CertificateView) (v : Verdict) → IsProblem p → p.constraints ≡ [] → IsOver (size_of p.space) row
+    → v ≡ yes_verdict (generators p) (size_of p.space) row w → v ≡ Valid → IsByShannon p.space.variables (value row)
 valid_is_by_shannon p row w v posed none over is valid q k =
-    yes_is_true (problem_view p) row w posed over ((valid_yes_is (problem_view p) row w posed over).0 (sym is ∙ valid)).0 q k (subst (λ (cs : List Constraint). All (IsMet q) cs) (sym none) (All-nil (IsMet q)))
+    yes_is_true p row w posed over ((valid_yes_is p row w posed over).0 (sym is ∙ valid)).0 q k (subst (λ (cs : List Constraint). All (IsMet q) cs) (sym none) (All-nil (IsMet q)))
 
 -- such an obligation has no lines
 pub obligation_free : (q : BodyView) (options : Options) (s : Space) (row : Terms) (w : CertificateView) (old : List ℕ) → s ≡ space_of (problem_names q) → IsByShannon s.variables (value row) → AppendsObligation q options (value row, w) old old
@@ -79,7 +74,7 @@ obligation_proved q options row w old new h = (Some h.texts, (h.are, h.new_is))
 
 -- ---- the comment
 
--- the sets that stand for auxiliary variables, one more
+-- one more set that stands for an auxiliary variable
 pub sets_more : (variables names : List (List ℕ)) (sets : List ℕ) (from i : ℕ) (out mid new all : List ℕ) → from + i < length names → i < length sets
     → mid ≡ out ++ (if i == 0 then codes " with" else codes ",") → new ≡ mid ++ part_for variables (get_or names (from + i) []) (get_or sets i 0) → out ++ sets_with (i == 0) variables (drop (from + i) names) (drop i sets) ≡ all
     → new ++ sets_with (i + 1 == 0) variables (drop (from + (i + 1)) names) (drop (i + 1) sets) ≡ all
@@ -137,7 +132,7 @@ zip_front [] (y ∷ ys) = refl
 zip_front (x ∷ xs) [] = refl
 zip_front (x ∷ xs) (y ∷ ys) = ap (λ (ps : List _). (x, y) ∷ ps) (zip_front xs ys)
 
--- its comment and below it its proofs
+-- the comment of a line is appended, and below it its proofs
 pub own_line_appended : (q : BodyView) (options : Options) (parts : List ℕ) (origin : Origin) (rows : List Terms) (ws : List CertificateView) (relation below comment old mid new : List ℕ)
     → SaysOrNothing (problem_names q) (map value rows) relation → AppendsOwnProofs q options rows ws [] below → comment ≡ own_line_comment q parts origin relation (length below == 0) → mid ≡ old ++ indented_line comment
     → new ≡ mid ++ below → AppendsOwnLine q options parts origin rows ws old new
@@ -247,7 +242,7 @@ pub lines_go_on : (q : BodyView) (options : Options) (parts : List ℕ) (own : L
 lines_go_on q options parts own i c rows proofs old now new h read first later =
     subst (λ (cs : List Constraint). AppendsEachOwnLine q options parts cs rows (map certificate_view proofs) old new) (sym (rest_from own i c h read)) (line_more q options parts c (drop (i + 1) own) rows proofs old now new first later)
 
--- the same where a call has split the rows and the proofs
+-- `lines_go_on` where a call has split the rows and the proofs
 pub lines_after : (q : BodyView) (options : Options) (parts : List ℕ) (own : List Constraint) (i : ℕ) (c : Constraint) (rows front back : List Terms) (proofs proofs_front proofs_back : List Certificate) (count : ℕ) (old now new : List ℕ)
     → i < length own → c ≡ get_or own i c → count ≡ obliged c.kind → front ≡ take count rows → back ≡ drop count rows → proofs_front ≡ take count proofs → proofs_back ≡ drop count proofs
     → AppendsOwnLine q options parts c.origin front (map certificate_view proofs_front) old now → AppendsEachOwnLine q options parts (drop (i + 1) own) back (map certificate_view proofs_back) now new
@@ -257,11 +252,11 @@ lines_after q options parts own i c rows front back proofs proofs_front proofs_b
     (subst₂ (λ (rs : List Terms) (ps : List Certificate). AppendsOwnLine q options parts c.origin rs (map certificate_view ps) old now) (f ∙ ap (λ (k : ℕ). take k rows) e) (pf ∙ ap (λ (k : ℕ). take k proofs) e) first)
     (subst₂ (λ (rs : List Terms) (ps : List Certificate). AppendsEachOwnLine q options parts (drop (i + 1) own) rs (map certificate_view ps) now new) (b ∙ ap (λ (k : ℕ). drop k rows) e) (pb ∙ ap (λ (k : ℕ). drop k proofs) e) later)
 
--- what the constraints from a place on oblige to
+-- the obligations of the constraints from a place on
 pub obligations_go_on : (own : List Constraint) (i : ℕ) (c : Constraint) (count : ℕ) → i < length own → c ≡ get_or own i c → HasObligations (drop i own) count → (obliged c.kind ≤ count) × HasObligations (drop (i + 1) own) (count - obliged c.kind)
 obligations_go_on own i c count h read all = subst (λ (cs : List Constraint). HasObligations cs count) (rest_from own i c h read) all
 
--- what the constraints oblige to
+-- the obligations of the constraints
 obligations_there : (s t : Space) (f : ℕ → ℕ) (ds : List Demand) (cs : List Constraint) (rows : List Terms) → AllZip (States s) ds cs → ArePulledRows t (demand_obligations f ds) rows → HasObligations cs (length rows)
 obligations_there s t f [] [] [] a b = refl
 obligations_there s t f [] [] (row ∷ rows) a b = absurd b
@@ -308,7 +303,7 @@ module _ (q : BodyView) (parts : List ℕ) (ws : List CertificateView) (cs : Lis
       by_style Whole e = by_verb q.verb own are
 
 -- the obligations' rows are over the coordinates of the problem without constraints
-pub rows_over : (q : BodyView) (free : Problem) (parts : List ℕ) (ws : List CertificateView) (rows : List Terms) → IsFreeProblem q free → AreObligations q (Contained parts ws) rows → All (IsOver (size_of free.space)) rows
+pub rows_over : (q : BodyView) (free : ProblemView) (parts : List ℕ) (ws : List CertificateView) (rows : List Terms) → IsFreeProblem q free → AreObligations q (Contained parts ws) rows → All (IsOver (size_of free.space)) rows
 rows_over q free parts ws rows is are =
     subst (λ (s : Space). All (IsOver (size_of s)) rows) (sym is.space)
     (zip-right (IsPulledRow (space_of (problem_names q))) (IsOver (size_of (space_of (problem_names q)))) (λ f row pulled. pulled.coordinates) (answer_forms_by q q.verb (Contained parts ws)) rows are)

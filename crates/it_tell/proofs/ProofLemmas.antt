@@ -38,28 +38,28 @@ row_at_place s (f ∷ fs) (t ∷ ts) zero z h = z.0
 row_at_place s (f ∷ fs) (t ∷ ts) (suc i) z h = row_at_place s fs ts i z.1 (omega arith)
 
 -- what tells a proof of a form's row tells one of the form
-form_told : (q : BodyView) (style : Style) (s : Space) (f : Form) (row : Terms) (w : CertificateView) (text : List ℕ) → IsPulledRow s f row → IsProofText q style (value row, w) text
-    → IsProofText q style (f, w) text
+form_told : (q : BodyView) (s : Space) (f : Form) (row : Terms) (w : CertificateView) (text : List ℕ) → IsPulledRow s f row → IsProofText q (value row, w) text → IsProofText q (f, w) text
 unfolding IsProofText
-form_told q style s f row w text pulled (inl h) = let g = constraints_of (question_demands q) in inl (record {
+form_told q s f row w text pulled (inl h) = let g = constraints_of (question_demands q) in inl (record {
   relation = h.relation;
   is = h.is;
   proves = proof_of_same (variable_count q) h.relation (value row) f g g pulled.same (same_constraints g) h.proves;
 })
-form_told q style s f row w text pulled (inr (inl h)) = inr (inl (record {
-  lines = h.lines;
-  named = h.named;
-  proof = h.proof;
-  tells = under_of_same_target q h.lines h.named (value row) f h.proof pulled.same h.tells;
-  names = h.names;
-  is = h.is;
-}))
-form_told q style s f row w text pulled (inr (inr e)) = inr (inr e)
+form_told q s f row w text pulled (inr e) = inr e
 
 -- texts of a proof of a form's row are texts of one of the form
-texts_carried : (q : BodyView) (options : Options) (s : Space) (f : Form) (row : Terms) (w : CertificateView) (t : ProofTexts) → IsPulledRow s f row → AreProofTexts q options (value row, w) t → AreProofTexts q options (f, w) t
+pub texts_carried : (q : BodyView) (options : Options) (s : Space) (f : Form) (row : Terms) (w : CertificateView) (t : ProofTexts) → IsPulledRow s f row → AreProofTexts q options (value row, w) t → AreProofTexts q options (f, w) t
 unfolding AreProofTexts
-texts_carried q options s f row w t pulled are = (form_told q options.style s f row w t.proof pulled are.0, are.1)
+texts_carried q options s f row w t pulled (inl h) = inl (record {
+  lines = h.lines;
+  named = h.named;
+  own = h.own;
+  tells = under_of_same_target q h.lines h.named (value row) f h.own pulled.same h.tells;
+  names = h.names;
+  proof_is = h.proof_is;
+  steps_are = h.steps_are;
+})
+texts_carried q options s f row w t pulled (inr are) = inr (form_told q s f row w t.proof pulled are.0, are.1)
 
 -- what Shannon's inequalities say of a form's row, they say of the form
 obligation_carried : (q : BodyView) (options : Options) (s : Space) (f : Form) (row : Terms) (w : CertificateView) (t : Option ProofTexts) → IsPulledRow s f row → TellsObligation q options (value row, w) t → TellsObligation q options (f, w) t
@@ -131,7 +131,7 @@ all_proofs q options = all_rows proof_lines (AreProofTexts q options) (texts_car
 
 -- ---- obligations
 
--- those of the first i obligations are, without those that Shannon's inequalities say
+-- the lines of the first i obligations are appended, without those that Shannon's inequalities say
 abbrev pub ObligationsAppended : BodyView → Options → List Terms → List CertificateView → List ℕ → List ℕ → ℕ → Type 0
 ObligationsAppended q options rows ws old new i = (forms : List Form) → AreRowsFor forms rows → Appended obligation_lines (TellsObligation q options) old new (zip forms ws) i
 

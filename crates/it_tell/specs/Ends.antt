@@ -50,7 +50,7 @@ AsksToTell r options = settings_of r.words ≡ Some (Tell options)
 abbrev pub HasNone : Call → Type 0
 HasNone r = settings_of r.words ≡ None
 
--- the source gave these bytes and no more, and they are few enough
+-- the source gave these bytes and no more, and they are at most `most_bytes`
 abbrev pub IsReport : Call → List ℕ → Type 0
 IsReport r bytes = IsTaken r (Some most_bytes) bytes
 
@@ -68,7 +68,7 @@ pub record HasTold (r : Call) (status : Status) : Type 0 where
   pub output : WholeOutput (tell_mode options) bytes out status
   pub wrote : Wrote r out
 
--- of the first lines, each whole
+-- the sink took what is told of the first lines, each whole
 pub record HasToldFirst (r : Call) : Type 0 where
   pub options : Options
   pub asked : AsksToTell r options
@@ -78,7 +78,7 @@ pub record HasToldFirst (r : Call) : Type 0 where
   pub output : (later : List (tell_mode options).Item) × FirstOutput (tell_mode options) later bytes out
   pub wrote : Wrote r out
 
--- of the first lines, and a prefix of what is told of the next one
+-- the sink took what is told of the first lines, and a prefix of what is told of the next one
 pub record HasToldInPart (r : Call) : Type 0 where
   pub options : Options
   pub asked : AsksToTell r options
@@ -93,7 +93,8 @@ pub record IsShowing (r : Call) (text : List ℕ) : Type 0 where
   pub asked : AsksForText r text
   pub unread : IsUntouched r
 
--- By the status. Each case says which calls of source and sink failed, all of its cause and all that the sink took.
+-- How a call ends, by its status. Each case says which calls of source and sink failed, its whole cause, and all that the sink
+-- took.
 abbrev pub Ends : Call → Status → Type 0
 Ends r Done = IsFaultless r × (HasTold r Done ⊎ ((text : List ℕ) × (IsShowing r text × Wrote r text)))
 Ends r Invalid = IsFaultless r × HasTold r Invalid

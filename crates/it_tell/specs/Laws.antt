@@ -24,11 +24,11 @@ Headline = (r : Call) (options : Options) (s : Status) (bytes old new : List ℕ
 abbrev pub EachLineIsTold : Type 0
 EachLineIsTold = (options : Options) (line : List ℕ) → (telling : Telling) × IsTelling options line telling
 
--- What an answer claims that is told is true.
+-- What a told answer claims is true.
 abbrev pub ToldAnswersAreTrue : Type 0
 ToldAnswersAreTrue = (options : Options) (line : List ℕ) (source : Source) (answer : AnswerView) (details : List ℕ) → IsTelling options line (Answered source answer details) → IsClaimTrue (asked source).body answer
 
--- And of a no with a code that is told, the relation fails at the entropies of the code's variables.
+-- Where a no with a code is told, its relation fails at the entropies of the code's variables, as many times as the line says.
 abbrev pub ToldCodesAreTrue : Type 0
 ToldCodesAreTrue = (options : Options) (line : List ℕ) (source : Source) (back : Bool) (values : List ℤ) (code : ReportedCodeView) (details : List ℕ) → IsTelling options line (Coded source (No back values) code details)
     → IsClaimTrue (asked source).body (No back values) × AreEntropies code.code code.times values

@@ -1,4 +1,4 @@
--- The lines of a containment's second region, by what each obliges to where sets stand for the region's auxiliary variables.
+-- The lines of a containment's second region, by their obligations where sets stand for the region's auxiliary variables.
 use Rattle.std.specs.Prelude.{ℕ, List, [], ◌∷◌, ◌++◌, length, take, drop, codes, ◌==◌, Bool, true, false, if◌then◌else◌}
 use Rattle.it_space.specs.Answers.{CertificateView}
 use Rattle.it_space.specs.declared.problems.Origin.{Origin}
@@ -12,7 +12,8 @@ use Rattle.it_print.specs.Lines.{auxiliary_names, origin_text, part_for, variabl
 use Rattle.it_region.specs.Obligations.{pulled_form}
 use Rattle.it_region.specs.Pulling.{pulled_coordinate, substituted_sets}
 
--- a line, or a part of one, by its number among the region's own; the forms that it obliges to, two for an equation; and their proofs
+-- a line, or a part of one, by its number among the region's own; the forms of its obligations, two for an equation; and their
+-- proofs
 pub record OwnLine : Type 0 where
   pub origin : Origin
   pub forms : List Form
@@ -22,16 +23,16 @@ pub record OwnLine : Type 0 where
 abbrev pub own_line : Origin → List Form → List CertificateView → OwnLine
 own_line origin forms ws = record { origin = origin; forms = forms; proofs = take (length forms) ws }
 
--- what a demand obliges to where each coordinate c of the second region stands for coordinate f c of the first
+-- the forms of a demand's obligations where each coordinate c of the second region stands for coordinate f c of the first
 abbrev pub demanded_forms : (ℕ → ℕ) → Demand → List Form
 demanded_forms f d = inequalities_of d.kind (pulled_form f d.form)
 
--- the lines in order, with the proofs of what all oblige to, one after the other
+-- the lines in order, with the proofs of all obligations, one after the other
 abbrev pub own_lines_by : (ℕ → ℕ) → List Origin → List Demand → List CertificateView → List OwnLine
 own_lines_by f (o ∷ os) (d ∷ ds) ws = own_line o (demanded_forms f d) ws ∷ own_lines_by f os ds (drop (length (demanded_forms f d)) ws)
 own_lines_by f os ds ws = []
 
--- those of a verb's second region, where the question's variables stay and each auxiliary variable stands for a part
+-- the lines of a verb's second region, where the question's variables stay and each auxiliary variable stands for a part
 abbrev pub verb_lines : BodyView → VerbView → List ℕ → List CertificateView → List OwnLine
 verb_lines q (Contain a b tries) parts ws =
     own_lines_by (pulled_coordinate (length a.names.variables) (length b.names.variables) (substituted_sets (length q.names.variables) parts))

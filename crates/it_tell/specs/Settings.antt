@@ -7,13 +7,13 @@ use Rattle.it_tell.specs.declared.settings.Style.{Style}
 use Rattle.it_tell.specs.declared.settings.Style.TheVariants.{Plain, Named, Whole}
 use Rattle.it_tell.specs.declared.settings.Settings.TheVariants.{Tell, Help, Version}
 
--- whether no style is asked for
+-- whether the style is the plain one, for which no word asks
 abbrev pub is_plain : Style → Bool
 is_plain Plain = true
 is_plain Named = false
 is_plain Whole = false
 
--- with this word, where it is an option that isn't there yet; of two styles one at most is asked for
+-- the options with the one that `word` adds; None where it is no option, or is there already, or is a second style
 unfoldable pub with_word : Options → List ℕ → Option Options
 with_word o word =
     if bytes_eq word (codes "--steps") && not o.steps then Some (record { steps = true; short = o.short; style = o.style }) else
@@ -21,16 +21,16 @@ with_word o word =
     if bytes_eq word (codes "--named") && is_plain o.style then Some (record { steps = o.steps; short = o.short; style = Named }) else
     if bytes_eq word (codes "--whole") && is_plain o.style then Some (record { steps = o.steps; short = o.short; style = Whole }) else None
 
--- with these words, one after the other
+-- the options with those that the words add, one after the other
 abbrev pub with_words : Options → List (List ℕ) → Option Options
 with_words o [] = Some o
 with_words o (word ∷ words) = option_and_then (λ p. with_words p words) (with_word o word)
 
--- without words
+-- the options where there are no words
 abbrev pub no_options : Options
 no_options = record { steps = false; short = false; style = Plain }
 
--- what one word asks for that stands alone
+-- what `word` asks for where it is the only word
 unfoldable pub alone : List ℕ → Option Settings
 alone word =
     if bytes_eq word (codes "--help") then Some Help else

@@ -7,8 +7,7 @@ use Rattle.it_space.specs.Rows.{Terms, value}
 use Rattle.it_region.specs.Obligations.{ArePulledRows, demand_obligations}
 use Rattle.it_space.specs.declared.problems.Constraint.{Constraint}
 use Rattle.it_space.specs.declared.problems.Kind.{Kind}
-use Rattle.it_space.specs.declared.problems.Problem.{Problem}
-use Rattle.it_space.specs.Problems.{IsProblem, problem_view}
+use Rattle.it_space.specs.Problems.{ProblemView}
 use Rattle.it_space.specs.declared.problems.Kind.TheVariants.{Inequality, Equation}
 use Rattle.it_space.specs.declared.problems.Origin.{Origin}
 use Rattle.it_demand.specs.Demands.{Demand}
@@ -45,7 +44,7 @@ use Rattle.it_tell.specs.declared.settings.Style.TheVariants.{Plain, Named, Whol
 use Rattle.it_tell.specs.Settings.{settings_of}
 use Rattle.it_tell.specs.Ends.{Ends}
 
--- the text has the lines about line k, and `invalid` tells whether they say so
+-- the text has the lines about line `k`, and `invalid` says whether they say so
 pub record IsToldLine (options : Options) (k : ℕ) (line text : List ℕ) (invalid : Bool) : Type 0 where
   pub telling : Telling
   pub is : IsTelling options line telling
@@ -133,17 +132,16 @@ abbrev pub AreOwnConstraints : BodyView → List Constraint → Type 0
 AreOwnConstraints q cs = AreOwnConstraintsBy q.verb cs
 
 -- the problem has the coordinates of the question's and no constraints
-pub record IsFreeProblem (q : BodyView) (p : Problem) : Type 0 where
-  pub problem : IsProblem (problem_view p)
+pub record IsFreeProblem (q : BodyView) (p : ProblemView) : Type 0 where
   pub space : p.space ≡ space_of (problem_names q)
-  pub none : p.constraints.items ≡ []
+  pub none : p.constraints ≡ []
 
--- how many forms a constraint of this kind obliges to
+-- the number of obligations of a constraint of this kind
 abbrev pub obliged : Kind → ℕ
 obliged Inequality = 1
 obliged Equation = 2
 
--- the constraints oblige to so many forms in all
+-- the constraints have `count` obligations in all
 abbrev pub HasObligations : List Constraint → ℕ → Type 0
 HasObligations [] count = count ≡ 0
 HasObligations (c ∷ cs) count = (obliged c.kind ≤ count) × HasObligations cs (count - obliged c.kind)
@@ -157,15 +155,15 @@ unfoldable pub AppendsOwnLine : BodyView → Options → List ℕ → Origin →
 AppendsOwnLine q options parts origin rows ws old new =
     (forms : List Form) → AreRowsFor forms rows → (out : List ℕ) × (AreOwnLineTexts q options parts (own_line origin forms ws) out × (new ≡ old ++ out))
 
--- the lines of what a line of the second region obliges to were appended, whichever forms the rows are of
+-- the lines of the obligations of a line of the second region were appended, whichever forms the rows are of
 unfoldable pub AppendsOwnProofs : BodyView → Options → List Terms → List CertificateView → List ℕ → List ℕ → Type 0
 AppendsOwnProofs q options rows ws old new = (forms : List Form) → AreRowsFor forms rows → AppendsEach obligation_lines (TellsObligation q options) (zip forms ws) old new
 
--- those of one obligation
+-- the lines of one obligation were appended
 unfoldable pub AppendsObligation : BodyView → Options → Form × CertificateView → List ℕ → List ℕ → Type 0
 AppendsObligation q options proof old new = (texts : Option ProofTexts) × (TellsObligation q options proof texts × (new ≡ old ++ obligation_lines texts))
 
--- the lines about all of them, whichever demands the constraints state and the rows are of
+-- the lines about all lines of the second region were appended, whichever demands the constraints state and the rows are of
 unfoldable pub AppendsEachOwnLine : BodyView → Options → List ℕ → List Constraint → List Terms → List CertificateView → List ℕ → List ℕ → Type 0
 AppendsEachOwnLine q options parts cs rows ws old new =
     (s t : Space) (f : ℕ → ℕ) (os : List Origin) (ds : List Demand) → AreStated s os ds cs → ArePulledRows t (demand_obligations f ds) rows
@@ -177,8 +175,8 @@ EndsForTelling left read_faults taken write_faults options source source_after s
     (words : List (Bor (List ℕ))) → settings_of (map (λ w. w.now) words) ≡ Some (Tell options)
     → Ends (call_of left read_faults taken write_faults words [] source source_after sink sink_after) s
 
--- a proof in a style where functions hold, with the comment behind it
-abbrev pub IsStyledText : Style → List ℕ → List ℕ → List ℕ → List ℕ → Type 0
-IsStyledText Plain named whole by text = ⊥
-IsStyledText Named named whole by text = text ≡ named ++ by
-IsStyledText Whole named whole by text = text ≡ whole ++ by
+-- a proof in a style, and the weights of the constraints that it names: all of them, or none where it is whole
+abbrev pub IsStyled : Style → List (ℕ × ℤ) → List ℕ → List ℕ → List (ℕ × ℤ) → List ℕ → Type 0
+IsStyled Plain named text whole own_named own = ⊥
+IsStyled Named named text whole own_named own = (own_named ≡ named) × (own ≡ text)
+IsStyled Whole named text whole own_named own = (own_named ≡ []) × (own ≡ whole)

@@ -1,6 +1,7 @@
--- What is told of a line of a report: the verdict's own line where that is invalid, else the first line of its answer and below it, line by
--- line, the answer's rows, its proofs, with their steps where these are asked for, or its point with the code that it is of. Where proofs are
--- asked for in which functions hold, rows stand in order, and what a containment obliges to stands under the line of the second region that does.
+-- What is told of a line of a report: the verdict's own line where that is invalid, else the first line of its answer and below
+-- it, line by line, the answer's rows, its proofs, with their steps where these are asked for, or its point, with its code if
+-- it has one. Where the style isn't plain, rows are sorted, and a containment's obligations stand under their lines of the
+-- second region.
 use Rattle.std.specs.Prelude.{◌≡◌, ℕ, ℤ, List, [], ◌++◌, length, Bool, true, false, ◌⊎◌, Ok, codes, decimal, pos, ◌≤ℤ◌, if◌then◌else◌, ◌==◌, Option, Some, None}
 use Rattle.std.specs.Fmt.{signed_decimal}
 use Rattle.std.specs.List.{flat_map, zip}
@@ -31,6 +32,7 @@ use Rattle.it_terms.specs.Proofs.{TellsForm}
 use Rattle.it_terms.specs.FunctionProofs.{TellsFormUnder, by_comment}
 use Rattle.it_facts.specs.Points.{TellsPoint}
 use Rattle.it_terms.specs.ProofSteps.{TellsSteps}
+use Rattle.it_terms.specs.StepsUnder.{TellsStepsUnder}
 use Rattle.it_report.specs.Judging.{IsVerdict}
 use Rattle.it_rates.specs.Asked.{under_all_lines}
 use Rattle.it_region.specs.AnswerForms.{answer_forms}
@@ -47,7 +49,7 @@ use Rattle.it_tell.specs.declared.settings.Style.TheVariants.{Plain, Named, Whol
 
 -- ---- the lines below an answer's first one
 
--- a text as such a line
+-- a text as a line below an answer's first one
 unfoldable pub indented_line : List ℕ → List ℕ
 indented_line text = codes "  " ++ text ++ codes "\n"
 
@@ -55,11 +57,12 @@ indented_line text = codes "  " ++ text ++ codes "\n"
 unfoldable pub step_line : List ℕ → List ℕ
 step_line text = codes "    " ++ text ++ codes "\n"
 
--- of each item in order what tells it, as it is shown
+-- `out` is, item by item in order, what tells the item, as `shown` shows it
 abbrev pub Each : {X A : Type 0} → (A → List ℕ) → (X → A → Type 0) → List X → List ℕ → Type 0
 Each {X} {A} shown tells items out = Groups (λ (s : Unit {0}) (x : X) (a : A). tells x a) (λ (s : Unit {0}) (x : X) (a : A). s) (λ (k : ℕ) (x : X) (a : A). shown a) 1 tt items tt out
 
--- a row told in the terms of an equal one where the functions hold that these lines of the question say; plain ones aren't
+-- a row told by one that is equal to it where the functions hold that these lines of the question say; never where the style is
+-- plain
 abbrev pub IsStyledRow : BodyView → Style → Terms → List ℕ → List ℕ → Type 0
 IsStyledRow q style row lines text = (is_plain style ≡ false) × IsPrintedRow q row lines text
 
@@ -67,7 +70,7 @@ IsStyledRow q style row lines text = (is_plain style ≡ false) × IsPrintedRow 
 abbrev pub IsPlainRow : BodyView → Terms → List ℕ → Type 0
 IsPlainRow q row text = TellsRow (problem_names q) row text ⊎ (text ≡ codes "as row " ++ row_text (problem_names q) Inequality row)
 
--- a row by lines whose functions hold, or without any
+-- a row told where the functions of these lines hold, or without lines
 unfoldable pub IsRowText : BodyView → Style → Terms → List ℕ → List ℕ → Type 0
 IsRowText q style row lines text = IsStyledRow q style row lines text ⊎ ((lines ≡ []) × IsPlainRow q row text)
 
@@ -75,7 +78,7 @@ IsRowText q style row lines text = IsStyledRow q style row lines text ⊎ ((line
 abbrev pub IsRowOrigin : BodyView → Style → Terms → List (ℕ × ℤ) → Type 0
 IsRowOrigin q style row weights = (weights ≡ []) ⊎ ((is_plain style ≡ false) × ComesFrom q row weights)
 
--- what is said of a row that isn't known to be needed, as a comment
+-- the comment that gives a row's mark, nothing where the row is needed
 abbrev pub mark_comment : Mark → List ℕ
 mark_comment Plain = codes "  # plain"
 mark_comment Needed = []
@@ -90,7 +93,7 @@ pub record IsMarkedRowText (q : BodyView) (style : Style) (row : Mark × Terms) 
   pub origin : IsRowOrigin q style row.1 weights
   pub is : text ≡ own ++ row_comment (question_origins (under_all_lines q)) weights lines ++ mark_comment row.0
 
--- the rows of a region in the order in which they are told: plain ones as they are
+-- the rows of a region in the order in which they are told: their own where the style is plain
 abbrev pub told_rows : Style → ℕ → List (Mark × Terms) → List (Mark × Terms)
 told_rows style n rows = if is_plain style then rows else rows_by_rates n rows
 
@@ -104,18 +107,9 @@ MayName Plain named = ⊥
 MayName Named named = Unit {0}
 MayName Whole named = named ≡ []
 
--- a proof of a form where functions hold, and behind it the lines that say these
-pub record IsPrintedProof (q : BodyView) (style : Style) (target : Form) (text : List ℕ) : Type 0 where
-  pub lines : List ℕ
-  pub named : List (ℕ × ℤ)
-  pub proof : List ℕ
-  pub tells : TellsFormUnder q lines named target proof
-  pub names : MayName style named
-  pub is : text ≡ proof ++ by_comment (question_origins q) lines
-
--- a proof of a form in the question's own terms, true of every map or where functions hold, or the weights as answers have them
-unfoldable pub IsProofText : BodyView → Style → Form × CertificateView → List ℕ → Type 0
-IsProofText q style proof text = TellsForm q proof.0 text ⊎ (IsPrintedProof q style proof.0 text ⊎ (text ≡ weights_text q (question_origins q) proof.1))
+-- a proof of a form in the question's own terms, true of every map, or the weights as answers have them
+unfoldable pub IsProofText : BodyView → Form × CertificateView → List ℕ → Type 0
+IsProofText q proof text = TellsForm q proof.0 text ⊎ (text ≡ weights_text q (question_origins q) proof.1)
 
 -- a point by facts that determine it, or its values as answers have them and said to be that
 unfoldable pub IsPointText : NamesView → List ℤ → List ℕ → Type 0
@@ -126,7 +120,7 @@ pub record ProofTexts : Type 0 where
   pub proof : List ℕ
   pub steps : List (List ℕ)
 
--- these as lines
+-- the lines of a proof and its steps
 unfoldable pub proof_lines : ProofTexts → List ℕ
 proof_lines t = indented_line t.proof ++ flat_map step_line t.steps
 
@@ -134,11 +128,26 @@ proof_lines t = indented_line t.proof ++ flat_map step_line t.steps
 abbrev pub AreProofSteps : BodyView → Options → List ℕ → List (List ℕ) → Type 0
 AreProofSteps q options proof steps = (steps ≡ []) ⊎ ((options.steps ≡ true) × TellsSteps (problem_names q) proof steps)
 
--- texts of a proof: without steps, or with them
-unfoldable pub AreProofTexts : BodyView → Options → Form × CertificateView → ProofTexts → Type 0
-AreProofTexts q options proof t = IsProofText q options.style proof t.proof × AreProofSteps q options t.proof t.steps
+-- no steps, or, where steps are asked for, those of a proof where the functions hold that `lines` say
+abbrev pub ArePrintedSteps : BodyView → Options → List ℕ → List (ℕ × ℤ) → List ℕ → List (List ℕ) → Type 0
+ArePrintedSteps q options lines named proof steps = (steps ≡ []) ⊎ ((options.steps ≡ true) × TellsStepsUnder q lines named proof steps)
 
--- Shannon's inequalities alone say that the form is at least 0: it is so at each polymatroid of n variables.
+-- a proof of a form where functions hold, and behind it the lines that say these; without steps, or where they are asked for
+-- with its steps where these functions hold
+pub record ArePrintedTexts (q : BodyView) (options : Options) (target : Form) (t : ProofTexts) : Type 0 where
+  pub lines : List ℕ
+  pub named : List (ℕ × ℤ)
+  pub own : List ℕ
+  pub tells : TellsFormUnder q lines named target own
+  pub names : MayName options.style named
+  pub proof_is : t.proof ≡ own ++ by_comment (question_origins q) lines
+  pub steps_are : ArePrintedSteps q options lines named own t.steps
+
+-- texts of a proof: where functions hold, or of every map; without steps, or with them
+unfoldable pub AreProofTexts : BodyView → Options → Form × CertificateView → ProofTexts → Type 0
+AreProofTexts q options proof t = ArePrintedTexts q options proof.0 t ⊎ (IsProofText q proof t.proof × AreProofSteps q options t.proof t.steps)
+
+-- Shannon's inequalities alone say that the form is at least 0: it is at least 0 at each polymatroid of `n` variables.
 abbrev pub IsByShannon : ℕ → Form → Type 0
 IsByShannon n form = (p : ℕ → ℤ) → IsPolymatroid n p → pos 0 ≤ℤ form p
 
@@ -147,13 +156,13 @@ abbrev pub TellsObligation : BodyView → Options → Form × CertificateView �
 TellsObligation q options proof None = IsByShannon (variable_count q) proof.0
 TellsObligation q options proof (Some texts) = AreProofTexts q options proof texts
 
--- its lines
+-- the lines of an obligation
 abbrev pub obligation_lines : Option ProofTexts → List ℕ
 obligation_lines None = []
 obligation_lines (Some texts) = proof_lines texts
 
--- A line of the second region with sets put in for its auxiliary variables, as a relation that says what it obliges to or without one, and
--- below it how that is proved. Where nothing stands below it, it says that Shannon's inequalities are enough.
+-- A line of the second region with sets substituted for its auxiliary variables, as a relation that says its obligations or
+-- without one, and below it the proofs of these. Where nothing stands below it, it says that Shannon's inequalities are enough.
 pub record AreOwnLineTexts (q : BodyView) (options : Options) (parts : List ℕ) (line : OwnLine) (out : List ℕ) : Type 0 where
   pub relation : List ℕ
   pub proofs : List ℕ
@@ -178,7 +187,7 @@ AreDetails q options (Open tried) out = out ≡ []
 
 -- ---- the first line
 
--- that of an answer of `itip answer`, without proofs, values and rows
+-- the first line of an answer in `itip answer`, without proofs, values and rows
 unfoldable pub head_line : ℕ → BodyView → AnswerView → List ℕ
 head_line k q (Yes proofs) = numbered_line k (codes "yes")
 head_line k q (No back values) = numbered_line k (codes "no")
@@ -189,9 +198,14 @@ head_line k q (Open tried) = open_line k tried
 
 -- ---- a line of a report
 
--- that it is invalid, with this verdict; its answer to the question that is asked, with these lines below the first one; a no with these
--- and its code; a region with these, of which origins are not told; its outer bound;
--- or that a question can't have what is asked for
+-- what is told of a line of a report
+-- `Invalid`: that it is invalid, with this verdict
+-- `Answered`: its answer to the question that is asked, with these lines below the first one
+-- `Coded`: its no, with these lines and its code
+-- `Derived`: its region, with these lines; its origins aren't told
+-- `Factored`: what is found of factors
+-- `Bounded`: its outer bound
+-- `Misfit`: that a question can't have what is asked for
 pub data Telling : Type 0 where
   Invalid : (verdict : LineVerdict) → Telling
   Answered : (source : Source) (answer : AnswerView) (details : List ℕ) → Telling
@@ -201,7 +215,7 @@ pub data Telling : Type 0 where
   Bounded : (source : Source) (bounds : BoundsView) → Telling
   Misfit : Telling
 
--- the line reads as this answer to this, and its verdict isn't an invalid one
+-- the line reads as this answer to what `source` asks, and its verdict isn't an invalid one
 pub record IsAccepted (line : List ℕ) (source : Source) (answer : AnswerView) : Type 0 where
   pub verdict : LineVerdict
   pub is : IsVerdict line verdict
@@ -222,7 +236,7 @@ pub record IsAcceptedRegion (line : List ℕ) (source : Source) (answer : Answer
   pub accepted : is_invalid verdict ≡ false
   pub reads : ReadsReport line (Ok (reports.Derived source answer origins))
 
--- the line reads as this of the factors that this asks for, and its verdict isn't an invalid one
+-- the line reads as what is found of the factors for which `source` asks, and its verdict isn't an invalid one
 pub record IsAcceptedBest (line : List ℕ) (source : Source) (best : BestView) : Type 0 where
   pub verdict : LineVerdict
   pub is : IsVerdict line verdict
@@ -240,18 +254,18 @@ best_words (Never values) = codes "none"
 best_words (Unbounded num den proof below) = factor_words (codes "unbounded") num den
 best_words (bests.Undecided cause) = codes "undecided"
 
--- the line reads as this outer bound of that, and its verdict isn't an invalid one
+-- the line reads as this outer bound of what `source` asks about, and its verdict isn't an invalid one
 pub record IsAcceptedBound (line : List ℕ) (source : Source) (bounds : BoundsView) : Type 0 where
   pub verdict : LineVerdict
   pub is : IsVerdict line verdict
   pub accepted : is_invalid verdict ≡ false
   pub reads : ReadsReport line (Ok (reports.Bounded source bounds))
 
--- how many rows and rays an outer bound has
+-- the numbers of rows and rays of an outer bound
 unfoldable pub bounds_words : BoundsView → List ℕ
 bounds_words b = codes "outer " ++ decimal (length b.rows) ++ codes " " ++ decimal (length b.steps)
 
--- this may be told of the line, where steps of proofs are asked for or not
+-- this may be told of the line under these options
 abbrev pub IsTelling : Options → List ℕ → Telling → Type 0
 IsTelling options line (Invalid v) = IsVerdict line v × (is_invalid v ≡ true)
 IsTelling options line (Answered source answer details) = IsAccepted line source answer × AreDetails (asked source).body options answer details
@@ -261,7 +275,7 @@ IsTelling options line (Factored source best) = IsAcceptedBest line source best
 IsTelling options line (Bounded source bounds) = IsAcceptedBound line source bounds
 IsTelling options line Misfit = ReadsReport line (Ok reports.Misfit)
 
--- whether it is told to be invalid
+-- whether the line is told to be invalid
 abbrev pub tells_invalid : Telling → Bool
 tells_invalid (Invalid v) = true
 tells_invalid (Answered source answer details) = false

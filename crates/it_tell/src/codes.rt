@@ -11,7 +11,7 @@ use it_print::write_number;
 use it_syntax::Names;
 use std::alloc::{AllocError, Global};
 
-/// A separator, where something stands before.
+/// Writes `separator` if `some`.
 fn write_between(out: &mut Vec<u8>, some: bool, separator: &[u8]) -> Result<(), AllocError>
     ensures { OnOk result (out.new.items ≡ out.old.items ++ (if some then separator.now else [])) }
 {
@@ -21,7 +21,7 @@ fn write_between(out: &mut Vec<u8>, some: bool, separator: &[u8]) -> Result<(), 
     Ok(())
 }
 
-/// Symbol number i with its coefficient.
+/// Writes symbol `i` with its coefficient, which is left out if it is 1.
 #[tactic(auto, unfolding(crate::specs::CodeTexts::symbol_text))]
 fn write_symbol(out: &mut Vec<u8>, i: usize, coefficient: u8) -> Result<(), AllocError>
     ensures { OnOk result (out.new.items ≡ out.old.items ++ symbol_text i coefficient) }
@@ -34,7 +34,8 @@ fn write_symbol(out: &mut Vec<u8>, i: usize, coefficient: u8) -> Result<(), Allo
     write_number(out, i)
 }
 
-/// The same after ` + ` where something stands before, unless the coefficient is 0. Answers whether something stands now.
+/// Writes symbol `i` with its coefficient, after ` + ` if `some`; nothing if the coefficient is 0. Returns whether anything is
+/// written by now.
 fn write_term(out: &mut Vec<u8>, some: bool, i: usize, coefficient: u8) -> Result<bool, AllocError>
     ensures written { OnOk result (out.new.items ≡ out.old.items ++ joined_texts (codes " + ") some (if not (coefficient == 0) then symbol_text i coefficient ∷ [] else [])) }
     ensures now { IfOk result (λ b. b ≡ (some || not (coefficient == 0))) }
@@ -47,7 +48,7 @@ fn write_term(out: &mut Vec<u8>, some: bool, i: usize, coefficient: u8) -> Resul
     Ok(true)
 }
 
-/// A function by its coefficients.
+/// The text of a function by its coefficients.
 #[tactic(auto, using(crate::proofs::CodeLemmas::function_begins, crate::proofs::CodeLemmas::term_step))]
 fn function_text(alloc: Global, coefficients: &[u8]) -> Result<Vec<u8>, AllocError>
     ensures { IfOk result (λ t. t.items ≡ function_text coefficients.now) }
@@ -63,7 +64,7 @@ fn function_text(alloc: Global, coefficients: &[u8]) -> Result<Vec<u8>, AllocErr
     Ok(out)
 }
 
-/// A function, after `, ` where something stands before.
+/// Writes a function, after `, ` if `some`.
 fn write_function(
     alloc: Global,
     out: &mut Vec<u8>,
@@ -97,7 +98,7 @@ fn variable_functions(alloc: Global, variable: &Variable) -> Result<Vec<u8>, All
     functions_text(alloc, variable.functions.as_slice())
 }
 
-/// A variable of this name: its functions.
+/// The text of a variable: its name and its functions.
 #[tactic(auto, unfolding(crate::specs::CodeTexts::variable_text))]
 fn variable_text(alloc: Global, name: &[u8], variable: &Variable) -> Result<Vec<u8>, AllocError>
     ensures { IfOk result (λ t. t.items ≡ variable_text name.now (functions_of variable.now)) }
@@ -111,7 +112,7 @@ fn variable_text(alloc: Global, name: &[u8], variable: &Variable) -> Result<Vec<
     Ok(out)
 }
 
-/// A variable, after `, ` where something stands before.
+/// Writes a variable, after `, ` if `some`.
 fn write_variable(
     alloc: Global,
     out: &mut Vec<u8>,
@@ -146,7 +147,7 @@ fn variables_text(
     Ok(out)
 }
 
-/// How often a symbol counts in the point.
+/// Writes by which factor the point is the code's entropies, unless that is 1.
 fn write_times(out: &mut Vec<u8>, times: u32) -> Result<(), AllocError>
     ensures { OnOk result (out.new.items ≡ out.old.items ++ times_text times) }
 {
@@ -158,7 +159,7 @@ fn write_times(out: &mut Vec<u8>, times: u32) -> Result<(), AllocError>
     out.extend_from_slice(b" times its entropies")
 }
 
-/// A code of these variables.
+/// The text of a code of the variables of `names`.
 #[tactic(auto, unfolding(crate::specs::CodeTexts::code_text))]
 pub fn code_text(alloc: Global, names: &Names, code: &ReportedCode) -> Result<Vec<u8>, AllocError>
     requires named { length code.now.code.variables.items ≤ length names.now.variables }

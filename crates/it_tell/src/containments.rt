@@ -1,9 +1,8 @@
-//! The lines below the first one of a containment: the proofs of what it obliges to, each under its line of the second region.
+//! The lines below the first one of a containment: the proofs of its obligations, each under its line of the second region.
 ghost use Rattle.std.specs.Prelude.{◌≡◌, ◌≤◌, ◌<◌, ◌+◌, ◌++◌, length, map, codes, All, IfOk, OnOk, [], drop, slice_index_or, true, if◌then◌else◌, ◌==◌};
 ghost use Rattle.std.specs.Bool.{OnTrue};
 ghost use Rattle.it_space.specs.Answers.{certificate_view};
 ghost use Rattle.it_space.specs.Rows.{IsOver, value};
-ghost use Rattle.it_space.specs.Problems.{IsProblem, problem_view};
 ghost use Rattle.it_space.specs.Spaces.{size_of};
 ghost use Rattle.it_polymatroid.specs.Elementals.{elementals};
 ghost use Rattle.it_question.specs.Limits.{IsQuestion};
@@ -30,7 +29,8 @@ use it_syntax::Names;
 use it_terms::told_line;
 use std::alloc::{AllocError, Global};
 
-/// A containment question, how it is told, the constraints of its problem, and the sets of the second region's auxiliary variables.
+/// A containment question, the options of its telling, the constraints of its problem, and the sets for the second region's
+/// auxiliary variables.
 #[derive(Clone, Copy)]
 pub struct Containment<'a> {
     pub question: &'a Question,
@@ -39,7 +39,7 @@ pub struct Containment<'a> {
     pub parts: &'a [VarSet],
 }
 
-/// What the second region's own lines demand, by their numbers among these.
+/// The constraints of the second region's own lines; these alone are counted.
 fn own_constraints(alloc: Global, question: &Question) -> Result<Vec<Constraint>, AllocError>
     requires question { IsQuestion (question_body question.now) }
     requires contains { IsContainment (question_body question.now).verb }
@@ -53,7 +53,7 @@ fn own_constraints(alloc: Global, question: &Question) -> Result<Vec<Constraint>
     Ok(own)
 }
 
-/// The rows of what a containment's parts oblige to, in order.
+/// The rows of a containment's obligations, in order.
 fn obligation_rows(
     alloc: Global,
     asked: &Containment<'_>,
@@ -72,7 +72,7 @@ fn obligation_rows(
 
 // ---- the comment of a line
 
-/// A set, or `0` where it is empty.
+/// Writes a set, `0` if it is empty.
 fn write_set_or_zero(out: &mut Vec<u8>, names: &Names, set: VarSet) -> Result<(), AllocError>
     ensures { OnOk result (out.new.items ≡ out.old.items ++ (if set == 0 then codes "0" else set_text names.now.variables set)) }
 {
@@ -83,7 +83,7 @@ fn write_set_or_zero(out: &mut Vec<u8>, names: &Names, set: VarSet) -> Result<()
     }
 }
 
-/// The name of a variable, by its number.
+/// The name of variable `variable`.
 fn name_of(names: &Names, variable: u8) -> &[u8]
     requires { variable < length names.now.variables }
     ensures { result.now ≡ slice_index_or names.now.variables variable [] }
@@ -91,7 +91,7 @@ fn name_of(names: &Names, variable: u8) -> &[u8]
     names.variable_name(variable)
 }
 
-/// A variable of the second region, and the set that it stands for.
+/// Writes a variable of the second region and the set that it stands for.
 #[tactic(auto, unfolding(it_print::specs::Lines::part_for))]
 fn write_choice(
     out: &mut Vec<u8>,
@@ -109,14 +109,14 @@ fn write_choice(
     write_set_or_zero(out, names, set)
 }
 
-/// What stands before the first auxiliary variable, or before a later one.
+/// What stands before an auxiliary variable: ` with` before the first one, a comma before the others.
 fn before_choice(is_first: bool) -> &'static [u8]
     ensures { result.now ≡ (if is_first then codes " with" else codes ",") }
 {
     if is_first { b" with" } else { b"," }
 }
 
-/// The sets for the variables of the second region from one on, by the names of the first one.
+/// Writes the sets for the variables of the second region from `from` on, in the names of the first region.
 fn write_choices(
     out: &mut Vec<u8>,
     names: &Names,
@@ -136,7 +136,7 @@ fn write_choices(
     Ok(())
 }
 
-/// The sets for the auxiliary variables of the second region.
+/// Writes the sets for the auxiliary variables of the second region.
 fn write_parts(out: &mut Vec<u8>, asked: &Containment<'_>) -> Result<(), AllocError>
     requires contains { IsContainment (question_body asked.now.question.now).verb }
     requires counted { length asked.now.parts.now ≡ length (auxiliary_names (question_body asked.now.question.now).names (question_body asked.now.question.now).verb) }
@@ -150,7 +150,7 @@ fn write_parts(out: &mut Vec<u8>, asked: &Containment<'_>) -> Result<(), AllocEr
     write_choices(out, names, &second.names, common, asked.parts)
 }
 
-/// A relation after a colon, where there is one.
+/// Writes a relation after a colon; nothing if there is none.
 fn write_relation(out: &mut Vec<u8>, relation: &[u8]) -> Result<(), AllocError>
     ensures { OnOk result (out.new.items ≡ out.old.items ++ relation_part relation.now) }
 {
@@ -161,7 +161,7 @@ fn write_relation(out: &mut Vec<u8>, relation: &[u8]) -> Result<(), AllocError>
     out.extend_from_slice(relation)
 }
 
-/// What is said of a line by how it is proved.
+/// What the comment of a line says where Shannon's inequalities alone prove it, nothing otherwise.
 fn by_shannon_text(is_by_shannon: bool) -> &'static [u8]
     ensures { result.now ≡ (if is_by_shannon then codes ", by Shannon's inequalities" else []) }
 {
@@ -172,7 +172,8 @@ fn by_shannon_text(is_by_shannon: bool) -> &'static [u8]
     }
 }
 
-/// The comment of a line of the second region: its name, the sets, the relation that it then is, and whether it needs no proof.
+/// The comment of a line of the second region: its name, the sets, the relation that it is with these, and whether it needs no
+/// proof.
 #[tactic(auto, unfolding(crate::specs::OwnLines::own_line_comment))]
 fn own_line_comment(
     alloc: Global,
@@ -197,7 +198,6 @@ fn own_line_comment(
 // ---- the lines
 
 /// The problem of a question without its constraints.
-#[tactic(auto, using(crate::proofs::OwnLineLemmas::free_problem))]
 fn free_problem(alloc: Global, question: &Question) -> Problem
     requires { IsQuestion (question_body question.now) }
     ensures { IsFreeProblem (question_body question.now) result }
@@ -210,15 +210,15 @@ fn free_problem(alloc: Global, question: &Question) -> Problem
 /// Whether Shannon's inequalities alone say a row to be at least 0, by its certificate.
 #[tactic(auto, using(crate::proofs::OwnLineLemmas::valid_is_by_shannon))]
 fn is_by_shannon(problem: &Problem, row: &Row, proof: &Certificate) -> bool
-    requires problem { IsProblem (problem_view problem.now) }
-    requires none { problem.now.constraints.items ≡ [] }
+    requires none { problem.now.constraints ≡ [] }
     requires over { IsOver (size_of problem.now.space) row.now }
     ensures { OnTrue result (IsByShannon problem.now.space.variables (value row.now)) }
 {
+    problem.facts();
     check_yes(problem, row, proof) == Verdict::Valid
 }
 
-/// The text of a line of the second region with sets put in, empty where there is none.
+/// The text of a line of the second region with the sets substituted, empty if there is none.
 #[tactic(auto, unfolding(crate::specs::Steps::SaysOrNothing))]
 fn line_text(
     alloc: Global,
@@ -235,7 +235,8 @@ fn line_text(
     }
 }
 
-/// Appends the lines of the proof of an obligation, unless Shannon's inequalities alone say it: those of a problem without constraints.
+/// Appends the lines of the proof of an obligation, unless Shannon's inequalities alone say it: then its certificate is valid
+/// for `free`, the problem without constraints.
 #[tactic(auto, using(crate::proofs::OwnLineLemmas::obligation_free, crate::proofs::OwnLineLemmas::obligation_proved))]
 fn write_obligation(
     alloc: Global,
@@ -270,7 +271,8 @@ fn write_obligation(
     Ok(())
 }
 
-/// The lines of the proofs of what a line of the second region obliges to, without those that Shannon's inequalities alone say.
+/// The lines of the proofs of the obligations of one line of the second region, without those that Shannon's inequalities alone
+/// say.
 fn own_proofs(
     alloc: Global,
     asked: &Containment<'_>,
@@ -295,7 +297,7 @@ fn own_proofs(
     Ok(out)
 }
 
-/// Appends a line of the second region as a comment, and below it the proofs of what it obliges to.
+/// Appends a line of the second region as a comment, and below it the proofs of its obligations.
 fn write_own_line(
     alloc: Global,
     out: &mut Vec<u8>,
@@ -326,7 +328,7 @@ fn write_own_line(
     Ok(())
 }
 
-/// How many rows a constraint of this kind obliges to.
+/// The number of obligations of a constraint of this kind.
 fn obliged(kind: Kind) -> usize
     ensures { result ≡ obliged kind }
 {
@@ -336,8 +338,8 @@ fn obliged(kind: Kind) -> usize
     }
 }
 
-/// Appends each line of the second region so, in order: `own` is what its lines demand, and the rows are what each obliges to, one after
-/// the other.
+/// Appends each line of the second region as `write_own_line` does, in order. `own` is the constraints of the lines, `rows`
+/// their obligations, one constraint's after the other's.
 fn write_own_lines(
     alloc: Global,
     out: &mut Vec<u8>,
@@ -373,7 +375,8 @@ fn write_own_lines(
     Ok(())
 }
 
-/// Appends the lines of a containment: plain proofs of its obligations one after the other, or each under its line of the second region.
+/// Appends the lines of a containment: plain proofs of its obligations one after the other, or each proof under its line of the
+/// second region.
 #[tactic(auto, unfolding(crate::specs::Tellings::AreContainedLines))]
 pub fn write_contained(
     alloc: Global,

@@ -13,9 +13,11 @@ ghost use Rattle.it_canon.specs.TrueLines.{variable_count};
 ghost use Rattle.it_canon.specs.QuestionDemands.{question_origins};
 ghost use Rattle.it_certificate.specs.AnswerShapes.{HasQuestionShape};
 ghost use Rattle.it_print.specs.Lines.{AreListed, IsPrintable, origins_of, values_text};
+ghost use Rattle.it_polymatroid.specs.Certificates.{Form};
 ghost use Rattle.it_report.specs.Steps.{IsAboutRelation};
-ghost use Rattle.it_tell.specs.Tellings.{IsPointText, IsPrintedProof, IsProofText, indented_line, step_line, AreProofSteps, weights_text};
-ghost use Rattle.it_tell.specs.Steps.{AppendsDetails, AppendsPoint, AppendsProof, AppendsProofs, AreFormRows, IsStyledText, form_with_proof};
+ghost use Rattle.it_terms.specs.FunctionProofs.{ArePrinted};
+ghost use Rattle.it_tell.specs.Tellings.{ArePrintedSteps, ArePrintedTexts, AreProofSteps, AreProofTexts, IsPointText, IsProofText, indented_line, step_line, weights_text};
+ghost use Rattle.it_tell.specs.Steps.{AppendsDetails, AppendsPoint, AppendsProof, AppendsProofs, AreFormRows, IsStyled, form_with_proof};
 
 use crate::containments::{Containment, write_contained};
 use crate::regions::write_rows;
@@ -26,7 +28,7 @@ use it_print::{sum_text, values_text, write_signed};
 use it_question::types::{Question, Verb};
 use it_space::{Answer, Certificate, Constraint, Point, Row};
 use it_syntax::types::Relation;
-use it_terms::{PrintedProof, printed_form, told_form, told_steps};
+use it_terms::{PrintedProof, printed_form, printed_steps, told_form, told_steps};
 use std::alloc::{AllocError, Global};
 
 /// Appends a text as a line below the first one.
@@ -88,44 +90,121 @@ fn relation_rows(
     Ok(rows)
 }
 
-/// A proof in a style where functions hold, and behind it the lines that say these; None in the style without.
-fn styled(proof: PrintedProof, style: Style) -> Result<Option<Vec<u8>>, AllocError>
-    ensures { IfOk result (λ o. IfSome o (λ t. IsStyledText style proof.text.items proof.whole.items proof.by.items t.items)) }
-{
-    let PrintedProof {
-        text: named,
-        whole,
-        by,
-    } = proof;
-    let mut text = match style {
-        Style::Plain => return Ok(None),
-        Style::Named => named,
-        Style::Whole => whole,
-    };
-    text.extend_from_slice(by.as_slice())?;
-    Ok(Some(text))
+/// The text of a proof, and those of its steps.
+#[derive(Drop)]
+struct Texts {
+    proof: Vec<u8>,
+    steps: Vec<Vec<u8>>,
 }
 
-/// The proof of a row where the question's functions hold, where that is asked for without steps, and found.
-fn printed_proof(
+/// A proof in a style where functions hold, and the weights of the constraints that it names.
+#[derive(Drop)]
+struct Styled {
+    proof: Vec<u8>,
+    named: Vec<(u32, i128)>,
+}
+
+/// The proof of `style` where functions hold; None in the plain style.
+fn in_style(
+    alloc: Global,
+    text: Vec<u8>,
+    whole: Vec<u8>,
+    named: Vec<(u32, i128)>,
+    style: Style,
+) -> Option<Styled>
+    ensures { IfSome result (λ s. IsStyled style named.items text.items whole.items s.named.items s.proof.items) }
+{
+    match style {
+        Style::Plain => None,
+        Style::Named => Some(Styled { proof: text, named }),
+        Style::Whole => Some(Styled {
+            proof: whole,
+            named: Vec::new(alloc),
+        }),
+    }
+}
+
+/// The steps of a proof where functions hold, where they are asked for and found.
+fn steps_under(
+    alloc: Global,
+    question: &Question,
+    options: Options,
+    proof: &[u8],
+    lines: &[u32],
+    named: &[(u32, i128)],
+) -> Result<Vec<Vec<u8>>, AllocError>
+    requires { IsQuestion (question_body question.now) }
+    ensures { IfOk result (λ steps. ArePrintedSteps (question_body question.now) options lines.now named.now proof.now (map (λ s. s.items) steps.items)) }
+{
+    if !options.steps {
+        return Ok(Vec::new(alloc));
+    }
+    match printed_steps(alloc, question, proof, lines, named)? {
+        Some(steps) => Ok(steps),
+        None => Ok(Vec::new(alloc)),
+    }
+}
+
+/// `proof` with the comment `by` behind it.
+fn with_comment(mut proof: Vec<u8>, by: &[u8]) -> Result<Vec<u8>, AllocError>
+    ensures { IfOk result (λ t. t.items ≡ proof.items ++ by.now) }
+{
+    proof.extend_from_slice(by)?;
+    Ok(proof)
+}
+
+/// The texts of a proof in the style of `options` where functions hold; None in the plain style.
+fn styled_texts(
+    alloc: Global,
+    question: &Question,
+    proof: PrintedProof,
+    options: Options,
+) -> Result<Option<Texts>, AllocError>
+    requires { IsQuestion (question_body question.now) }
+    ensures { IfOk result (λ o. IfSome o (λ t. (target : Form) → ArePrinted (question_body question.now) target proof.lines.items proof.named.items proof.text.items proof.whole.items proof.by.items → ArePrintedTexts (question_body question.now) options target (record { proof = t.proof.items; steps = map (λ s. s.items) t.steps.items }))) }
+{
+    let PrintedProof {
+        text,
+        whole,
+        by,
+        lines,
+        named,
+    } = proof;
+    let Some(own) = in_style(alloc, text, whole, named, options.style) else {
+        return Ok(None);
+    };
+    let steps = steps_under(
+        alloc,
+        question,
+        options,
+        own.proof.as_slice(),
+        lines.as_slice(),
+        own.named.as_slice(),
+    )?;
+    let proof = with_comment(own.proof, by.as_slice())?;
+    Ok(Some(Texts { proof, steps }))
+}
+
+/// The texts of the proof of a row where the question's functions hold, where that is asked for and found.
+fn printed_texts(
     alloc: Global,
     question: &Question,
     row: &Row,
     certificate: &Certificate,
     line: Option<&[u8]>,
     options: Options,
-) -> Result<Option<Vec<u8>>, AllocError>
+) -> Result<Option<Texts>, AllocError>
     requires { IsQuestion (question_body question.now) }
-    ensures { IfOk result (λ o. IfSome o (λ t. IsPrintedProof (question_body question.now) options.style (value row.now) t.items)) }
+    ensures { IfOk result (λ o. IfSome o (λ t. ArePrintedTexts (question_body question.now) options (value row.now) (record { proof = t.proof.items; steps = map (λ s. s.items) t.steps.items }))) }
 {
-    if options.steps || is_plain(options.style) {
+    if is_plain(options.style) {
         return Ok(None);
     }
     let Some(proof) = printed_form(alloc, question, row, certificate, line, options.short)? else {
         return Ok(None);
     };
-    let text = styled(proof, options.style)?;
-    Ok(text)
+    let texts = styled_texts(alloc, question, proof, options)?;
+    Ok(texts)
 }
 
 /// The proof of a row as an equation that is true of every map, or its weights.
@@ -143,42 +222,11 @@ fn plain_proof(
     requires some { 1 ≤ variable_count (question_body question.now) }
     requires origins { origins_of constraints.now ≡ question_origins (question_body question.now) }
     requires there { All (λ w. w.0 < length (elementals (variable_count (question_body question.now))) + length constraints.now) certificate.now.weights.items }
-    ensures { IfOk result (λ t. IsProofText (question_body question.now) options.style (form_with_proof row.now certificate.now) t.items) }
+    ensures { IfOk result (λ t. IsProofText (question_body question.now) (form_with_proof row.now certificate.now) t.items) }
 {
     match told_form(alloc, question, row, certificate, line, options.short)? {
         Some(text) => Ok(text),
         None => weights_text(alloc, question, constraints, certificate),
-    }
-}
-
-/// The proof of a row in the question's own terms, or its weights.
-#[tactic(auto, unfolding(crate::specs::Tellings::IsProofText))]
-fn row_proof(
-    alloc: Global,
-    question: &Question,
-    constraints: &[Constraint],
-    row: &Row,
-    certificate: &Certificate,
-    line: Option<&[u8]>,
-    options: Options,
-) -> Result<Vec<u8>, AllocError>
-    requires question { IsQuestion (question_body question.now) }
-    requires some { 1 ≤ variable_count (question_body question.now) }
-    requires origins { origins_of constraints.now ≡ question_origins (question_body question.now) }
-    requires there { All (λ w. w.0 < length (elementals (variable_count (question_body question.now))) + length constraints.now) certificate.now.weights.items }
-    ensures { IfOk result (λ t. IsProofText (question_body question.now) options.style (form_with_proof row.now certificate.now) t.items) }
-{
-    match printed_proof(alloc, question, row, certificate, line, options)? {
-        Some(text) => Ok(text),
-        None => plain_proof(
-            alloc,
-            question,
-            constraints,
-            row,
-            certificate,
-            line,
-            options,
-        ),
     }
 }
 
@@ -198,6 +246,66 @@ fn steps_of(
     match told_steps(alloc, question, proof)? {
         Some(steps) => Ok(steps),
         None => Ok(Vec::new(alloc)),
+    }
+}
+
+/// The texts of the proof of a row as an equation that is true of every map, or its weights.
+fn plain_texts(
+    alloc: Global,
+    question: &Question,
+    constraints: &[Constraint],
+    row: &Row,
+    certificate: &Certificate,
+    line: Option<&[u8]>,
+    options: Options,
+) -> Result<Texts, AllocError>
+    requires question { IsQuestion (question_body question.now) }
+    requires some { 1 ≤ variable_count (question_body question.now) }
+    requires origins { origins_of constraints.now ≡ question_origins (question_body question.now) }
+    requires there { All (λ w. w.0 < length (elementals (variable_count (question_body question.now))) + length constraints.now) certificate.now.weights.items }
+    ensures { IfOk result (λ t. AreProofTexts (question_body question.now) options (form_with_proof row.now certificate.now) (record { proof = t.proof.items; steps = map (λ s. s.items) t.steps.items })) }
+{
+    let proof = plain_proof(
+        alloc,
+        question,
+        constraints,
+        row,
+        certificate,
+        line,
+        options,
+    )?;
+    let steps = steps_of(alloc, question, options, proof.as_slice())?;
+    Ok(Texts { proof, steps })
+}
+
+/// The texts of the proof of a row in the question's own terms, or of its weights.
+#[tactic(auto, unfolding(crate::specs::Tellings::AreProofTexts))]
+fn proof_texts(
+    alloc: Global,
+    question: &Question,
+    constraints: &[Constraint],
+    row: &Row,
+    certificate: &Certificate,
+    line: Option<&[u8]>,
+    options: Options,
+) -> Result<Texts, AllocError>
+    requires question { IsQuestion (question_body question.now) }
+    requires some { 1 ≤ variable_count (question_body question.now) }
+    requires origins { origins_of constraints.now ≡ question_origins (question_body question.now) }
+    requires there { All (λ w. w.0 < length (elementals (variable_count (question_body question.now))) + length constraints.now) certificate.now.weights.items }
+    ensures { IfOk result (λ t. AreProofTexts (question_body question.now) options (form_with_proof row.now certificate.now) (record { proof = t.proof.items; steps = map (λ s. s.items) t.steps.items })) }
+{
+    match printed_texts(alloc, question, row, certificate, line, options)? {
+        Some(texts) => Ok(texts),
+        None => plain_texts(
+            alloc,
+            question,
+            constraints,
+            row,
+            certificate,
+            line,
+            options,
+        ),
     }
 }
 
@@ -221,7 +329,7 @@ fn write_steps(out: &mut Vec<u8>, steps: &[Vec<u8>]) -> Result<(), AllocError>
     Ok(())
 }
 
-/// Appends the lines of the proof of a row; where the row is a target of a line, in its terms on the left.
+/// Appends the lines of the proof of a row; with the terms of `line` on the left, where the row is that of one of its targets.
 pub fn write_proof(
     alloc: Global,
     out: &mut Vec<u8>,
@@ -238,7 +346,7 @@ pub fn write_proof(
     requires there { All (λ w. w.0 < length (elementals (variable_count (question_body question.now))) + length constraints.now) certificate.now.weights.items }
     ensures { OnOk result (AppendsProof (question_body question.now) options (form_with_proof row.now certificate.now) out.old.items out.new.items) }
 {
-    let text = row_proof(
+    let texts = proof_texts(
         alloc,
         question,
         constraints,
@@ -247,9 +355,8 @@ pub fn write_proof(
         line,
         options,
     )?;
-    let steps = steps_of(alloc, question, options, text.as_slice())?;
-    write_indented(out, text.as_slice())?;
-    write_steps(out, steps.as_slice())
+    write_indented(out, texts.proof.as_slice())?;
+    write_steps(out, texts.steps.as_slice())
 }
 
 /// Appends the lines of each proof of a row, in order.
@@ -356,7 +463,7 @@ fn write_point(
     write_indented(out, text.as_slice())
 }
 
-/// Appends the lines below the first one of an answer: those of proofs with steps where they are asked for.
+/// Appends the lines below the first one of an answer: those of proofs with their steps, where these are asked for.
 #[tactic(auto, unfolding(crate::specs::Tellings::AreDetails))]
 pub fn write_details(
     alloc: Global,

@@ -20,7 +20,7 @@ fn write_factor(out: &mut Vec<u8>, word: &[u8], num: &i128, den: &i128) -> Resul
     write_signed(out, *den)
 }
 
-/// Appends the words about what is found.
+/// Appends the words about what is found of factors.
 fn write_best(out: &mut Vec<u8>, best: &Best) -> Result<(), AllocError>
     ensures { OnOk result (out.new.items ≡ out.old.items ++ best_words (best_view best.now)) }
 {

@@ -12,7 +12,7 @@ use it_question::types::Question;
 use it_space::{Answer, Constraint};
 use std::alloc::{AllocError, Global};
 
-/// The number of the line and words about it.
+/// The line `words` about line `k`, with a line feed.
 #[tactic(auto, unfolding(it_report::specs::LineVerdicts::numbered_line))]
 pub fn numbered_line(alloc: Global, k: usize, words: &[u8]) -> Result<Vec<u8>, AllocError>
     ensures { IfOk result (λ t. t.items ≡ numbered_line k words.now) }
@@ -25,7 +25,7 @@ pub fn numbered_line(alloc: Global, k: usize, words: &[u8]) -> Result<Vec<u8>, A
     Ok(out)
 }
 
-/// The first line of a region of so many rows.
+/// The first line of a region of `rows` rows.
 fn region_line(alloc: Global, k: usize, rows: usize) -> Result<Vec<u8>, AllocError>
     ensures { IfOk result (λ t. t.items ≡ numbered_line k (codes "region " ++ decimal rows)) }
 {
@@ -35,7 +35,7 @@ fn region_line(alloc: Global, k: usize, rows: usize) -> Result<Vec<u8>, AllocErr
     numbered_line(alloc, k, words.as_slice())
 }
 
-/// The first line of an answer to question k: that of the text format, without proofs, values and rows.
+/// The first line of an answer to question `k`: that of the text format, without proofs, values and rows.
 #[tactic(auto, unfolding(crate::specs::Tellings::head_line))]
 pub fn head_line(
     alloc: Global,

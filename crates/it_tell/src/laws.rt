@@ -19,7 +19,8 @@ pub fn told_answers_are_true()
     ensures { ToldAnswersAreTrue }
 {}
 
-/// Of a no with a code that is told, the relation fails at random variables: the values of the point are the entropies of the code's.
+/// Where a no with a code is told, its relation fails at random variables: the values of the point are the entropies of the
+/// code's variables, as many times as the line says.
 pub fn told_codes_are_true()
     ensures { ToldCodesAreTrue }
 {}

@@ -48,7 +48,7 @@ fn answered_text(
     ensures { IfOk result (λ t. IsAnsweredText options k (question_body question.now) (answer_view answer.now) t.items) }
 {
     let problem = problem(alloc, question)?;
-    let constraints = problem.constraints.as_slice();
+    let constraints = problem.constraints();
     let mut text = head_line(alloc, k, question, constraints, answer)?;
     write_details(alloc, &mut text, question, options, constraints, answer)?;
     Ok(text)
@@ -75,7 +75,7 @@ fn coded_text(
     Ok(text)
 }
 
-/// The line about an outer bound: how many rows and rays it has.
+/// The line about an outer bound: the numbers of its rows and rays.
 #[tactic(auto, unfolding(crate::specs::Tellings::bounds_words))]
 fn bounds_line(alloc: Global, k: usize, bounds: &ReportedBounds) -> Result<Vec<u8>, AllocError>
     ensures { IfOk result (λ t. t.items ≡ numbered_line k (bounds_words (bounds_view bounds.now))) }
@@ -122,8 +122,8 @@ fn reported_text(
     }
 }
 
-/// What is told of line k of a report; lines are counted from 1, and `line` comes without its end. It is read twice, to be judged and
-/// to be told.
+/// What is told of line `k` of a report; lines are counted from 1, and `line` comes without its end. It is read twice, first to
+/// be judged and then to be told.
 pub fn tell_line(
     alloc: Global,
     options: Options,

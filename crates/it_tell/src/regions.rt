@@ -44,7 +44,8 @@ fn plain_row(alloc: Global, question: &Question, row: &Row) -> Result<Vec<u8>, A
     }
 }
 
-/// A row in fewer terms where the question's functions hold, with the lines that say these; None where it is to be plain or there are none.
+/// A row in fewer terms where the question's functions hold, with the lines that say these; None if the style is plain or there
+/// is no such text.
 fn styled_row(
     alloc: Global,
     question: &Question,
@@ -63,7 +64,7 @@ fn styled_row(
     Ok(Some(printed))
 }
 
-/// A row by lines whose functions hold, or without any.
+/// A row in fewer terms where the functions of some lines hold, else without any such lines.
 #[tactic(auto, unfolding(crate::specs::Tellings::IsRowText))]
 fn any_row(
     alloc: Global,
@@ -83,7 +84,7 @@ fn any_row(
     Ok(PrintedRow { text, lines })
 }
 
-/// The weights of lines from which a row comes, where these are told and found.
+/// The weights of the lines from which a row comes; none if the style is plain or none are found.
 fn styled_origin(
     alloc: Global,
     question: &Question,
@@ -100,7 +101,7 @@ fn styled_origin(
     Ok(weights)
 }
 
-/// What is said of a row by its mark, as a comment.
+/// The comment that gives a row's mark.
 fn mark_comment(mark: Mark) -> &'static [u8]
     ensures { result.now ≡ mark_comment mark }
 {
@@ -130,7 +131,7 @@ fn marked_row(
     Ok(text)
 }
 
-/// Whether a coordinate is a rate's, of so many variables.
+/// Whether `coordinate` is that of a rate, where there are `variables` variables.
 fn is_rate(coordinate: usize, variables: u8) -> bool
     requires { variables ≤ 10 }
     ensures { result ≡ not (nat_lt coordinate (2 ^ variables)) }
@@ -138,7 +139,7 @@ fn is_rate(coordinate: usize, variables: u8) -> bool
     coordinate >= 1usize << variables
 }
 
-/// The coordinates of a row's rates, of so many variables.
+/// The coordinates of the rates of `row`, where there are `variables` variables.
 fn rate_coordinates(alloc: Global, row: &Row, variables: u8) -> Result<Vec<usize>, AllocError>
     requires { variables ≤ 10 }
     ensures { IfOk result (λ v. v.items ≡ rate_coordinates variables row.now) }
@@ -150,7 +151,7 @@ fn rate_coordinates(alloc: Global, row: &Row, variables: u8) -> Result<Vec<usize
         .collect(alloc)
 }
 
-/// The coordinates of a row's rates, after their number.
+/// The number of the rates of `row`, and then their coordinates.
 fn order_key(alloc: Global, row: &Row, variables: u8) -> Result<Vec<usize>, AllocError>
     requires { variables ≤ 10 }
     ensures { IfOk result (λ v. v.items ≡ order_key variables row.now) }
@@ -162,7 +163,7 @@ fn order_key(alloc: Global, row: &Row, variables: u8) -> Result<Vec<usize>, Allo
     Ok(key)
 }
 
-/// Whether numbers come before others, as words do by their letters.
+/// Whether `numbers` come before `others` in lexicographic order.
 fn is_before(numbers: &[usize], others: &[usize]) -> bool
     ensures { result ≡ is_before numbers.now others.now }
 {
@@ -187,7 +188,7 @@ fn comes_before(alloc: Global, row: &Row, other: &Row, variables: u8) -> Result<
     Ok(is_before(key.as_slice(), other_key.as_slice()))
 }
 
-/// The place of the first row that a row comes before, else that after the last one.
+/// The index of the first row of `sorted` before which `row` comes; the length of `sorted` if there is none.
 fn place_of(
     alloc: Global,
     sorted: &[&(Mark, Row)],
@@ -207,7 +208,7 @@ fn place_of(
     Ok(sorted.len())
 }
 
-/// Puts a row before the first one that it comes before, else at the end.
+/// Inserts `row` before the first one before which it comes, else at the end.
 fn put_in_order<'a>(
     alloc: Global,
     sorted: &mut Vec<&'a (Mark, Row)>,
@@ -222,7 +223,7 @@ fn put_in_order<'a>(
     Ok(())
 }
 
-/// The rows of a region as they are.
+/// The rows of a region in their own order.
 fn rows_in_turn(alloc: Global, rows: &[(Mark, Row)]) -> Result<Vec<&(Mark, Row)>, AllocError>
     ensures { IfOk result (λ v. map (λ r. r.now) v.items ≡ rows.now) }
 {
@@ -233,7 +234,7 @@ fn rows_in_turn(alloc: Global, rows: &[(Mark, Row)]) -> Result<Vec<&(Mark, Row)>
     Ok(all)
 }
 
-/// The rows of a region in order; those of the same rates stay as they were.
+/// The rows of a region in order of `comes_before`; rows with the same rates keep their order.
 fn rows_by_rates(
     alloc: Global,
     rows: &[(Mark, Row)],
@@ -249,7 +250,7 @@ fn rows_by_rates(
     Ok(sorted)
 }
 
-/// The rows of a region in the order in which they are told: plain ones as they are.
+/// The rows of a region in the order in which they are told: their own if the style is plain.
 fn told_rows(
     alloc: Global,
     style: Style,

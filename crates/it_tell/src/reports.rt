@@ -11,7 +11,7 @@ use it_outside::{Sink, write_all};
 use it_question::first_line;
 use std::alloc::Global;
 
-/// What is done for the bytes of a report: what is told of a line is written as soon as it is there.
+/// Tells a report; writes what is told of a line as soon as it is there.
 pub fn tell_report<K: Sink>(alloc: Global, options: Options, bytes: &[u8], sink: &mut K) -> Status
     ensures { EndsForBytes K.taken K.faults (tell_mode options) sink.old sink.new bytes.now result }
 {

@@ -11,8 +11,8 @@ pub enum Style {
     Whole,
 }
 
-/// How it is told: with the steps of proofs or without; whether short proofs are looked for, which may take long; and in which style
-/// proofs without steps are written.
+/// Options of a telling: `steps`, with the steps of proofs; `short`, short proofs are looked for, which may take long; `style`,
+/// the style of proofs.
 #[derive(Clone, Copy, Debug, PartialEq, Eq)]
 pub struct Options {
     pub steps: bool,
@@ -28,14 +28,14 @@ pub enum Settings {
     Version,
 }
 
-/// Without words.
+/// The options if there are no words.
 const NO_OPTIONS: Options = Options {
     steps: false,
     short: false,
     style: Style::Plain,
 };
 
-/// Whether no style is asked for.
+/// Whether `style` is the plain one, for which no word asks.
 pub fn is_plain(style: Style) -> bool
     ensures { result ≡ is_plain style }
 {
@@ -45,7 +45,7 @@ pub fn is_plain(style: Style) -> bool
     }
 }
 
-/// The options with one that isn't there yet; of two styles one at most is asked for.
+/// `options` with the one that `word` adds; None if `word` is no option, or is there already, or is a second style.
 #[tactic(auto, unfolding(crate::specs::Settings::with_word))]
 fn with_word(options: Options, word: &str) -> Option<Options>
     ensures { result ≡ with_word options word.now }
@@ -76,7 +76,7 @@ fn with_word(options: Options, word: &str) -> Option<Options>
     }
 }
 
-/// The options that words are, one after the other.
+/// The options that `words` add, one after the other.
 fn with_words(words: &[&str]) -> Option<Options>
     ensures { result ≡ with_words no_options (map (λ w. w.now) words.now) }
 {
@@ -87,7 +87,7 @@ fn with_words(words: &[&str]) -> Option<Options>
     Some(options)
 }
 
-/// What a word asks for that stands alone.
+/// What `word` asks for where it is the only word.
 #[tactic(auto, unfolding(crate::specs::Settings::alone))]
 fn alone(word: &str) -> Option<Settings>
     ensures { result ≡ alone word.now }
@@ -99,8 +99,8 @@ fn alone(word: &str) -> Option<Settings>
     }
 }
 
-/// What the words ask for: `--help` and `--version` stand alone, and each option stands once. None where a word is another
-/// one.
+/// What the words ask for: `--help` and `--version` stand alone, and each option stands at most once. None where a word is no
+/// option, or is one too many.
 #[tactic(auto, unfolding(crate::specs::Settings::settings_of))]
 pub fn settings_of(words: &[&str]) -> Option<Settings>
     ensures { result ≡ settings_of (map (λ w. w.now) words.now) }

@@ -14,19 +14,20 @@ use std::alloc::Global;
 /// The most bytes of a report.
 const MOST: usize = 67108864;
 
-/// The line of a report of more bytes.
+/// The line that refuses a report of more bytes.
 const LONG: &[u8] = b"refused long\n";
 
-/// What `--help` asks for.
+/// The text for `--help`.
 const HELP: &[u8] =
     b"usage: tell [--steps] [--short] [--named | --whole] <REPORT\nTells what the lines of a report say, as `itip answer --format json` writes one, in the field's own notation.\n--steps: below each proof its steps\n--short: proofs with the least sum of terms, which may take long\n--named: proofs where the question's functions hold, with constraints by their lines' names\n--whole: these with the lines' own terms, to be pasted\n";
 
-/// What `--version` asks for.
+/// The text for `--version`.
 const VERSION: &[u8] = b"tell 1\n";
 
-/// All that the program does: `words` are those of the command line after the program's name. It reads a report, as `itip answer --format
-/// json` writes it, and writes what is told of each of its lines. The report is read whole before the first line of output. The lines
-/// about one line are written by one write, in order. Of words without a reading nothing is written.
+/// All that the program does: `words` are those of the command line after the program's name. It reads a report, as `itip
+/// answer --format json` writes it, and writes what is told of each of its lines. The report is read whole before the first
+/// line of output. The lines about one line of the report are written by one write, in order. If the words have no reading
+/// nothing is written.
 pub fn tell<S: Source, K: Sink>(
     alloc: Global,
     words: &[&str],
@@ -43,7 +44,7 @@ pub fn tell<S: Source, K: Sink>(
     }
 }
 
-/// What is done for words that ask for a telling.
+/// Tells the report that `source` gives.
 fn tell_source<S: Source, K: Sink>(
     alloc: Global,
     options: Options,
@@ -60,7 +61,7 @@ fn tell_source<S: Source, K: Sink>(
     }
 }
 
-/// Writes a text. The call then ends with the status, or with `WriteFault` where the write failed.
+/// Writes `text` and returns `status`, or `WriteFault` if the write fails.
 fn write_last<K: Sink>(sink: &mut K, text: &[u8], status: Status) -> Status
     ensures { EndOfLine (K.taken sink.old) (K.taken sink.new) (K.faults sink.old) (K.faults sink.new) text.now status result }
 {

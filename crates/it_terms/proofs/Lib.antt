@@ -11,4 +11,5 @@ pub mod UnderLemmas
 pub mod ToldUnder
 pub mod SignLemmas
 pub mod RowLemmas
+pub mod PieceLemmas
 pub mod OriginLemmas

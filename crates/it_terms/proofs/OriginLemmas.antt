@@ -48,7 +48,7 @@ module _ (n : ℕ) (cs : List Constraint) where
       ap₂ (λ (x y : ℤ). w.1 *ℤ x +ℤ y) (ap (λ (g : Generator). value g.row p) here.1)
       (same_sum p ws (All-tail (IsAllowed (forms_of (generator_list n cs))) w ws a) (All-tail (IsOfConstraint n) w ws o))
 
-  -- and they may stand there
+  -- the same weights, of constraints by their own numbers, are allowed
   same_allowed : (ws : List (ℕ × ℤ)) → All (IsAllowed (forms_of (generator_list n cs))) ws → All (IsOfConstraint n) ws
       → All (IsAllowed (forms_of (map of_constraint cs))) (map (by_constraint (length (elementals n))) ws)
   same_allowed [] a o = All-nil (IsAllowed (forms_of (map of_constraint cs)))
@@ -83,7 +83,7 @@ sum_of_certificate q row w k over o =
           ∙ same_sum n q.constraints p w.weights c.allowed o.own;
     }
 
--- and so of the question's lines
+-- a row with such a certificate comes from the question's lines
 pub comes_from : (q : BodyView) (p : ProblemView) (row : Terms) (w : CertificateView) (ws : List (ℕ × ℤ)) → IsProblemOf (under_all_lines q) p → IsOver (size_of p.space) row → IsOrigin p row w
     → ws ≡ map (by_constraint (length (elementals p.space.variables))) w.weights → ComesFrom q row ws
 comes_from q p row w ws posed over o e =
@@ -91,7 +91,7 @@ comes_from q p row w ws posed over o e =
     (sum_of_same (forms_of (map of_constraint p.constraints)) (constraints_of (question_demands (under_all_lines q))) (value row) (map (by_constraint (length (elementals p.space.variables))) w.weights)
     (stated_are_same p.space (question_demands (under_all_lines q)) p.constraints posed.constraints.stated) (sum_of_certificate p row w posed.limits over o)))
 
--- what has no weights isn't told to come from any line
+-- without weights nothing is said of where a row comes from
 pub not_told : (q : BodyView) (row : Terms) (ws : List (ℕ × ℤ)) → ws ≡ [] → ComesFrom q row ws
 not_told q row ws e = inl e
 

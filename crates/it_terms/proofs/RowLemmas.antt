@@ -95,7 +95,7 @@ row_is_not_given line (r ∷ rs) [] l c a h e g = absurd a
 row_is_not_given line (r ∷ rs) (x ∷ cs) zero c a h e g = subst IsGiven (ap (λ (d : Constraint). d.origin) e ∙ a.0) g
 row_is_not_given line (r ∷ rs) (x ∷ cs) (suc l) c a h e g = row_is_not_given (line + 1) rs cs l c a.1 (omega arith) e g
 
--- those of `given` lines come first
+-- constraints of `given` lines come first
 given_comes_first : (places : List Origin) (line : ℕ) (rs : List RelationView) (cs : List Constraint) (l : ℕ) (c : Constraint) → AllZip ComesFrom (places ++ row_origins line rs) cs → l < length cs → c ≡ get_or cs l c → IsGiven c.origin
     → l < length places
 given_comes_first [] line rs cs l c a h e g = absurd (row_is_not_given line rs cs l c a h e g)

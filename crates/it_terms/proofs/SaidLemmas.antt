@@ -43,7 +43,7 @@ chosen_at cs [] (x ∷ chosen) i c h a = absurd a
 chosen_at cs (l ∷ lines) (x ∷ chosen) zero c h a = a.0
 chosen_at cs (l ∷ lines) (x ∷ chosen) (suc i) c h a = chosen_at cs lines chosen i c (omega arith) a.1
 
--- one chosen constraint more
+-- one more chosen constraint
 pub chosen_more : (cs : List Constraint) (lines : List ℕ) (chosen new : List Constraint) (i : ℕ) (c : Constraint) → i < length lines → get_or lines i 0 < length cs → c ≡ get_or cs (get_or lines i 0) c
     → AreChosen cs (take i lines) chosen → new ≡ chosen ++ c ∷ [] → AreChosen cs (take (i + 1) lines) new
 chosen_more cs lines chosen new i c within there is before e =

@@ -33,12 +33,12 @@ pub record AreSameConstraints (g k : Generators) : Type 0 where
   pub kinds : (i : ℕ) → i < g.count → g.is_equation i ≡ k.is_equation i
   pub forms : (i : ℕ) → i < g.count → AreSame (g.form i) (k.form i)
 
-same_combination : (g k : Generators) → AreSameConstraints g k → (ws : List (ℕ × ℤ)) → All (IsAllowed g) ws → AreSame (λ p. combination ws (λ i. g.form i p)) (λ p. combination ws (λ i. k.form i p))
+pub same_combination : (g k : Generators) → AreSameConstraints g k → (ws : List (ℕ × ℤ)) → All (IsAllowed g) ws → AreSame (λ p. combination ws (λ i. g.form i p)) (λ p. combination ws (λ i. k.form i p))
 same_combination g k s [] a p z = refl
 same_combination g k s (w ∷ ws) a p z = ap₂ (λ (x y : ℤ). w.1 *ℤ x +ℤ y) (s.forms w.0 (All-head (IsAllowed g) w ws a).0 p z) (same_combination g k s ws (All-tail (IsAllowed g) w ws a) p z)
 
 -- weights that may stand with some constraints may with the same ones
-allowed_in_same : (g k : Generators) (ws : List (ℕ × ℤ)) → AreSameConstraints g k → All (IsAllowed g) ws → All (IsAllowed k) ws
+pub allowed_in_same : (g k : Generators) (ws : List (ℕ × ℤ)) → AreSameConstraints g k → All (IsAllowed g) ws → All (IsAllowed k) ws
 allowed_in_same g k ws s a = All-weaker (IsAllowed g) (IsAllowed k) (λ w h. (subst (λ (m : ℕ). w.0 < m) s.count h.0, λ b. h.1 (s.kinds w.0 h.0 ∙ b))) ws a
 
 pub proof_of_same : (n : ℕ) (r : RelationView) (f h : Form) (g k : Generators) → AreSame f h → AreSameConstraints g k → IsProofOf n r f g → IsProofOf n r h k
@@ -95,7 +95,7 @@ told_by_lines items q v target s cs (Some x) e are h =
     }
 
 -- what says a function among constraints says it among ones that are the same
-said_by_same : (n : ℕ) (g k : Generators) (lines : List ℕ) (d : Dependence) → AreSameConstraints g k → IsSaid n g lines d → IsSaid n k lines d
+pub said_by_same : (n : ℕ) (g k : Generators) (lines : List ℕ) (d : Dependence) → AreSameConstraints g k → IsSaid n g lines d → IsSaid n k lines d
 said_by_same n g k lines d s t = record {
   line = t.line;
   among = t.among;
@@ -137,21 +137,19 @@ under_by_lines q lines named target s cs text are t = record {
       (stated_are_same s (question_demands q) cs are.stated) t.proves;
 }
 
-printed_from_lines : (q : BodyView) (target : Form) (s : Space) (cs : List Constraint) (text whole by : List ℕ) → AreStated s (question_origins q) (question_demands q) cs
-    → ArePrintedFrom (problem_names q) target cs text whole by → ArePrinted q target text whole by
-printed_from_lines q target s cs text whole by are t = record {
-  lines = t.lines;
-  named = t.named;
-  text_tells = under_by_lines q t.lines t.named target s cs text are t.text_tells;
-  whole_tells = under_by_lines q t.lines [] target s cs whole are t.whole_tells;
-  by_is = t.by_is ∙ ap (λ (os : List Origin). by_comment os t.lines) (placed_origins (question_origins q) cs are.placed);
+printed_from_lines : (q : BodyView) (target : Form) (lines : List ℕ) (named : List (ℕ × ℤ)) (s : Space) (cs : List Constraint) (text whole by : List ℕ) → AreStated s (question_origins q) (question_demands q) cs
+    → ArePrintedFrom (problem_names q) target cs lines named text whole by → ArePrinted q target lines named text whole by
+printed_from_lines q target lines named s cs text whole by are t = record {
+  text_tells = under_by_lines q lines named target s cs text are t.text_tells;
+  whole_tells = under_by_lines q lines [] target s cs whole are t.whole_tells;
+  by_is = t.by_is ∙ ap (λ (os : List Origin). by_comment os lines) (placed_origins (question_origins q) cs are.placed);
 }
 
 -- texts that tell a proof from a problem's constraints where functions hold tell it from the question's lines
-pub printed_by_lines : {X : Type 0} (text whole by : X → List ℕ) (q : BodyView) (target : Form) (s : Space) (cs : List Constraint) (o : Option X) → AreStated s (question_origins q) (question_demands q) cs
-    → IfSome o (λ x. ArePrintedFrom (problem_names q) target cs (text x) (whole x) (by x)) → IfSome o (λ x. ArePrinted q target (text x) (whole x) (by x))
-printed_by_lines text whole by q target s cs None are h = tt
-printed_by_lines text whole by q target s cs (Some x) are h = printed_from_lines q target s cs (text x) (whole x) (by x) are h
+pub printed_by_lines : {X : Type 0} (lines : X → List ℕ) (named : X → List (ℕ × ℤ)) (text whole by : X → List ℕ) (q : BodyView) (target : Form) (s : Space) (cs : List Constraint) (o : Option X) → AreStated s (question_origins q) (question_demands q) cs
+    → IfSome o (λ x. ArePrintedFrom (problem_names q) target cs (lines x) (named x) (text x) (whole x) (by x)) → IfSome o (λ x. ArePrinted q target (lines x) (named x) (text x) (whole x) (by x))
+printed_by_lines lines named text whole by q target s cs None are h = tt
+printed_by_lines lines named text whole by q target s cs (Some x) are h = printed_from_lines q target (lines x) (named x) s cs (text x) (whole x) (by x) are h
 
 -- constraints are the same as themselves
 pub same_constraints : (g : Generators) → AreSameConstraints g g

@@ -26,7 +26,7 @@ least_together row other low other_low a b e p = (
   λ h. (a.signs p).positive.1 (subst (λ (t : Terms). pos 0 ≤ℤ value t p) (sym e) ((b.signs p).positive.0 h)),
 )
 
--- one pair of rows more
+-- one more pair of rows
 pub together_more : (rows others : List Terms) (i : ℕ) (row other : Terms) → i < length rows → i < length others → row ≡ get_or rows i row → other ≡ get_or others i other → AreLeastTogether row other
     → AllZip AreLeastTogether (take i rows) (take i others) → AllZip AreLeastTogether (take (i + 1) rows) (take (i + 1) others)
 together_more rows others i row other inside within is other_is here before =

@@ -74,7 +74,7 @@ part_added-all form old now items i h nothing u = record {
     without_rest : (now rest all : ℤ) → rest ≡ pos 0 → now +ℤ rest ≡ all → now ≡ all
     without_rest now rest all e f = omega (arith, ints, e, f)
 
--- a row so many times, as a form of its terms
+-- a multiple of a row, as a form of its terms
 abbrev pub times_form : ℤ → Terms → Form
 times_form times terms p = times *ℤ value terms p
 

@@ -1,5 +1,5 @@
 -- Equations that are true where functions hold.
-use Rattle.std.proofs.Common.{◌≡◌, ℕ, ◌+◌, ◌<◌, ◌^◌, ℤ, pos, ◌+ℤ◌, ◌-ℤ◌, true, List, [], length, map, drop, replicate, All, refl, sym, ap, ◌∙◌, subst, arith}
+use Rattle.std.proofs.Common.{◌≡◌, ℕ, ◌+◌, ◌<◌, ◌^◌, ℤ, pos, neg_ℤ, ◌+ℤ◌, ◌-ℤ◌, Bool, true, List, [], length, map, drop, replicate, All, refl, sym, ap, ◌∙◌, subst, arith}
 use Rattle.std.proofs.Math.Path.{fun_ext}
 use Rattle.std.proofs.lemmas.Int.{ints}
 use Rattle.std.proofs.lemmas.List.Elements.{All-replicate, All-weaker}
@@ -35,34 +35,34 @@ use Rattle.it_terms.specs.Sums.{IsExcess, IsPlus, constraint_value}
 use Rattle.it_terms.specs.FunctionProofs.{AreSameUnder, IsProofUnder, IsSaid, TellsProofUnder, by_comment, named_sides_text, sides_text}
 
 -- the row of sums to which all was added
-pub record IsRowOfAll (s : Space) (r : RelationView) (cs : List Constraint) (ws : List (ℕ × ℤ)) (row : Terms) : Type 0 where
+pub record IsRowOfAll (s : Space) (r : RelationView) (turned : Bool) (cs : List Constraint) (ws : List (ℕ × ℤ)) (row : Terms) : Type 0 where
   pub canonical : Ascends 0 row
-  pub excess : IsExcess s r cs ws row
+  pub excess : IsExcess s r turned cs ws row
 
-pub row_of_all : (s : Space) (r : RelationView) (cs : List Constraint) (ws : List (ℕ × ℤ)) (difference row : Terms) (places : ℕ) (zeros new : List ℤ) → places ≡ size_of s + 1
-    → IsRowOf s (λ p. signed_by true (difference_at s.variables p r)) difference → zeros ≡ replicate places (pos 0)
-    → IsPlus zeros new (λ p. value difference p +ℤ combination ws (constraint_value cs p)) → length zeros ≡ places → row ≡ terms_from 1 (drop 1 new) → IsRowOfAll s r cs ws row
-row_of_all s r cs ws difference row places zeros new count is none plus counted e = rw e (record {
+pub row_of_all : (s : Space) (r : RelationView) (turned : Bool) (cs : List Constraint) (ws : List (ℕ × ℤ)) (difference row : Terms) (places : ℕ) (zeros new : List ℤ) → places ≡ size_of s + 1
+    → IsRowOf s (λ p. signed_by turned (difference_at s.variables p r)) difference → zeros ≡ replicate places (pos 0)
+    → IsPlus zeros new (λ p. value difference p +ℤ combination ws (constraint_value cs p)) → length zeros ≡ places → row ≡ terms_from 1 (drop 1 new) → IsRowOfAll s r turned cs ws row
+row_of_all s r turned cs ws difference row places zeros new count is none plus counted e = rw e (record {
   canonical = row_ascends new (plus.within (subst (All IsWithin) (sym none) (All-replicate IsWithin places (pos 0) (omega arith))));
   excess = record {
     coordinates = row_up_to new (size_of s) (plus.complete ∙ counted ∙ count);
     same = λ p z. sum_from_zero (value (terms_from 1 (drop 1 new)) p) (dense_form new p) (dense_form zeros p) (value difference p) (combination ws (constraint_value cs p))
-        (side_form s.variables r r.left p) (side_form s.variables r r.right p)
+        (signed_by turned (difference_at s.variables p r))
         (row-value new (terms_from 1 (drop 1 new)) p refl z) (plus.sum p) (ap (λ (xs : List ℤ). dense_form xs p) none ∙ zeros-total 0 places p) (is.same p z);
   };
 })
   where
-    sum_from_zero : (row new old difference rest left right : ℤ) → row ≡ new → new ≡ old +ℤ (difference +ℤ rest) → old ≡ pos 0 → difference ≡ signed_by true (left -ℤ right) → row ≡ right +ℤ rest -ℤ left
-    sum_from_zero row new old difference rest left right e f g h = omega (arith, ints, e, f, g, h)
+    sum_from_zero : (row new old difference rest signed : ℤ) → row ≡ new → new ≡ old +ℤ (difference +ℤ rest) → old ≡ pos 0 → difference ≡ signed → row ≡ signed +ℤ rest
+    sum_from_zero row new old difference rest signed e f g h = omega (arith, ints, e, f, g, h)
 
--- a row that collapses to nothing is 0 under the functions
+-- a row that collapses to 0 is 0 under the functions
 pub nothing_collapsed : (n : ℕ) (ds : List Dependence) (row new : Terms) → IsCollapseOf n ds row new → new ≡ [] → AreSameUnder n ds (value row) (λ p. pos 0)
 nothing_collapsed n ds row new c e p z = sym (c p z) ∙ ap (λ (t : Terms). value t p) e
 
 -- an equation whose excess is 0 under functions is a proof where they hold
 pub proof_by_excess : (s : Space) (lines : List ℕ) (r : RelationView) (named : List (ℕ × ℤ)) (target : Terms) (cs : List Constraint) (ds : List Dependence) (row : Terms) → r.sign ≡ Equal
     → common_denominator r ≡ 1 → IsProofFrom s.variables r target cs → All (IsAllowed (forms_of (map of_constraint cs))) named
-    → All (λ l. l < (forms_of (map of_constraint cs)).count) lines → All (IsSaid s.variables (forms_of (map of_constraint cs)) lines) ds → IsExcess s r cs named row → AreSameUnder s.variables ds (value row) (λ p. pos 0)
+    → All (λ l. l < (forms_of (map of_constraint cs)).count) lines → All (IsSaid s.variables (forms_of (map of_constraint cs)) lines) ds → IsExcess s r true cs named row → AreSameUnder s.variables ds (value row) (λ p. pos 0)
     → IsProofUnder s.variables lines r named (value target) (forms_of (map of_constraint cs))
 proof_by_excess s lines r named target cs ds row equal one proves allowed there said is none = record {
   equality = equal;
@@ -78,7 +78,7 @@ proof_by_excess s lines r named target cs ds row equal one proves allowed there 
       (is.same q (ap p (place-zero s.variables ds) ∙ z)) (none p z);
 }
   where
-    nothing_more : (left right rest row : ℤ) → row ≡ right +ℤ rest -ℤ left → row ≡ pos 0 → left ≡ right +ℤ rest
+    nothing_more : (left right rest row : ℤ) → row ≡ neg_ℤ (left -ℤ right) +ℤ rest → row ≡ pos 0 → left ≡ right +ℤ rest
     nothing_more left right rest row e f = omega (arith, ints, e, f)
 
 -- what the functions are that constraints say
@@ -124,10 +124,8 @@ over_of_space v s row e h = subst (λ (z : Space). IsOver (size_of z) row) (sym 
 -- both texts with the comment
 pub both_printed : (v : NamesView) (target : Form) (cs : List Constraint) (lines : List ℕ) (named none : List (ℕ × ℤ)) (text whole by : List ℕ)
     → TellsProofUnder v (origins_of cs) lines named target (forms_of (map of_constraint cs)) text → TellsProofUnder v (origins_of cs) lines none target (forms_of (map of_constraint cs)) whole → none ≡ []
-    → by ≡ by_comment (origins_of cs) lines → ArePrintedFrom v target cs text whole by
+    → by ≡ by_comment (origins_of cs) lines → ArePrintedFrom v target cs lines named text whole by
 both_printed v target cs lines named none text whole by text_tells whole_tells e by_is = record {
-  lines = lines;
-  named = named;
   text_tells = text_tells;
   whole_tells = subst (λ (ws : List (ℕ × ℤ)). TellsProofUnder v (origins_of cs) lines ws target (forms_of (map of_constraint cs)) whole) e whole_tells;
   by_is = by_is;

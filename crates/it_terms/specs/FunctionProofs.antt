@@ -19,7 +19,7 @@ use Rattle.it_canon.specs.QuestionDemands.{question_demands, question_origins}
 use Rattle.it_terms.specs.Tells.{IsRelationText}
 use Rattle.it_terms.specs.Proofs.{IsProofOf, constraints_of, side_form}
 
--- one of these constraints, an equation, is 0 only where both sets of a function have one value, the first set inside the second
+-- one of the constraints `lines`, an equation, is 0 only where both sets of `d` have one value; `d.from` is inside `d.to`
 pub record IsSaid (n : ℕ) (g : Generators) (lines : List ℕ) (d : Dependence) : Type 0 where
   pub line : ℕ
   pub among : Contains lines line
@@ -33,9 +33,10 @@ pub record IsSaid (n : ℕ) (g : Generators) (lines : List ℕ) (d : Dependence)
 abbrev pub AreSameUnder : ℕ → List Dependence → Form → Form → Type 0
 AreSameUnder n ds f g = (p : ℕ → ℤ) → p 0 ≡ pos 0 → f (spread_out n ds p) ≡ g (spread_out n ds p)
 
--- The equation of n variables, without denominators, has on its left a multiple of the target, on its right terms with a plus over sets and
--- multiples of constraints. With these weights of named constraints on its right, of which only equations have a minus, it is true of
--- each map with one value at sets of one closure under functions that these lines say, which are lines that are there.
+-- The equation of n variables, without denominators, has on its left a multiple of the target, on its right terms with a plus
+-- over sets and multiples of constraints. With the weights `named` of constraints on its right, negative only for equations, it
+-- is true of each map with one value at sets of one closure under the functions that the constraints `lines` say, which are all
+-- there.
 pub record IsProofUnder (n : ℕ) (lines : List ℕ) (r : RelationView) (named : List (ℕ × ℤ)) (target : Form) (g : Generators) : Type 0 where
   pub equality : r.sign ≡ Equal
   pub whole : common_denominator r ≡ 1
@@ -50,7 +51,7 @@ pub record IsProofUnder (n : ℕ) (lines : List ℕ) (r : RelationView) (named :
 abbrev pub line_name : List Origin → ℕ → List ℕ
 line_name origins line = origin_text (slice_index_or origins line (Rate 0))
 
--- the sign of a weight that is the first of its side or not, and negative or not
+-- the text of the sign of a weight: by whether it is the first of its side, and by whether it is negative
 abbrev pub weight_sign : Bool → Bool → List ℕ
 weight_sign true true = codes "- "
 weight_sign true false = []
@@ -66,7 +67,7 @@ listed_names before origins is_first (l ∷ ls) = (if is_first then before else 
 abbrev pub by_comment : List Origin → List ℕ → List ℕ
 by_comment origins lines = listed_names (codes "  # by ") origins true lines
 
--- a number before what it counts, nothing where it is 1
+-- `n` and a blank, nothing where `n` is 1
 abbrev pub times_text : ℕ → List ℕ
 times_text n = if n == 1 then [] else decimal n ++ codes " "
 
@@ -75,7 +76,7 @@ unfoldable pub named_weight : List Origin → Bool → ℕ × ℤ → List ℕ
 named_weight origins is_first w =
     weight_sign is_first (int_lt w.1 (pos 0)) ++ times_text (unsigned_abs w.1) ++ codes "(" ++ line_name origins w.0 ++ codes ")"
 
--- weights so, one after the other
+-- the texts `named_weight` of weights, one after the other
 abbrev pub named_weights : List Origin → Bool → List (ℕ × ℤ) → List ℕ
 named_weights origins is_first [] = []
 named_weights origins is_first (w ∷ ws) = named_weight origins is_first w ++ named_weights origins false ws
@@ -84,11 +85,12 @@ named_weights origins is_first (w ∷ ws) = named_weight origins is_first w ++ n
 abbrev pub sides_text : List ℕ → List ℕ → List ℕ
 sides_text left right = left ++ codes " = " ++ (if length right == 0 then codes "0" else right)
 
--- the same with weights of constraints behind the right side by the names of their lines
+-- like `sides_text`, with the weights `named` of constraints behind the right side, by the names of their lines
 abbrev pub named_sides_text : List Origin → List (ℕ × ℤ) → List ℕ → List ℕ → List ℕ
 named_sides_text origins named left right = sides_text left (right ++ named_weights origins (length right == 0) named)
 
--- under these names the text is this relation, but that these weights of constraints stand behind its right side by the names of their lines
+-- under these names the text is the relation `r` with the weights `named` of constraints behind its right side, by the names of
+-- their lines
 pub record IsNamedText (v : NamesView) (origins : List Origin) (named : List (ℕ × ℤ)) (text : List ℕ) (r : RelationView) : Type 0 where
   pub left : List ℕ
   pub right : List ℕ
@@ -106,15 +108,15 @@ pub record TellsProofUnder (v : NamesView) (origins : List Origin) (lines : List
 abbrev pub TellsFormUnder : BodyView → List ℕ → List (ℕ × ℤ) → Form → List ℕ → Type 0
 TellsFormUnder q lines named target text = TellsProofUnder (problem_names q) (question_origins q) lines named target (constraints_of (question_demands q)) text
 
--- both texts tell such a proof, where the functions hold that the lines say which the comment names, the second one without any name
-pub record ArePrinted (q : BodyView) (target : Form) (text whole by : List ℕ) : Type 0 where
-  pub lines : List ℕ
-  pub named : List (ℕ × ℤ)
+-- `text` and `whole` tell a proof of the target where the functions hold that `lines` say, `whole` without naming constraints;
+-- `by` is the comment that names these lines
+pub record ArePrinted (q : BodyView) (target : Form) (lines : List ℕ) (named : List (ℕ × ℤ)) (text whole by : List ℕ) : Type 0 where
   pub text_tells : TellsFormUnder q lines named target text
   pub whole_tells : TellsFormUnder q lines [] target whole
   pub by_is : by ≡ by_comment (question_origins q) lines
 
--- What is told so proves: the target is at least 0 wherever a polymatroid and rates make the question's lines true.
+-- What a text tells a proof of where functions hold is at least 0 wherever a polymatroid and rates make the question's lines
+-- true.
 abbrev pub ToldUnderProves : Type 0
 ToldUnderProves = (q : BodyView) (lines : List ℕ) (named : List (ℕ × ℤ)) (target : Form) (text : List ℕ) → TellsFormUnder q lines named target text
     → (p : ℕ → ℤ) → AreTrueTogether q p → pos 0 ≤ℤ target p

@@ -7,3 +7,4 @@ pub mod FunctionProofs
 pub mod RowsUnder
 pub mod RowOrigins
 pub mod Signs
+pub mod StepsUnder

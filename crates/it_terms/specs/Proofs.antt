@@ -23,11 +23,11 @@ IsShannon n (Entropy of given) = (of < 2 ^ n) × (given < 2 ^ n)
 IsShannon n (Mutual left right given) = (left < 2 ^ n) × (right < 2 ^ n) × (given < 2 ^ n)
 IsShannon n (Rate r) = ⊥
 
--- such a term with a plus
+-- the term has a plus, and its atom is such an entropy or mutual information, or nothing
 abbrev pub IsPlusShannon : ℕ → Term → Type 0
 IsPlusShannon n t = (t.negative ≡ false) × IsShannon n t.atom
 
--- a side of a relation of n variables as a form: so often as the least common multiple of the relation's denominators
+-- a side of the relation `r` of n variables as a form: times the least common multiple of the denominators of `r`
 abbrev pub side_form : ℕ → RelationView → List Term → Form
 side_form n r side p = side_at n p (common_denominator r) side
 
@@ -45,8 +45,8 @@ pub record IsEquationText (v : NamesView) (text : List ℕ) (r : RelationView) :
   pub equality : r.sign ≡ Equal
   pub identity : IsIdentity (length v.variables) r
 
--- On the left of an equation of n variables is a multiple of the target, on its right are terms with a plus over sets, and
--- after them multiples of constraints, of which only equations are taken with a minus.
+-- On the left of an equation of n variables is a multiple of the target; on its right are terms with a plus over sets, and then
+-- multiples of constraints, negative only for equations.
 pub record IsProofOf (n : ℕ) (r : RelationView) (target : Form) (g : Generators) : Type 0 where
   pub shannon : List Term
   pub rest : List Term
@@ -65,7 +65,7 @@ pub record TellsProof (v : NamesView) (target : Form) (g : Generators) (text : L
   pub is : IsEquationText v text relation
   pub proves : IsProofOf (length v.variables) relation target g
 
--- the demand of a number, counted from 0
+-- demand `i`, counted from 0
 abbrev pub demand_at : List Demand → ℕ → Demand
 demand_at ds i = get_or ds i (equation (λ p. pos 0))
 
@@ -81,6 +81,6 @@ constraints_of ds = record {
 abbrev pub TellsForm : BodyView → Form → List ℕ → Type 0
 TellsForm q target text = TellsProof (problem_names q) target (constraints_of (question_demands q)) text
 
--- What is told so proves: the target is at least 0 wherever a polymatroid and rates make the question's lines true.
+-- What a text tells a proof of is at least 0 wherever a polymatroid and rates make the question's lines true.
 abbrev pub ToldProves : Type 0
 ToldProves = (q : BodyView) (target : Form) (text : List ℕ) → TellsForm q target text → (p : ℕ → ℤ) → AreTrueTogether q p → pos 0 ≤ℤ target p

@@ -19,11 +19,9 @@ IsProofFrom n r target constraints = IsProofOf n r (value target) (forms_of (map
 abbrev pub MayProve : NamesView → Terms → List Constraint → Option (Vec ℕ Global) → Type 0
 MayProve names target constraints o = IfSome o (λ text. TellsProof names (value target) (forms_of (map of_constraint constraints)) text.items)
 
--- both texts tell a proof of the target from the constraints, where the functions hold that the lines say which the comment names, the second
--- one without any name
-pub record ArePrintedFrom (v : NamesView) (target : Form) (cs : List Constraint) (text whole by : List ℕ) : Type 0 where
-  pub lines : List ℕ
-  pub named : List (ℕ × ℤ)
+-- `text` and `whole` tell a proof of the target from the constraints where the functions hold that `lines` say, `whole` without
+-- naming constraints; `by` is the comment that names these lines
+pub record ArePrintedFrom (v : NamesView) (target : Form) (cs : List Constraint) (lines : List ℕ) (named : List (ℕ × ℤ)) (text whole by : List ℕ) : Type 0 where
   pub text_tells : TellsProofUnder v (origins_of cs) lines named target (forms_of (map of_constraint cs)) text
   pub whole_tells : TellsProofUnder v (origins_of cs) lines [] target (forms_of (map of_constraint cs)) whole
   pub by_is : by ≡ by_comment (origins_of cs) lines

@@ -9,8 +9,8 @@ use Rattle.it_rates.specs.Asked.{under_all_lines}
 use Rattle.it_terms.specs.FunctionProofs.{by_comment, line_name, listed_names, times_text, weight_sign}
 use Rattle.it_terms.specs.Proofs.{AreSame, constraints_of}
 
--- A positive multiple of the form is the sum of constraints with these weights, at each map that is 0 at the empty set; none of the weights
--- is 0, and only those of equations are below it.
+-- A positive multiple of the form is the sum of constraints with these weights, at each map that is 0 at the empty set; no
+-- weight is 0, and only those of equations are below 0.
 pub record IsSumOf (g : Generators) (form : Form) (weights : List (ℕ × ℤ)) : Type 0 where
   pub scale : ℤ
   pub scale_from_one : pos 1 ≤ℤ scale
@@ -18,7 +18,8 @@ pub record IsSumOf (g : Generators) (form : Form) (weights : List (ℕ × ℤ)) 
   pub nonzero : All (λ w. w.1 ≢ pos 0) weights
   pub adds_up : AreSame (λ p. scale *ℤ form p) (λ p. combination weights (λ i. g.form i p))
 
--- the row is so the sum of lines of the question, `row` lines too; without weights it isn't told from which it comes
+-- a positive multiple of the row is the sum of lines of the question, `row` lines among them, with these weights; without
+-- weights nothing is said of where the row comes from
 abbrev pub ComesFrom : BodyView → Terms → List (ℕ × ℤ) → Type 0
 ComesFrom q row weights = (weights ≡ []) ⊎ IsSumOf (constraints_of (question_demands (under_all_lines q))) (value row) weights
 
@@ -26,12 +27,12 @@ ComesFrom q row weights = (weights ≡ []) ⊎ IsSumOf (constraints_of (question
 unfoldable pub line_weight : List Origin → Bool → ℕ × ℤ → List ℕ
 line_weight origins is_first w = weight_sign is_first (int_lt w.1 (pos 0)) ++ times_text (unsigned_abs w.1) ++ line_name origins w.0
 
--- weights so, one after the other
+-- the texts `line_weight` of weights, one after the other
 abbrev pub line_weights : List Origin → Bool → List (ℕ × ℤ) → List ℕ
 line_weights origins is_first [] = []
 line_weights origins is_first (w ∷ ws) = line_weight origins is_first w ++ line_weights origins false ws
 
--- the weights above 0, and then those below it
+-- the weights that aren't below 0, and then those below 0
 abbrev pub plus_first : List (ℕ × ℤ) → List (ℕ × ℤ)
 plus_first weights = filter (λ w. not (int_lt w.1 (pos 0))) weights ++ filter (λ w. int_lt w.1 (pos 0)) weights
 

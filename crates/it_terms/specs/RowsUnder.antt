@@ -40,7 +40,7 @@ given_demands q = flat_map (demands (variable_count q)) (problem_lines q).givens
 abbrev pub IsPrintedRow : BodyView → Terms → List ℕ → List ℕ → Type 0
 IsPrintedRow q row lines text = TellsRowUnder (problem_names q) lines row (constraints_of (given_demands q)) text
 
--- A row that is told so says what the row says wherever a polymatroid makes the question's `given` lines true.
+-- A text that is a printed row says what the row says wherever a polymatroid makes the question's `given` lines true.
 abbrev pub PrintedRowsSay : Type 0
 PrintedRowsSay = (q : BodyView) (row : Terms) (lines text : List ℕ) (t : IsPrintedRow q row lines text) (p : ℕ → ℤ) → IsPolymatroid (variable_count q) p → All (IsTrueAt (variable_count q) p) (problem_lines q).givens
     → Holds (variable_count q) p t.relation ↔ (pos 0 ≤ℤ value row p)

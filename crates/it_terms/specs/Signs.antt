@@ -36,16 +36,16 @@ pub record TellsRowBy (v : NamesView) (g : Generators) (lines : List ℕ) (row :
   pub is : IsRelationText v text relation
   pub same : SaysRowUnder (length v.variables) g lines relation row
 
--- it is that of a `given` line
+-- the origin is a `given` line
 abbrev pub IsGiven : Origin → Type 0
 IsGiven (Given line part parts) = Unit {0}
 IsGiven (Rate line) = ⊥
 
--- the number is that of an equation of a `given` line
+-- constraint `l` is an equation of a `given` line
 abbrev pub IsGivenEquation : List Constraint → ℕ → Type 0
 IsGivenEquation cs l = (l < length cs) × ((c : Constraint) × ((c ≡ get_or cs l c) × (IsGiven c.origin × (c.kind ≡ Equation))))
 
--- these numbers are those of equations of `given` lines
+-- the constraints `lines` are equations of `given` lines
 abbrev pub AreGivenEquations : List Constraint → List ℕ → Type 0
 AreGivenEquations cs lines = All (IsGivenEquation cs) lines
 

@@ -1,5 +1,5 @@
-//! Sets that are closed under a question's functions, and terms over them. What comes of them is judged by the equation that it
-//! gives.
+//! Sets that are closed under a question's functions, and terms over them. The results are judged by the equations that they
+//! give.
 ghost use Rattle.std.specs.Prelude.{◌≤◌};
 
 use it_closure::Dependences;
@@ -7,7 +7,7 @@ use it_space::VarSet;
 use it_syntax::types::Atom;
 use std::alloc::{AllocError, Global};
 
-/// The closures of all sets of some variables by the sets' numbers, and the sets by how many members they have.
+/// The closures of all sets of some variables, by the sets' numbers, and these sets by the number of their members.
 pub struct Closures {
     table: Vec<VarSet>,
     by_size: Vec<VarSet>,
@@ -22,7 +22,7 @@ impl Drop for Closures {
     }
 }
 
-/// I(P;Q|C) of closed sets, C inside P and Q; H(P|C) where P and Q are one.
+/// I(P;Q|C) of closed sets, where C lies inside P and Q; H(P|C) where P and Q are equal.
 #[derive(Clone, Copy, PartialEq, Eq)]
 pub struct ClosedTerm {
     pub first: VarSet,
@@ -30,12 +30,52 @@ pub struct ClosedTerm {
     pub given: VarSet,
 }
 
-/// How many members a set has.
+impl ClosedTerm {
+    /// The term as an atom with the closed sets themselves.
+    pub fn atom(&self) -> Atom {
+        if self.first == self.second {
+            return Atom::Entropy {
+                of: self.first,
+                given: self.given,
+            };
+        }
+        Atom::Mutual {
+            left: self.first,
+            right: self.second,
+            given: self.given,
+        }
+    }
+}
+
+/// Appends the terms H(P|C), and I(P;Q|C) of sets of which neither lies in the other, of the sets P and Q in `above`, where C
+/// is `given`; stops once there are more than `most`.
+fn put_terms(
+    terms: &mut Vec<ClosedTerm>,
+    above: &[VarSet],
+    given: VarSet,
+    most: usize,
+) -> Result<(), AllocError> {
+    for (i, first) in above.iter().enumerate() {
+        for second in &above[i..] {
+            let is_pair = !first.inside(*second) && !second.inside(*first);
+            if terms.len() <= most && (is_pair || first == second) {
+                terms.push(ClosedTerm {
+                    first: *first,
+                    second: *second,
+                    given,
+                })?;
+            }
+        }
+    }
+    Ok(())
+}
+
+/// The number of members of a set.
 pub fn size(set: VarSet) -> u32 {
     set.number().count_ones()
 }
 
-/// The sets of so many variables, those of fewer members first.
+/// The sets of `variables` variables, those of fewer members first.
 fn sets_by_size(alloc: Global, variables: u8) -> Result<Vec<VarSet>, AllocError>
     requires { variables ≤ 10 }
 {
@@ -51,7 +91,7 @@ fn sets_by_size(alloc: Global, variables: u8) -> Result<Vec<VarSet>, AllocError>
     Ok(sets)
 }
 
-/// The closures of the sets of so many variables.
+/// The closures of the sets of `variables` variables.
 pub fn closures_of(
     alloc: Global,
     dependences: &Dependences,
@@ -68,7 +108,7 @@ pub fn closures_of(
 }
 
 impl Closures {
-    /// The closure of a set; of another one the set itself.
+    /// The closure of `set`; `set` itself if it isn't in the table.
     pub fn close(&self, set: VarSet) -> VarSet {
         let at = set.number() as usize;
         if at < self.table.len() {
@@ -78,7 +118,12 @@ impl Closures {
         }
     }
 
-    /// A set of fewest members inside a closed set, without what is given, that with it has this closure.
+    /// All sets, those of fewer members first.
+    pub fn sets(&self) -> &[VarSet] {
+        self.by_size.as_slice()
+    }
+
+    /// A set of fewest members inside `closed`, apart from `given`, whose union with `given` has the closure `closed`.
     pub fn fewest(&self, closed: VarSet, given: VarSet) -> VarSet {
         for set in self.by_size.as_slice() {
             let apart = set.meet(given) == VarSet::empty();
@@ -87,6 +132,32 @@ impl Closures {
             }
         }
         closed.minus(given)
+    }
+
+    /// The closed sets that contain `set` and aren't `set`, those of fewer members first.
+    fn above(&self, alloc: Global, set: VarSet) -> Result<Vec<VarSet>, AllocError> {
+        let mut above = Vec::new(alloc);
+        for other in self.by_size.as_slice() {
+            if set.inside(*other) && *other != set && self.close(*other) == *other {
+                above.push(*other)?;
+            }
+        }
+        Ok(above)
+    }
+
+    /// All terms over closed sets, those with fewer members given first; None if there are more than `most`.
+    pub fn terms(&self, alloc: Global, most: usize) -> Result<Option<Vec<ClosedTerm>>, AllocError> {
+        let mut terms = Vec::new(alloc);
+        for set in self.by_size.as_slice() {
+            if self.close(*set) == *set {
+                let above = self.above(alloc, *set)?;
+                put_terms(&mut terms, above.as_slice(), *set, most)?;
+            }
+            if terms.len() > most {
+                return Ok(None);
+            }
+        }
+        Ok(Some(terms))
     }
 
     /// I(P;Q|C) of closed sets, None where it is 0.
@@ -126,7 +197,8 @@ impl Closures {
         }
     }
 
-    /// What I(A;B|C) and another term are together by the chain rule for the side A: I(A;B|C) + I(A,B;S|B) = I(A;S|C).
+    /// The sum of I(A;B|C) and `second` by the chain rule I(A;B|C) + I(A,B;S|B) = I(A;S|C) for the side A, where C is `given`;
+    /// None where it doesn't apply.
     fn joined_side(
         &self,
         a: VarSet,
@@ -147,7 +219,8 @@ impl Closures {
         }
     }
 
-    /// What two terms are together by one chain rule, the second one being given more; H(P|C) + H(S|P) = H(S|C).
+    /// The sum of two terms by one chain rule, in which `second` is given more, for entropies H(P|C) + H(S|P) = H(S|C); None
+    /// where none applies.
     pub fn joined(&self, first: &ClosedTerm, second: &ClosedTerm) -> Option<ClosedTerm> {
         if first.first == first.second {
             let goes_on = second.first == second.second && second.given == first.first;
@@ -163,8 +236,8 @@ impl Closures {
         }
     }
 
-    /// The atom of a term in few names.
-    pub fn atom(&self, term: &ClosedTerm) -> Atom {
+    /// `term` as an atom of few names.
+    pub fn short_atom(&self, term: &ClosedTerm) -> Atom {
         let given = self.fewest(term.given, VarSet::empty());
         let left = self.fewest(term.first, given);
         if term.first == term.second {
@@ -182,7 +255,8 @@ impl Closures {
         }
     }
 
-    /// The place of a coordinate: the closure of a set, 0 where that is the closure of the empty set; a rate's own.
+    /// The place of `coordinate`: of a set the number of its closure, 0 where that is the closure of the empty set; of a rate
+    /// its own.
     pub fn place(&self, coordinate: u32) -> u32 {
         let at = coordinate as usize;
         if at >= self.table.len() {

@@ -1,5 +1,5 @@
-//! Multiples of relations and of a question's constraints, in the terms of their lines. They are judged by the equation that
-//! they stand in.
+//! Multiples of relations and of a question's constraints, in the terms of their lines. They are judged by the equation in
+//! which they stand.
 use crate::finding::turned;
 use crate::untold::Untold;
 use it_fraction::lcm;
@@ -25,7 +25,7 @@ fn with_denominators(multiple: u64, terms: &[Term]) -> Result<u64, Untold> {
     Ok(multiple)
 }
 
-/// Puts a term so many times after the others, unless it is nothing; its denominator divides the multiple.
+/// Appends `times` times `multiple` times `term`, unless that is 0. The denominator of `term` divides `multiple`.
 fn put_times(out: &mut Vec<Term>, term: &Term, multiple: u64, times: i128) -> Result<(), Untold> {
     if term.denominator == 0 {
         return Err(Untold::NotFound);
@@ -45,7 +45,7 @@ fn put_times(out: &mut Vec<Term>, term: &Term, multiple: u64, times: i128) -> Re
     Ok(())
 }
 
-/// Puts terms so many times after the others; their denominators divide the multiple.
+/// Appends `times` times `multiple` times each of `terms`, without those that are 0; their denominators divide `multiple`.
 pub fn put_side(
     out: &mut Vec<Term>,
     terms: &[Term],
@@ -58,8 +58,8 @@ pub fn put_side(
     Ok(())
 }
 
-/// Puts what a relation says to be at least 0, or to be 0, so many times after the others: its left side less its right one,
-/// turned for `<=`, times the least common multiple of its denominators.
+/// Appends `times` times the form that `relation` says to be at least 0, or to be 0: its left side less its right one, negated
+/// for `<=`, times the least common multiple of its denominators. The side with a plus comes first.
 pub fn put_relation(out: &mut Vec<Term>, relation: &Relation, times: i128) -> Result<(), Untold> {
     let left = relation.left.terms.as_slice();
     let right = relation.right.terms.as_slice();
@@ -75,7 +75,7 @@ pub fn put_relation(out: &mut Vec<Term>, relation: &Relation, times: i128) -> Re
     }
 }
 
-/// Puts an atom so many times after the others.
+/// Appends `times` times `atom`.
 fn put_atom(out: &mut Vec<Term>, atom: Atom, times: i128) -> Result<(), Untold> {
     let term = Term {
         negative: false,
@@ -95,8 +95,8 @@ pub fn union_of(sets: &[VarSet]) -> VarSet {
     union
 }
 
-/// The link of a chain at its member of this number, counted from 0: that those before it and the one after it are
-/// independent given it.
+/// The mutual information that a Markov chain says to be 0 at its member `at`, counted from 0: of the union of those before it
+/// and the one after it, given it.
 pub fn link(sets: &[VarSet], at: usize) -> Result<Atom, Untold> {
     if at >= sets.len() || sets.len() - at < 2 {
         return Err(Untold::NotFound);
@@ -108,7 +108,7 @@ pub fn link(sets: &[VarSet], at: usize) -> Result<Atom, Untold> {
     })
 }
 
-/// Puts the entropies of independent sets less their joint entropy, each given a set, so many times after the others.
+/// Appends `times` times the entropies of `members` less their joint entropy, each given `given`.
 fn put_independence(
     out: &mut Vec<Term>,
     members: &[VarSet],
@@ -122,7 +122,7 @@ fn put_independence(
     put_atom(out, Atom::Entropy { of, given }, turned(times, true)?)
 }
 
-/// Puts what a part of a given demands so many times after the others; parts are counted from 1.
+/// Appends `times` times the form that part `part` of `given` demands to be at least 0, or to be 0; parts are counted from 1.
 fn put_given(out: &mut Vec<Term>, given: &Given, part: u16, times: i128) -> Result<(), Untold> {
     match given {
         Given::Relation(relation) => put_relation(out, relation, times),
@@ -138,7 +138,7 @@ fn put_given(out: &mut Vec<Term>, given: &Given, part: u16, times: i128) -> Resu
     }
 }
 
-/// The item of a number, counted from 1, of two lists one after the other.
+/// Item `number`, counted from 1, of `own` followed by `more`.
 pub fn item_of<'a, T>(own: &'a [T], more: &'a [T], number: u16) -> Result<&'a T, Untold> {
     if number == 0 {
         return Err(Untold::NotFound);
@@ -169,7 +169,8 @@ fn region_rows(question: &Question) -> &[Relation] {
     }
 }
 
-/// Puts what the line of an origin demands so many times after the others.
+/// Appends `times` times the form that the line of `origin` demands to be at least 0, or to be 0. Lines are counted over the
+/// question's own ones and then those of its first region.
 pub fn put_constraint(
     out: &mut Vec<Term>,
     question: &Question,

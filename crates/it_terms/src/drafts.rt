@@ -1,4 +1,4 @@
-//! How the terms of a row are laid out as a relation: rates on the left. What is laid out is judged by its text.
+//! Lays out the terms of a row as a relation, with rates on the left. The relation is judged by its text.
 ghost use Rattle.std.specs.Prelude.{◌≤◌};
 
 use crate::finding::{Found, term_of};
@@ -25,7 +25,7 @@ impl Drop for Draft {
     }
 }
 
-/// The terms of a row as often as a sum for its part over sets has it: those of rates, and then that sum.
+/// The terms of `found.scale` times `row`: those of its rates, and then `found.terms`, the sum for its part over sets.
 pub fn row_terms(alloc: Global, row: &Row, found: &Found, space: Space) -> Result<Vec<Term>, Untold>
     requires { space.variables ≤ 10 }
 {
@@ -42,7 +42,7 @@ pub fn row_terms(alloc: Global, row: &Row, found: &Found, space: Space) -> Resul
     Ok(terms)
 }
 
-/// Whether a term counts a rate or not, as told, and is negative or not.
+/// Whether `term` is a rate just if `rate`, and negative just if `negative`.
 fn is_of(term: &Term, rate: bool, negative: bool) -> bool {
     match term.atom {
         Atom::Rate(_) => rate && term.negative == negative,
@@ -50,7 +50,7 @@ fn is_of(term: &Term, rate: bool, negative: bool) -> bool {
     }
 }
 
-/// Whether one of the terms is a rate or not, as told, and negative or not.
+/// Whether one of `terms` is a rate just if `rates`, and negative just if `negative`.
 fn has(terms: &[Term], rates: bool, negative: bool) -> bool {
     for term in terms {
         if is_of(term, rates, negative) {
@@ -60,7 +60,7 @@ fn has(terms: &[Term], rates: bool, negative: bool) -> bool {
     false
 }
 
-/// Puts the terms that are rates or not, and negative or not, after the others; with their signs turned or not.
+/// Appends to `side` those of `terms` that are rates just if `rates`, and negative just if `negative`; negated if `turn`.
 fn put(
     side: &mut Vec<Term>,
     terms: &[Term],
@@ -79,9 +79,9 @@ fn put(
     Ok(())
 }
 
-/// The relation that says these terms to be at least 0, with those of one sign on the left: `<=` where that is a minus, as
-/// where a rate has one. Rates stand alone there if something of the other sign stands on the right, and without rates what is
-/// taken off stands on the left.
+/// The relation that says the sum of `terms` to be at least 0, with terms of one sign on its left: the negative ones, under
+/// `<=`, if a rate is negative, or if no rate is positive and another term is negative; else the positive ones, under `>=`.
+/// Rates stand alone on the left if something of the other sign stands on the right.
 pub fn laid_out(alloc: Global, terms: &[Term]) -> Result<Draft, AllocError> {
     let minus = has(terms, true, true) || !has(terms, true, false) && has(terms, false, true);
     let alone = has(terms, true, minus) && (has(terms, false, !minus) || has(terms, true, !minus));

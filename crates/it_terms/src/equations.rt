@@ -25,7 +25,7 @@ fn is_identity(alloc: Global, relation: &Relation, space: Space) -> Result<bool,
     Ok(row.is_zero())
 }
 
-/// The equation that a text is, read as what stands after the word of a `prove` line, where it is true of every map.
+/// The equation that `text` is after the word of a `prove` line; None where it isn't read as one, or isn't true of every map.
 #[tactic(auto, using(crate::proofs::EquationLemmas::equation_told))]
 pub fn equation(alloc: Global, text: &[u8], names: &Names) -> Result<Option<Relation>, AllocError>
     requires some { 1 ≤ length names.now.variables }
@@ -42,7 +42,7 @@ pub fn equation(alloc: Global, text: &[u8], names: &Names) -> Result<Option<Rela
     if identity { Ok(Some(read)) } else { Ok(None) }
 }
 
-/// The row of terms times a multiple of their denominators.
+/// The row of `multiple` times the sum of `terms`, where `multiple` is a multiple of their denominators.
 pub fn side_row(
     alloc: Global,
     terms: &[Term],

@@ -1,4 +1,4 @@
-//! Sums of measures that rows are. What is found is judged by the text that it gives, so no clause says it here.
+//! Writes rows as sums of measures. What is found is judged by the text that it gives, so no clause says it here.
 ghost use Rattle.std.specs.Prelude.{◌≤◌};
 
 use crate::measures::Measure;
@@ -10,7 +10,8 @@ use it_space::{Row, Space, VarSet};
 use it_syntax::types::{Atom, Term};
 use std::alloc::{AllocError, Global};
 
-/// Some measures, by their places among others, and the weights of their columns that make a sum.
+/// Measures, by their indexes in a list, and weights of columns that add up to a row. Column 2i is the row of the measure of
+/// index `places[i]`, column 2i + 1 is its negation.
 struct Choice {
     places: Vec<usize>,
     weights: Vec<(usize, Fraction)>,
@@ -25,7 +26,7 @@ impl Drop for Choice {
     }
 }
 
-/// The sum of a row's part over sets, so many times: each term with its sign.
+/// A sum that is `scale` times a row's part over sets: each term with its sign.
 pub struct Found {
     pub scale: i128,
     pub terms: Vec<Term>,
@@ -37,7 +38,7 @@ impl Drop for Found {
     }
 }
 
-/// A term of so many times an atom, where the number has at most 64 bits.
+/// `times` times `atom` as a term; `NotFound` if the number has more than 64 bits.
 pub fn term_of(times: i128, atom: Atom) -> Result<Term, Untold> {
     let number = u64::try_from(times.unsigned_abs())?;
     Ok(Term {
@@ -48,7 +49,7 @@ pub fn term_of(times: i128, atom: Atom) -> Result<Term, Untold> {
     })
 }
 
-/// The terms of a row over sets, which stand before those of rates.
+/// The terms of `row` over sets, which come before those of rates.
 fn set_terms(row: &Row, space: Space) -> &[(u32, i128)]
     requires { space.variables ≤ 10 }
 {
@@ -61,7 +62,7 @@ fn set_terms(row: &Row, space: Space) -> &[(u32, i128)]
     terms
 }
 
-/// Whether one of the measures has a coefficient at a coordinate.
+/// Whether the row of one of `measures` has a coefficient at `coordinate`.
 fn is_used(measures: &[Measure], coordinate: u32) -> bool {
     for measure in measures {
         if measure.row.coefficient(coordinate) != 0 {
@@ -71,7 +72,7 @@ fn is_used(measures: &[Measure], coordinate: u32) -> bool {
     false
 }
 
-/// The coordinates of sets at which the measures or the row have a coefficient.
+/// The coordinates of sets at which `row` or one of `measures` has a coefficient, ascending.
 fn used_coordinates(
     alloc: Global,
     measures: &[Measure],
@@ -89,7 +90,7 @@ fn used_coordinates(
     Ok(coordinates)
 }
 
-/// The rows of some measures by their places, each with its opposite after it.
+/// The rows of the measures with the indexes `places`, each followed by its negation.
 fn columns(alloc: Global, measures: &[Measure], places: &[usize]) -> Result<Vec<Row>, AllocError> {
     let mut columns = Vec::new(alloc);
     for place in places {
@@ -102,7 +103,7 @@ fn columns(alloc: Global, measures: &[Measure], places: &[usize]) -> Result<Vec<
     Ok(columns)
 }
 
-/// Weights of columns by which these add up to a row over the coordinates.
+/// Weights of `columns` by which they add up to `row` at `coordinates`; `NotFound` where none are found.
 pub fn weights_of(
     alloc: Global,
     coordinates: &[u32],
@@ -113,7 +114,7 @@ pub fn weights_of(
     weights.ok_or(Untold::NotFound)
 }
 
-/// A sum of some of the measures, by their places, that a row's part over the coordinates is.
+/// The measures with the indexes `places`, with weights by which they add up to `row` at `coordinates`.
 fn sum_of(
     alloc: Global,
     coordinates: &[u32],
@@ -126,7 +127,7 @@ fn sum_of(
     Ok(Choice { places, weights })
 }
 
-/// The places without the one of this number.
+/// `places` without the item with index `number`.
 fn without(alloc: Global, places: &[usize], number: usize) -> Result<Vec<usize>, AllocError> {
     let mut others = Vec::new(alloc);
     for (i, place) in places.iter().enumerate() {
@@ -137,7 +138,7 @@ fn without(alloc: Global, places: &[usize], number: usize) -> Result<Vec<usize>,
     Ok(others)
 }
 
-/// A sum of fewer measures than these, where one is found without one of them.
+/// A sum with fewer weights than `found`, of its measures without one of them; `NotFound` where none is found.
 fn shorter(
     alloc: Global,
     coordinates: &[u32],
@@ -160,10 +161,11 @@ fn shorter(
     Err(Untold::NotFound)
 }
 
-/// The most times that a sum is made shorter.
+/// A sum is made shorter at most this many times.
 const MOST_ROUNDS: u32 = 16;
 
-/// A sum of measures that a row's part over sets is, without measures that can be left out one by one.
+/// A sum of `measures` equal to the part of `row` over sets. Measures are left out of it one by one as long as that makes it
+/// shorter, at most `MOST_ROUNDS` times.
 fn short_sum(alloc: Global, measures: &[Measure], row: &Row, space: Space) -> Result<Choice, Untold>
     requires { space.variables ≤ 10 }
 {
@@ -180,13 +182,13 @@ fn short_sum(alloc: Global, measures: &[Measure], row: &Row, space: Space) -> Re
     Ok(best)
 }
 
-/// The least common multiple of the denominators of weights.
+/// The least common multiple of the denominators of `weights`; `NotFound` where it is too large.
 pub fn common_multiple(alloc: Global, weights: &[(usize, Fraction)]) -> Result<i128, Untold> {
     let multiple = multiple_of_denominators(alloc, weights)?;
     multiple.ok_or(Untold::NotFound)
 }
 
-/// A number with its sign turned or not.
+/// `number`, negated if `negative`; `NotFound` on overflow.
 pub fn turned(number: i128, negative: bool) -> Result<i128, Untold> {
     let signed = if negative {
         0i128.checked_sub(number)
@@ -199,7 +201,8 @@ pub fn turned(number: i128, negative: bool) -> Result<i128, Untold> {
     }
 }
 
-/// The term that a weight of a column makes of its measure, so many times.
+/// The term of the measure whose column is `weight.0`, `scale` times its weight; negated for a column that is a negation. The
+/// weight's denominator divides `scale`.
 fn weight_term(
     measures: &[Measure],
     places: &[usize],
@@ -215,7 +218,7 @@ fn weight_term(
     term_of(times, measures[places[column / 2]].atom)
 }
 
-/// A sum of several of the measures that a row's part over sets is.
+/// A sum of several of `measures` equal to the part of `row` over sets.
 fn found_sum(alloc: Global, measures: &[Measure], row: &Row, space: Space) -> Result<Found, Untold>
     requires { space.variables ≤ 10 }
 {
@@ -228,7 +231,7 @@ fn found_sum(alloc: Global, measures: &[Measure], row: &Row, space: Space) -> Re
     Ok(Found { scale, terms })
 }
 
-/// Whether one list of terms is so many times the other.
+/// Whether `terms` is `times` times `others`.
 fn is_multiple(terms: &[(u32, i128)], times: i128, others: &[(u32, i128)]) -> bool {
     if terms.len() != others.len() {
         return false;
@@ -241,7 +244,8 @@ fn is_multiple(terms: &[(u32, i128)], times: i128, others: &[(u32, i128)]) -> bo
     true
 }
 
-/// How often a measure has to be taken to be these terms.
+/// The factor that makes `terms` of `others`, the terms of a measure, of which the first one is 1 or -1; `NotFound` if there is
+/// none.
 fn multiple_of(terms: &[(u32, i128)], others: &[(u32, i128)]) -> Result<i128, Untold> {
     match (terms, others) {
         ([term, ..], [other, ..]) => {
@@ -256,12 +260,12 @@ fn multiple_of(terms: &[(u32, i128)], others: &[(u32, i128)]) -> Result<i128, Un
     }
 }
 
-/// The set of a coordinate, which is one.
+/// The set whose number is `coordinate`.
 fn set_at(coordinate: u32) -> VarSet {
     VarSet::from_number((coordinate % 65536) as u16)
 }
 
-/// H(B|A) so many times, by the coordinates of A and of both.
+/// The multiple of H(B|A) whose terms are `given`, at A, and `all`, at the union of A and B; `NotFound` if there is none.
 fn conditional(given: (u32, i128), all: (u32, i128)) -> Result<Term, Untold> {
     let small = set_at(given.0);
     let large = set_at(all.0);
@@ -272,7 +276,8 @@ fn conditional(given: (u32, i128), all: (u32, i128)) -> Result<Term, Untold> {
     term_of(all.1, Atom::Entropy { of, given: small })
 }
 
-/// I(A;B|C) so many times, by the set C and the coordinates of A with C, of B with C, and of all.
+/// The multiple of I(A;B|C) whose terms are `first`, at the union of A and C, `second`, at that of B and C, and `all`, at that
+/// of all three, where C is `given`; `NotFound` if there is none. The caller compares the coefficient at C.
 fn mutual(
     given: VarSet,
     first: (u32, i128),
@@ -292,7 +297,7 @@ fn mutual(
     term_of(first.1, Atom::Mutual { left, right, given })
 }
 
-/// The joint entropy of a coordinate, which is that of a set.
+/// The joint entropy of the set whose number is `coordinate`.
 fn joint(coordinate: u32) -> Atom {
     Atom::Entropy {
         of: set_at(coordinate),
@@ -300,7 +305,8 @@ fn joint(coordinate: u32) -> Atom {
     }
 }
 
-/// A multiple of an entropy or of a mutual information of any sets, which these terms by ascending coordinate are.
+/// The multiple of an entropy or of a mutual information of any sets that has these terms, by ascending coordinate; `NotFound`
+/// if there is none.
 fn any_single(terms: &[(u32, i128)]) -> Result<Term, Untold> {
     match terms {
         [only] => term_of(only.1, joint(only.0)),
@@ -317,7 +323,7 @@ fn any_single(terms: &[(u32, i128)]) -> Result<Term, Untold> {
     }
 }
 
-/// A multiple of one measure, which these terms are: of one of the question's own, else of one of any sets.
+/// The multiple of one measure that has these terms: of one of `measures`, else of one of any sets.
 fn single(measures: &[Measure], terms: &[(u32, i128)]) -> Result<Term, Untold> {
     for measure in measures {
         if let Ok(times) = multiple_of(terms, measure.row.terms()) {
@@ -327,7 +333,7 @@ fn single(measures: &[Measure], terms: &[(u32, i128)]) -> Result<Term, Untold> {
     any_single(terms)
 }
 
-/// The joint entropies that a row's part over sets is.
+/// The part of `row` over sets, as joint entropies.
 pub fn joint_sum(alloc: Global, row: &Row, space: Space) -> Result<Found, Untold>
     requires { space.variables ≤ 10 }
 {
@@ -338,8 +344,8 @@ pub fn joint_sum(alloc: Global, row: &Row, space: Space) -> Result<Found, Untold
     Ok(Found { scale: 1, terms })
 }
 
-/// A sum of measures that a row's part over sets is: one of the question's own measures, or one of any sets; else several of
-/// the question's own.
+/// A sum equal to the part of `row` over sets: one of `measures`, the question's own, or one measure of any sets; else several
+/// of `measures`.
 pub fn own_sum(
     alloc: Global,
     measures: &[Measure],

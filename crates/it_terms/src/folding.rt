@@ -1,5 +1,5 @@
-//! Sums over closed sets: what functions make 0 is left out, and terms are joined by the chain rules. What comes of them is judged
-//! by the equation that it gives.
+//! Sums over closed sets: terms that functions make 0 are left out, and the others are joined by the chain rules. The sums are
+//! judged by the equations that they give.
 use crate::closed::{ClosedTerm, Closures, size};
 use crate::measures::Measure;
 use crate::untold::Untold;
@@ -7,14 +7,14 @@ use it_fraction::sum;
 use it_syntax::types::{Atom, Term};
 use std::alloc::{AllocError, Global};
 
-/// A term over closed sets so many times.
+/// `times` copies of a term over closed sets.
 #[derive(Clone, Copy)]
 struct Summand {
     times: u64,
     term: ClosedTerm,
 }
 
-/// Two terms by their places, and what they are together.
+/// Two summands by their indexes, and the term that is the sum of theirs.
 #[derive(Clone, Copy)]
 struct Pair {
     first: usize,
@@ -22,7 +22,7 @@ struct Pair {
     term: ClosedTerm,
 }
 
-/// Puts a term after the others, or adds it to the same one.
+/// Adds `times` copies of `term`: to the summand of this term, else at the end. `NotFound` on overflow.
 fn add(summands: &mut Vec<Summand>, times: u64, term: ClosedTerm) -> Result<(), Untold> {
     for i in 0..summands.len() {
         if summands[i].term == term {
@@ -38,7 +38,7 @@ fn add(summands: &mut Vec<Summand>, times: u64, term: ClosedTerm) -> Result<(), 
     Ok(())
 }
 
-/// The first pair of terms that go together.
+/// The first pair of summands that a chain rule joins.
 fn first_pair(closures: &Closures, summands: &[Summand]) -> Option<Pair> {
     for first in 0..summands.len() {
         for second in 0..summands.len() {
@@ -56,7 +56,7 @@ fn first_pair(closures: &Closures, summands: &[Summand]) -> Option<Pair> {
     None
 }
 
-/// The terms with a pair joined as often as both have it; what it makes stands last.
+/// The summands with as many copies of `pair` joined as both of its terms have; the joined term is added last.
 fn with_pair(alloc: Global, summands: &[Summand], pair: &Pair) -> Result<Vec<Summand>, Untold> {
     if pair.first >= summands.len() || pair.second >= summands.len() {
         return Err(Untold::NotFound);
@@ -78,10 +78,10 @@ fn with_pair(alloc: Global, summands: &[Summand], pair: &Pair) -> Result<Vec<Sum
     Ok(others)
 }
 
-/// The most pairs that are joined.
+/// At most this many pairs are joined.
 const MOST_JOINED: u32 = 4096;
 
-/// Terms joined as long as two go together.
+/// The summands with pairs joined until no chain rule applies, or until `MOST_JOINED` are joined.
 fn joined(
     alloc: Global,
     closures: &Closures,
@@ -97,7 +97,8 @@ fn joined(
     Ok(joined)
 }
 
-/// Whether one term stands before another one: fewer members are given, then by the sets' numbers.
+/// Whether `term` is written before `other`: the one with fewer variables in `given` first, then by the numbers of `given`,
+/// `first` and `second`.
 fn stands_before(term: &ClosedTerm, other: &ClosedTerm) -> bool {
     if term.given != other.given {
         let few = size(term.given);
@@ -110,7 +111,7 @@ fn stands_before(term: &ClosedTerm, other: &ClosedTerm) -> bool {
     }
 }
 
-/// Puts a term before the first one before which it stands.
+/// Inserts `summand` before the first one that `stands_before` puts after it.
 fn put_in_order(summands: &mut Vec<Summand>, summand: Summand) -> Result<(), AllocError> {
     for i in 0..summands.len() {
         if stands_before(&summand.term, &summands[i].term) {
@@ -122,17 +123,17 @@ fn put_in_order(summands: &mut Vec<Summand>, summand: Summand) -> Result<(), All
     Ok(())
 }
 
-/// A term as an atom: the author's own measure where that is the same over closed sets, else one of few names.
+/// `term` as an atom: the first of `measures` that is this term over closed sets, else one of few names.
 pub fn atom_of(closures: &Closures, measures: &[Measure], term: &ClosedTerm) -> Atom {
     for measure in measures {
         if closures.fold(&measure.atom) == Some(*term) {
             return measure.atom;
         }
     }
-    closures.atom(term)
+    closures.short_atom(term)
 }
 
-/// A term as it is written.
+/// `summand` as a term to write.
 fn written(closures: &Closures, measures: &[Measure], summand: &Summand) -> Term {
     Term {
         negative: false,
@@ -142,7 +143,7 @@ fn written(closures: &Closures, measures: &[Measure], summand: &Summand) -> Term
     }
 }
 
-/// Terms in order, as they are written.
+/// `summands` in the order of `stands_before`, as terms to write.
 fn in_order(
     alloc: Global,
     closures: &Closures,
@@ -160,7 +161,7 @@ fn in_order(
     Ok(terms)
 }
 
-/// Terms with a plus over sets, over closed sets, joined, in order, and with few names.
+/// `terms`, which have a plus and are over sets, as terms over closed sets: joined, in order, and with few names.
 pub fn folded_terms(
     alloc: Global,
     closures: &Closures,
@@ -177,7 +178,7 @@ pub fn folded_terms(
     Ok(in_order(alloc, closures, measures, summands.as_slice())?)
 }
 
-/// The sum of the coefficients of a row at a place over closed sets.
+/// The sum of the coefficients of `terms` at coordinates whose place over closed sets is `place`.
 fn sum_at(closures: &Closures, terms: &[(u32, i128)], place: u32) -> Result<i128, Untold> {
     let mut total: i128 = 0;
     for term in terms {
@@ -188,7 +189,7 @@ fn sum_at(closures: &Closures, terms: &[(u32, i128)], place: u32) -> Result<i128
     Ok(total)
 }
 
-/// Whether a row is 0 over closed sets.
+/// Whether the row of `terms` is 0 over closed sets.
 pub fn vanishes(closures: &Closures, terms: &[(u32, i128)]) -> Result<bool, Untold> {
     for term in terms {
         let place = closures.place(term.0);

@@ -4,7 +4,7 @@ use it_space::VarSet;
 use it_syntax::types::{Atom, Term};
 use std::alloc::{AllocError, Global};
 
-/// The mutual information of two sets given a third, the one of the smaller number first.
+/// I(`one`;`other`|`given`), the set with the smaller number first.
 fn mutual(one: VarSet, other: VarSet, given: VarSet) -> Atom {
     if one.number() <= other.number() {
         Atom::Mutual {
@@ -21,8 +21,9 @@ fn mutual(one: VarSet, other: VarSet, given: VarSet) -> Atom {
     }
 }
 
-/// What I(A;B|C) and another atom are together by the chain rule for the side A, the other one being given B and C:
-/// I(A;B|C) + I(A;D|B,C) = I(A;B,D|C), where D has none of the variables before, and I(A;B|C) + H(A|B,C) = H(A|C).
+/// The sum of I(A;B|C) and `second`, an atom given B and C, by a chain rule for the side A; None where none applies. The rules:
+/// I(A;B|C) + I(A;D|B,C) = I(A;B,D|C), where D has none of the variables before;
+/// I(A;B|C) + H(A|B,C) = H(A|C).
 fn joined_side(a: VarSet, b: VarSet, c: VarSet, second: &Atom) -> Option<Atom> {
     let before = b.union(c);
     match second {
@@ -43,7 +44,7 @@ fn joined_side(a: VarSet, b: VarSet, c: VarSet, second: &Atom) -> Option<Atom> {
     }
 }
 
-/// What H(A|C) and another atom are together by the chain rule: H(A|C) + H(B|A,C) = H(A,B|C).
+/// The sum of H(A|C) and `second` by the chain rule H(A|C) + H(B|A,C) = H(A,B|C); None where it doesn't apply.
 fn joined_entropy(a: VarSet, c: VarSet, second: &Atom) -> Option<Atom> {
     match second {
         Atom::Entropy { of, given } => {
@@ -58,7 +59,7 @@ fn joined_entropy(a: VarSet, c: VarSet, second: &Atom) -> Option<Atom> {
     }
 }
 
-/// What two atoms are together by one chain rule, the second one being given more.
+/// The sum of two atoms as one atom, by a chain rule in which `second` is given more; None where none applies.
 fn joined(first: &Atom, second: &Atom) -> Option<Atom> {
     match first {
         Atom::Mutual { left, right, given } => {
@@ -72,7 +73,7 @@ fn joined(first: &Atom, second: &Atom) -> Option<Atom> {
     }
 }
 
-/// Two terms by their places, how often both are there, and what they are together.
+/// Two terms by their indexes, how many copies both have, and the atom that is the sum of theirs.
 #[derive(Clone, Copy)]
 struct Pair {
     first: usize,
@@ -81,7 +82,7 @@ struct Pair {
     atom: Atom,
 }
 
-/// The first pair of terms that go together.
+/// The first pair of terms that a chain rule joins.
 fn first_pair(terms: &[Term]) -> Option<Pair> {
     for first in 0..terms.len() {
         for second in 0..terms.len() {
@@ -101,7 +102,7 @@ fn first_pair(terms: &[Term]) -> Option<Pair> {
     None
 }
 
-/// A term with a plus.
+/// `number` times `atom`, with a plus.
 fn plus(number: u64, atom: Atom) -> Term {
     Term {
         negative: false,
@@ -111,7 +112,7 @@ fn plus(number: u64, atom: Atom) -> Term {
     }
 }
 
-/// Puts a term with a plus after the others, or adds it to that of its atom; nothing where its number is 0.
+/// Adds `number` times `atom`, with a plus: to the term with a plus of this atom, else at the end; nothing if `number` is 0.
 pub fn add_term(terms: &mut Vec<Term>, number: u64, atom: Atom) -> Result<(), AllocError> {
     if number == 0 {
         return Ok(());
@@ -128,7 +129,7 @@ pub fn add_term(terms: &mut Vec<Term>, number: u64, atom: Atom) -> Result<(), Al
     Ok(())
 }
 
-/// The terms with the pair joined as often as both have it; what it makes stands in the place of its first.
+/// `terms` with as many copies of `pair` joined as both of its terms have; the joined term comes in the place of the first one.
 fn with_pair(alloc: Global, terms: &[Term], pair: &Pair) -> Result<Vec<Term>, AllocError> {
     let mut others = Vec::new(alloc);
     for (i, term) in terms.iter().enumerate() {
@@ -145,10 +146,11 @@ fn with_pair(alloc: Global, terms: &[Term], pair: &Pair) -> Result<Vec<Term>, Al
     Ok(others)
 }
 
-/// The most pairs that are joined.
+/// At most this many pairs are joined.
 const MOST_JOINED: u32 = 4096;
 
-/// Terms with a plus over sets, joined by the chain rules as long as two go together.
+/// `terms`, which have a plus and are over sets, with pairs joined until no chain rule applies, or until `MOST_JOINED` are
+/// joined.
 pub fn joined_terms(alloc: Global, terms: &[Term]) -> Result<Vec<Term>, AllocError> {
     let mut joined = Vec::from_slice(alloc, terms)?;
     for _ in 0..MOST_JOINED {

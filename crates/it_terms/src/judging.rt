@@ -13,14 +13,15 @@ use it_syntax::Names;
 use it_syntax::types::{Relation, Sign};
 use std::alloc::{AllocError, Global};
 
-/// Whether two rows are the same.
+/// Whether two rows are equal.
 pub fn is_same(row: &Row, other: &Row) -> bool
     ensures { OnTrue result (row.now ≡ other.now) }
 {
     row.terms() == other.terms()
 }
 
-/// Whether an inequality says of each map just what the row says to be at least 0: their rows are the same in lowest terms.
+/// Whether `relation` is an inequality that holds exactly where `row` is at least 0: its row and `row` are equal in lowest
+/// terms.
 #[tactic(auto, using(crate::proofs::JudgedTexts::same_row_says))]
 fn says(alloc: Global, relation: &Relation, row: &Row, space: Space) -> Result<bool, AllocError>
     requires space { IsSpace space }

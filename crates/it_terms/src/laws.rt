@@ -10,12 +10,12 @@ pub fn texts_move()
     ensures { TextsMove }
 {}
 
-/// A target that a text tells a proof of is at least 0 wherever the question's lines are true.
+/// A target of which a text tells a proof is at least 0 wherever the question's lines are true.
 pub fn told_proves()
     ensures { ToldProves }
 {}
 
-/// A target that a text tells a proof of where functions hold is at least 0 wherever the question's lines are true.
+/// A target of which a text tells a proof where functions hold is at least 0 wherever the question's lines are true.
 pub fn told_under_proves()
     ensures { ToldUnderProves }
 {}

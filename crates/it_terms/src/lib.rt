@@ -1,4 +1,4 @@
-//! Rows and proofs in the field's notation, as texts that are read back and judged before they are handed out.
+//! Rows and proofs in the field's notation, as texts that are read back and judged before they are returned.
 #![tactic(auto)]
 
 mod closed;
@@ -13,6 +13,7 @@ mod laws;
 mod line_telling;
 mod measures;
 mod names;
+mod pieces;
 mod printing;
 mod proof_judging;
 mod proving;
@@ -23,8 +24,10 @@ mod row_printing;
 mod row_search;
 mod shortest;
 mod steps;
+mod steps_under;
 mod substituting;
 mod sums;
+mod tallies;
 mod telling;
 mod under;
 mod under_judging;
@@ -38,4 +41,5 @@ pub use proving::told_form;
 pub use row_origins::{row_comment, row_origin};
 pub use row_printing::{PrintedRow, printed_row};
 pub use steps::told_steps;
+pub use steps_under::printed_steps;
 pub use telling::told_row;

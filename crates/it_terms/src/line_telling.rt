@@ -1,4 +1,4 @@
-//! The line of a containment's second region with sets put in, judged before it is handed out.
+//! Lines of a containment's second region with sets substituted for its auxiliary variables, judged before they are returned.
 ghost use Rattle.std.specs.Prelude.{◌≡◌, ◌≤◌, IfOk, IfSome, length, map};
 ghost use Rattle.std.specs.Bool.{OnTrue};
 ghost use Rattle.std.specs.List.{AllZip};
@@ -26,7 +26,7 @@ use it_syntax::Names;
 use it_syntax::types::Relation;
 use std::alloc::{AllocError, Global};
 
-/// Whether two rows are at least 0 at the same maps: they are the same in lowest terms.
+/// Whether two rows are at least 0 at the same maps: they are equal in lowest terms.
 #[tactic(auto, using(crate::proofs::SignLemmas::least_together))]
 fn are_least_together(alloc: Global, row: &Row, other: &Row) -> Result<bool, AllocError>
     ensures { IfOk result (λ b. OnTrue b (AreLeastTogether row.now other.now)) }
@@ -36,7 +36,7 @@ fn are_least_together(alloc: Global, row: &Row, other: &Row) -> Result<bool, All
     Ok(is_same(&low, &other_low))
 }
 
-/// Whether rows are as many as others, and in order at least 0 at the same maps.
+/// Whether `rows` and `others` have one length and are, pair by pair, at least 0 at the same maps.
 fn are_all_least_together(alloc: Global, rows: &[Row], others: &[Row]) -> Result<bool, AllocError>
     ensures { IfOk result (λ b. OnTrue b (AllZip AreLeastTogether rows.now others.now)) }
 {
@@ -52,7 +52,7 @@ fn are_all_least_together(alloc: Global, rows: &[Row], others: &[Row]) -> Result
     Ok(true)
 }
 
-/// Whether a relation says just that these rows are at least 0: an equation two of them, its own and the one turned.
+/// Whether `relation` says just that `rows` are at least 0. An equation says it of two rows, its own and the negated one.
 fn says_rows(
     alloc: Global,
     relation: &Relation,
@@ -79,7 +79,7 @@ fn tells_rows(alloc: Global, text: &[u8], names: &Names, rows: &[Row]) -> Result
     }
 }
 
-/// The text of a line of a containment's second region with these parts put in.
+/// The text of a line of a containment's second region with `parts` substituted for its auxiliary variables.
 fn line_text(
     alloc: Global,
     question: &Question,
@@ -101,9 +101,9 @@ fn line_text(
     )?)
 }
 
-/// The text of a line of a containment's second region, by its number among the region's own lines, with a set put in for each auxiliary
-/// variable: as its author wrote it, without the terms of which nothing is left. None where it isn't read as a relation that says just
-/// these rows to be at least 0.
+/// The text of the line `origin` of a containment's second region, whose own lines are counted, with `parts` substituted for
+/// its auxiliary variables: in the author's own spelling, without terms of which nothing is left. None where the text isn't
+/// read as a relation that says just that `rows` are at least 0.
 pub fn told_line(
     alloc: Global,
     question: &Question,

@@ -25,7 +25,7 @@ impl Drop for Measure {
     }
 }
 
-/// What stands after a measure that is read by itself.
+/// Put after a measure to read it by itself.
 const AT_LEAST_ZERO: &[u8] = b" >= 0";
 
 /// Whether a byte may stand in a word.
@@ -38,7 +38,7 @@ fn is_blank(byte: u8) -> bool {
     byte == b' ' || byte == b'\t'
 }
 
-/// The place of the first byte from a place on that is no blank.
+/// The index of the first byte from `from` on that is no blank; the length of `text` if there is none.
 fn after_blanks(text: &[u8], from: usize) -> usize {
     for at in from..text.len() {
         if !is_blank(text[at]) {
@@ -48,12 +48,12 @@ fn after_blanks(text: &[u8], from: usize) -> usize {
     text.len()
 }
 
-/// Whether this byte stands at a place.
+/// Whether `byte` stands at `at`.
 fn stands(text: &[u8], at: usize, byte: u8) -> bool {
     at < text.len() && text[at] == byte
 }
 
-/// Whether an entropy or a mutual information begins at a place: no byte of a word stands before it.
+/// Whether an entropy or a mutual information begins at `at`: with `H` or `I` and no byte of a word before it.
 fn begins_measure(text: &[u8], at: usize) -> bool
     requires { at < length text.now }
 {
@@ -64,7 +64,7 @@ fn begins_measure(text: &[u8], at: usize) -> bool
     is_first && stands(text, after_blanks(text, at + 1), b'(')
 }
 
-/// The bytes from a place up to the next right parenthesis, without blanks.
+/// The bytes from `from` up to the next right parenthesis, without blanks.
 fn spelling_at(alloc: Global, text: &[u8], from: usize) -> Result<Vec<u8>, AllocError> {
     let mut spelling = Vec::new(alloc);
     for at in from..text.len() {
@@ -118,7 +118,7 @@ pub fn own_spelling<'a>(measures: &'a [Measure], atom: &Atom) -> Option<&'a [u8]
     None
 }
 
-/// Puts a measure after the others, unless it is there.
+/// Appends `found`, unless its atom is there already.
 fn put_new(measures: &mut Vec<Measure>, found: Option<Measure>) -> Result<(), AllocError> {
     if let Some(measure) = found {
         if own_spelling(measures.as_slice(), &measure.atom).is_none() {
@@ -128,7 +128,7 @@ fn put_new(measures: &mut Vec<Measure>, found: Option<Measure>) -> Result<(), Al
     Ok(())
 }
 
-/// Puts the measures of a line that are read under these names after the others, in the order of the line, unless they are there.
+/// Appends the measures of `line` that are read under `names`, in the line's order, unless they are there already.
 fn put_measures(
     alloc: Global,
     measures: &mut Vec<Measure>,

@@ -10,7 +10,7 @@ use it_space::{Constraint, Origin};
 use itoa::Buffer;
 use std::alloc::{AllocError, Global};
 
-/// Where the constraint of a number comes from.
+/// The origin of the constraint with index `line`; that of `row` line 0 if there is none.
 fn origin_at(constraints: &[Constraint], line: u32) -> Origin
     ensures { result ≡ slice_index_or (origins_of constraints.now) line (Rate 0) }
 {
@@ -22,7 +22,7 @@ fn origin_at(constraints: &[Constraint], line: u32) -> Origin
     }
 }
 
-/// The name of the line of a constraint.
+/// Writes the name of the line of a constraint.
 fn write_line_name(
     out: &mut Vec<u8>,
     constraints: &[Constraint],
@@ -33,14 +33,14 @@ fn write_line_name(
     write_origin(out, origin_at(constraints, line))
 }
 
-/// What stands before the name of a line in a list of them.
+/// What stands before a name in a list of lines: `before` for the first one, a comma for the others.
 fn before_name(before: &[u8], is_first: bool) -> &[u8]
     ensures { result.now ≡ (if is_first then before.now else codes ", ") }
 {
     if is_first { before } else { b", " }
 }
 
-/// The names of lines, the first of them after a text.
+/// Writes the names of `lines`, the first one after `before`, the others after commas.
 fn write_names(
     out: &mut Vec<u8>,
     before: &[u8],
@@ -58,7 +58,7 @@ fn write_names(
     Ok(())
 }
 
-/// The names of lines as a comment behind a text.
+/// The comment that names `lines`, to stand behind a text; empty if there are none.
 pub fn by_comment(
     alloc: Global,
     constraints: &[Constraint],
@@ -78,7 +78,7 @@ fn is_below_zero(number: i128) -> bool
     number < 0
 }
 
-/// The sign of a weight, which is the first of its side or not.
+/// The text of a weight's sign: without a plus where the weight is the first one of its side.
 fn weight_sign(is_first: bool, is_negative: bool) -> &'static [u8]
     ensures { result.now ≡ weight_sign is_first is_negative }
 {
@@ -90,7 +90,7 @@ fn weight_sign(is_first: bool, is_negative: bool) -> &'static [u8]
     }
 }
 
-/// A number before a name with a blank, and nothing where it is 1.
+/// Writes `number` and a blank; nothing where it is 1.
 fn write_times(out: &mut Vec<u8>, number: u128) -> Result<(), AllocError>
     ensures { OnOk result (out.new.items ≡ out.old.items ++ times_text number) }
 {
@@ -102,7 +102,7 @@ fn write_times(out: &mut Vec<u8>, number: u128) -> Result<(), AllocError>
     Ok(())
 }
 
-/// A weight of a constraint before the name of its line.
+/// Writes a weight of a constraint and then the name of its line.
 #[tactic(auto, unfolding(crate::specs::RowOrigins::line_weight))]
 fn write_line_weight(
     out: &mut Vec<u8>,
@@ -117,7 +117,7 @@ fn write_line_weight(
     write_line_name(out, constraints, weight.0)
 }
 
-/// Weights of constraints before the names of their lines.
+/// Writes weights of constraints, each followed by the name of its line.
 fn write_line_weights(
     out: &mut Vec<u8>,
     constraints: &[Constraint],
@@ -155,7 +155,7 @@ fn negative(alloc: Global, weights: &[(u32, i128)]) -> Result<Vec<(u32, i128)>, 
         .collect(alloc)
 }
 
-/// The weights above 0, and then those below it.
+/// The weights that aren't below 0, and then those below 0.
 fn plus_first(alloc: Global, weights: &[(u32, i128)]) -> Result<Vec<(u32, i128)>, AllocError>
     ensures { IfOk result (λ ws. ws.items ≡ plus_first weights.now) }
 {
@@ -185,7 +185,7 @@ pub fn origin_comment(
     Ok(out)
 }
 
-/// A weight of a constraint by the name of its line.
+/// Writes a weight of a constraint and then, in parentheses, the name of its line.
 #[tactic(auto, unfolding(crate::specs::FunctionProofs::named_weight))]
 fn write_weight(
     out: &mut Vec<u8>,
@@ -202,7 +202,7 @@ fn write_weight(
     out.extend_from_slice(b")")
 }
 
-/// A right side with weights of constraints behind it by the names of their lines.
+/// `right` with weights of constraints behind it, by the names of their lines.
 pub fn with_names(
     alloc: Global,
     right: &[u8],

@@ -1,6 +1,5 @@
 //! Proofs as papers print them: over closed sets, with constraints by the names of their lines.
 ghost use Rattle.std.specs.Prelude.{◌≡◌, ◌≤◌, IfOk, IfSome, [], false, length};
-ghost use Rattle.it_space.specs.Problems.{IsProblem, problem_view};
 ghost use Rattle.it_space.specs.Rows.{IsOver, value};
 ghost use Rattle.it_space.specs.Spaces.{size_of};
 ghost use Rattle.it_demand.specs.QuestionSpaces.{space_of};
@@ -18,7 +17,8 @@ use crate::measures::measures;
 use crate::names::by_comment;
 use crate::proof_judging::Split;
 use crate::proving::{
-    Asked, Summands, goal_of, least_summands, put_weighted, sum_of_numbers, summed_up,
+    Asked, Summands, goal_of, least_closed_summands, least_summands, put_weighted, sum_of_numbers,
+    summed_up,
 };
 use crate::telling::names_of;
 use crate::under::{functions_of, is_nothing_under};
@@ -34,16 +34,23 @@ use it_space::{Certificate, Problem, Row};
 use it_syntax::types::Term;
 use std::alloc::{AllocError, Global};
 
-/// A proof as papers print it: with names of constraints; whole, with their lines' own terms; and as a comment the lines that say the
-/// functions by which it is one.
+/// A proof as papers print it.
+/// `text`: with names of constraints.
+/// `whole`: with the terms of these constraints' lines instead.
+/// `by`: as a comment, the lines that say the functions where it holds.
+/// `lines`: these lines by their numbers.
+/// `named`: the weights of the constraints that `text` names.
 #[derive(Drop)]
 pub struct PrintedProof {
     pub text: Vec<u8>,
     pub whole: Vec<u8>,
     pub by: Vec<u8>,
+    pub lines: Vec<u32>,
+    pub named: Vec<(u32, i128)>,
 }
 
-/// Puts the weights of one sign after the others, but for those of constraints that are 0 over closed sets.
+/// Adds the constraints with a weight below 0 if `negative`, else those with another weight, without constraints that are 0
+/// over closed sets.
 fn put_weights(
     summands: &mut Summands,
     asked: &Asked<'_>,
@@ -64,7 +71,7 @@ fn put_weights(
     Ok(())
 }
 
-/// What is summed up, over closed sets.
+/// The summands over closed sets.
 fn folded(
     alloc: Global,
     asked: &Asked<'_>,
@@ -94,7 +101,7 @@ fn folded(
     Ok(folded)
 }
 
-/// How many terms and names a proof has.
+/// The number of terms and names of a proof.
 fn pieces(summands: &Summands) -> usize {
     summands
         .shannon
@@ -102,7 +109,29 @@ fn pieces(summands: &Summands) -> usize {
         .saturating_add(summands.weights.len())
 }
 
-/// What is summed up, over closed sets, or by a proof with the least sum of terms where that has no more terms and names then.
+/// The one of `best`, a proof over closed sets, and `other`, if that was found, with fewer terms and names; `other`, over
+/// closed sets, if both have as many.
+fn shorter(
+    alloc: Global,
+    asked: &Asked<'_>,
+    closures: &Closures,
+    best: Summands,
+    other: Result<Summands, Untold>,
+) -> Result<Summands, Untold> {
+    let other = match other {
+        Ok(other) => folded(alloc, asked, closures, &other)?,
+        Err(Untold::NotFound) => return Ok(best),
+        Err(Untold::Memory) => return Err(Untold::Memory),
+    };
+    Ok(if pieces(&other) <= pieces(&best) {
+        other
+    } else {
+        best
+    })
+}
+
+/// The summands over closed sets, or those of a proof with the least sum of terms over sets or over closed sets, where that has
+/// no more terms and names.
 fn short_folded(
     alloc: Global,
     asked: &Asked<'_>,
@@ -112,19 +141,15 @@ fn short_folded(
     let plain = folded(alloc, asked, closures, summands)?;
     let joined = joined_terms(alloc, summands.shannon.as_slice())?;
     let most = sum_of_numbers(joined.as_slice());
-    let least = match least_summands(alloc, asked, summands.scale, most) {
-        Ok(least) => folded(alloc, asked, closures, &least)?,
-        Err(Untold::NotFound) => return Ok(plain),
-        Err(Untold::Memory) => return Err(Untold::Memory),
-    };
-    Ok(if pieces(&least) <= pieces(&plain) {
-        least
-    } else {
-        plain
-    })
+    let least = least_summands(alloc, asked, summands.scale, most);
+    let best = shorter(alloc, asked, closures, plain, least)?;
+    let most = sum_of_numbers(best.shannon.as_slice());
+    let least = least_closed_summands(alloc, asked, closures, best.scale, most);
+    shorter(alloc, asked, closures, best, least)
 }
 
-/// The terms over sets, as they are without folding where nothing folds and that is no longer.
+/// The terms over sets joined without folding, where there are no functions, `folded` has no constraints, and these are no more
+/// terms; else `folded`.
 fn unfolded(
     alloc: Global,
     dependences: &Dependences,
@@ -146,7 +171,7 @@ fn unfolded(
     })
 }
 
-/// The weights of constraints, where they stand by name.
+/// `weights` if `named`, else none.
 fn names_of_weights(
     alloc: Global,
     weights: &[(u32, i128)],
@@ -161,7 +186,7 @@ fn names_of_weights(
     }
 }
 
-/// The sides of a proof: with the terms of constraints behind those over sets, or with their names.
+/// The sides of a proof, with the constraints behind the terms over sets: by name if `named`, else by their own terms.
 fn sides(
     alloc: Global,
     asked: &Asked<'_>,
@@ -202,7 +227,7 @@ fn sides(
     })
 }
 
-/// The numbers without this one.
+/// `lines` without `line`.
 fn without(alloc: Global, lines: &[u32], line: u32) -> Result<Vec<u32>, AllocError> {
     let mut others = Vec::new(alloc);
     for other in lines {
@@ -213,9 +238,8 @@ fn without(alloc: Global, lines: &[u32], line: u32) -> Result<Vec<u32>, AllocErr
     Ok(others)
 }
 
-/// Whether a row is 0 where the functions hold that the constraints of these numbers say.
+/// Whether `row` is 0 where the functions hold that the constraints `lines` say.
 fn is_nothing_by(alloc: Global, problem: &Problem, lines: &[u32], row: &Row) -> Result<bool, Untold>
-    requires problem { IsProblem (problem_view problem.now) }
     requires row { IsOver (size_of problem.now.space) row.now }
 {
     match functions_of(alloc, problem, lines)? {
@@ -239,14 +263,14 @@ fn function_lines(
     Ok(lines)
 }
 
-/// Of the constraints that say functions those by which a row is 0: each is left out in turn, and kept where it isn't 0 without it.
+/// Those of `lines`, constraints that say functions, by which `row` is 0: each is left out in turn, and kept where the row
+/// isn't 0 without it.
 fn needed_lines(
     alloc: Global,
     problem: &Problem,
     lines: &[u32],
     row: &Row,
 ) -> Result<Vec<u32>, Untold>
-    requires problem { IsProblem (problem_view problem.now) }
     requires row { IsOver (size_of problem.now.space) row.now }
 {
     let mut needed = Vec::from_slice(alloc, lines)?;
@@ -259,7 +283,7 @@ fn needed_lines(
     Ok(needed)
 }
 
-/// The proof that summands make, where it is one.
+/// The proof by these summands; None where their texts aren't judged to be one.
 #[tactic(auto, using(crate::proofs::UnderLemmas::both_printed, crate::proofs::UnderLemmas::over_of_space))]
 fn printed_by(
     alloc: Global,
@@ -269,28 +293,36 @@ fn printed_by(
     summands: &Summands,
 ) -> Result<Option<PrintedProof>, Untold>
     requires some { 1 ≤ length asked.now.names.now.variables }
-    requires problem { IsProblem (problem_view problem.now) }
     requires space { problem.now.space ≡ record { variables = length asked.now.names.now.variables; rates = length asked.now.names.now.rates } }
-    ensures { IfOk result (λ o. IfSome o (λ t. ArePrintedFrom asked.now.names.now (value asked.now.target.now) problem.now.constraints.items t.text.items t.whole.items t.by.items)) }
+    ensures { IfOk result (λ o. IfSome o (λ t. ArePrintedFrom asked.now.names.now (value asked.now.target.now) problem.now.constraints t.lines.items t.named.items t.text.items t.whole.items t.by.items)) }
 {
     let whole = sides(alloc, asked, summands, false)?;
     let named = sides(alloc, asked, summands, true)?;
-    let constraints = problem.constraints.as_slice();
+    let constraints = problem.constraints();
     let row = sides_excess(alloc, asked.names, constraints, &whole)?;
-    let lines = function_lines(alloc, dependences, count(problem.space.variables))?;
-    let lines = needed_lines(alloc, problem, lines.as_slice(), &row)?;
-    let lines = lines.as_slice();
-    let Some(text) = judged_under(alloc, asked.names, problem, lines, asked.target, &named)? else {
+    let all = function_lines(alloc, dependences, count(problem.space().variables))?;
+    let lines = needed_lines(alloc, problem, all.as_slice(), &row)?;
+    let by_lines = lines.as_slice();
+    let Some(text) = judged_under(alloc, asked.names, problem, by_lines, asked.target, &named)?
+    else {
         return Ok(None);
     };
-    let Some(whole) = judged_under(alloc, asked.names, problem, lines, asked.target, &whole)? else {
+    let Some(whole) = judged_under(alloc, asked.names, problem, by_lines, asked.target, &whole)?
+    else {
         return Ok(None);
     };
-    let by = by_comment(alloc, constraints, lines)?;
-    Ok(Some(PrintedProof { text, whole, by }))
+    let by = by_comment(alloc, constraints, by_lines)?;
+    let named = Vec::from_slice(alloc, named.named.as_slice())?;
+    Ok(Some(PrintedProof {
+        text,
+        whole,
+        by,
+        lines,
+        named,
+    }))
 }
 
-/// The proof of a row from a problem's constraints, by a certificate.
+/// The proof of `target` from the constraints of `problem`, by a certificate.
 fn any_printed(
     alloc: Global,
     question: &Question,
@@ -301,9 +333,8 @@ fn any_printed(
     short: bool,
 ) -> Result<Option<PrintedProof>, Untold>
     requires question { IsQuestion (question_body question.now) }
-    requires problem { IsProblem (problem_view problem.now) }
     requires space { problem.now.space ≡ space_of (problem_names (question_body question.now)) }
-    ensures { IfOk result (λ o. IfSome o (λ t. ArePrintedFrom (problem_names (question_body question.now)) (value target.now) problem.now.constraints.items t.text.items t.whole.items t.by.items)) }
+    ensures { IfOk result (λ o. IfSome o (λ t. ArePrintedFrom (problem_names (question_body question.now)) (value target.now) problem.now.constraints t.lines.items t.named.items t.text.items t.whole.items t.by.items)) }
 {
     let names = names_of(question);
     let measures = measures(alloc, question.source.as_slice(), names)?;
@@ -314,7 +345,7 @@ fn any_printed(
         names,
         target,
         goal: &goal,
-        constraints: problem.constraints.as_slice(),
+        constraints: problem.constraints(),
     };
     let summands = summed_up(alloc, &asked, certificate)?;
     let dependences = Dependences::read(alloc, problem)?;
@@ -328,10 +359,10 @@ fn any_printed(
     printed_by(alloc, &asked, problem, &dependences, &summands)
 }
 
-/// The proof of a row from the lines of a question, by a certificate, as papers print it; None where none was found. Over sets that
-/// are closed under the functions that the question's `given` lines say, terms that these make 0 are left out, and others are
-/// joined by the chain rules; constraints stand behind them by the names of their lines. The left side is that of `told_form`. Where
-/// a short one is asked for, one with the least sum of terms is looked for as well, which may take long.
+/// The proof of `target` from the lines of a question, by a certificate, as papers print it; None where none was found. Over
+/// sets that are closed under the functions that the question's `given` lines say, terms that these make 0 are left out, and
+/// others are joined by the chain rules; constraints stand behind them by the names of their lines. The left side is that of
+/// `told_form`. With `short`, a proof with the least sum of terms is looked for as well, which may take long.
 pub fn printed_form(
     alloc: Global,
     question: &Question,
@@ -341,7 +372,7 @@ pub fn printed_form(
     short: bool,
 ) -> Result<Option<PrintedProof>, AllocError>
     requires { IsQuestion (question_body question.now) }
-    ensures { IfOk result (λ o. IfSome o (λ t. ArePrinted (question_body question.now) (value target.now) t.text.items t.whole.items t.by.items)) }
+    ensures { IfOk result (λ o. IfSome o (λ t. ArePrinted (question_body question.now) (value target.now) t.lines.items t.named.items t.text.items t.whole.items t.by.items)) }
 {
     let posed = problem(alloc, question)?;
     match any_printed(alloc, question, &posed, target, certificate, line, short) {

@@ -16,8 +16,8 @@ use it_syntax::types::{Atom, Relation, Term};
 use it_syntax::{Names, common_denominator};
 use std::alloc::{AllocError, Global};
 
-/// What the sides of an equation are said to be: how many terms of the right side are over sets, the weight of the target on the
-/// left, which is number 0, and the weights of the constraints, which the other terms are.
+/// How an equation is claimed to be a proof: its right side is `shannon` terms over sets and then the sum of constraints with
+/// `weights`; its left side is `target.1` times the target, whose index `target.0` is 0.
 #[derive(Drop)]
 pub struct Split {
     pub shannon: usize,
@@ -25,7 +25,7 @@ pub struct Split {
     pub weights: Vec<(u32, i128)>,
 }
 
-/// A proof that is proposed: its text, and what its sides are.
+/// A proposed proof: its text, and how its sides are split.
 #[derive(Drop)]
 pub struct Proposal {
     pub text: Vec<u8>,
@@ -56,8 +56,9 @@ fn are_plus(terms: &[Term], space: Space) -> bool
     true
 }
 
-/// Whether an equation's right side begins with so many terms over sets, its other terms there are the constraints with
-/// their weights, and its left side is the target so many times.
+/// Whether `relation` is the proof that `split` claims: its right side begins with `split.shannon` terms over sets with a plus,
+/// the other terms there are the sum of `constraints` with `split.weights`, and its left side is `split.target.1` times
+/// `target`.
 pub fn is_proof(
     alloc: Global,
     relation: &Relation,

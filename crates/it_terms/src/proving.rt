@@ -1,4 +1,4 @@
-//! The line of a proof, judged before it is handed out.
+//! The line of a proof, judged before it is returned.
 ghost use Rattle.std.specs.Prelude.{◌≤◌, ◌<◌, IfOk, IfSome, length};
 ghost use Rattle.it_space.specs.Rows.{value};
 ghost use Rattle.it_polymatroid.specs.Elementals.{elementals};
@@ -7,6 +7,7 @@ ghost use Rattle.it_question.specs.Questions.{question_body};
 ghost use Rattle.it_terms.specs.Proposals.{MayProve};
 ghost use Rattle.it_terms.specs.Proofs.{TellsForm};
 
+use crate::closed::Closures;
 use crate::constraints::{put_constraint, put_relation, put_side};
 use crate::drafts::row_terms;
 use crate::finding::{joint_sum, own_sum};
@@ -15,7 +16,7 @@ use crate::judging::is_same;
 use crate::measures::{Measure, measures};
 use crate::proof_judging::{Proposal, Split, tells_proof};
 use crate::reading::relation_text;
-use crate::shortest::shortest;
+use crate::shortest::{LeastSum, shortest, shortest_closed};
 use crate::telling::names_of;
 use crate::untold::Untold;
 use crate::writing::sums_text;
@@ -28,7 +29,7 @@ use it_syntax::Names;
 use it_syntax::types::{Atom, Relation, Sign, Term};
 use std::alloc::{AllocError, Global};
 
-/// The terms of a target, and how often they have it.
+/// Terms whose sum is `factor` times a target.
 pub struct Goal {
     pub terms: Vec<Term>,
     pub factor: i128,
@@ -43,7 +44,7 @@ impl Drop for Goal {
     }
 }
 
-/// What is summed up, for a target so many times: terms over sets, the terms of constraints, and the weights of these.
+/// What a proof of `scale` times its goal sums up: terms over sets, the terms of constraints, and the weights of these.
 pub struct Summands {
     pub scale: i128,
     pub shannon: Vec<Term>,
@@ -62,7 +63,7 @@ impl Drop for Summands {
     }
 }
 
-/// What is to be proved and what may be used: a target, its terms, the constraints of the question's problem, and how these
+/// What has to be proved and what may be used: a target, its terms, the constraints of the question's problem, and how these
 /// are written.
 #[derive(Drop)]
 pub struct Asked<'a> {
@@ -83,7 +84,7 @@ fn variable(i: u8) -> VarSet {
     }
 }
 
-/// An elemental inequality as an atom.
+/// Elemental inequality `index` of `n` variables as an atom.
 fn elemental_atom(n: u8, index: u32) -> Atom
     requires some { 1 ≤ n }
     requires few { n ≤ 10 }
@@ -103,7 +104,7 @@ fn elemental_atom(n: u8, index: u32) -> Atom
     }
 }
 
-/// Adds a constraint by its number so many times.
+/// Adds `times` times the constraint with index `index`: its terms, and its weight.
 pub fn put_weighted(
     summands: &mut Summands,
     asked: &Asked<'_>,
@@ -119,7 +120,7 @@ pub fn put_weighted(
     Ok(())
 }
 
-/// What a certificate sums up, as often as the goal has its target.
+/// What a certificate sums up, times the factor of the goal.
 pub fn summed_up(
     alloc: Global,
     asked: &Asked<'_>,
@@ -147,7 +148,7 @@ pub fn summed_up(
     Ok(summands)
 }
 
-/// The text of an equation between the goal, as often as summands say, and these terms over sets with those of constraints.
+/// The text of the equation of `summands.scale` times the goal and the sum of `shannon` and the terms of constraints.
 fn equation_text(
     alloc: Global,
     asked: &Asked<'_>,
@@ -168,7 +169,7 @@ fn equation_text(
     )?)
 }
 
-/// The proposal of a proof with these terms over sets.
+/// The proposal of a proof with the terms `shannon` over sets.
 fn proposal(
     alloc: Global,
     asked: &Asked<'_>,
@@ -191,7 +192,7 @@ fn proposal(
     })
 }
 
-/// The text of an equation with these terms over sets, where it tells a proof of the target.
+/// The text of the equation with the terms `shannon` over sets, where it tells a proof of the target.
 fn judged(
     alloc: Global,
     asked: &Asked<'_>,
@@ -215,7 +216,7 @@ fn judged(
     }
 }
 
-/// The text of a proof by what is summed up: with the terms over sets joined, else with each by itself.
+/// The text of a proof by these summands: with the terms over sets joined, else with each by itself.
 fn proof_by(
     alloc: Global,
     asked: &Asked<'_>,
@@ -241,22 +242,18 @@ pub fn sum_of_numbers(terms: &[Term]) -> i128 {
     sum
 }
 
-/// What a proof with the least sum of terms over sets sums up: no more terms than so many.
-pub fn least_summands(
-    alloc: Global,
-    asked: &Asked<'_>,
-    scale: i128,
-    most: i128,
-) -> Result<Summands, Untold> {
-    let factor = asked.goal.factor;
-    let often = signed_product(scale, factor)?;
-    if factor <= 0 {
+/// The number of copies of the target's row in `scale` copies of the goal.
+fn times_of_goal(goal: &Goal, scale: i128) -> Result<i128, Untold> {
+    if goal.factor <= 0 {
         return Err(Untold::NotFound);
     }
-    let space = asked.names.space();
-    let least = shortest(alloc, space, asked.constraints, asked.target, often, most)?;
+    Ok(signed_product(scale, goal.factor)?)
+}
+
+/// The summands of a proof with the least sum of terms.
+fn summands_of(alloc: Global, asked: &Asked<'_>, least: &LeastSum) -> Result<Summands, Untold> {
     let mut summands = Summands {
-        scale: least.scale / factor,
+        scale: least.scale / asked.goal.factor.max(1),
         shannon: Vec::from_slice(alloc, least.terms.as_slice())?,
         rest: Vec::new(alloc),
         weights: Vec::new(alloc),
@@ -267,7 +264,41 @@ pub fn least_summands(
     Ok(summands)
 }
 
-/// The text of a proof with the least sum of terms over sets, where one is found that is no longer than these summands.
+/// The summands of a proof with the least sum of terms over sets. For `scale` times the goal that sum is at most `most`.
+pub fn least_summands(
+    alloc: Global,
+    asked: &Asked<'_>,
+    scale: i128,
+    most: i128,
+) -> Result<Summands, Untold> {
+    let often = times_of_goal(asked.goal, scale)?;
+    let space = asked.names.space();
+    let least = shortest(alloc, space, asked.constraints, asked.target, often, most)?;
+    summands_of(alloc, asked, &least)
+}
+
+/// Like `least_summands`, with terms over closed sets.
+pub fn least_closed_summands(
+    alloc: Global,
+    asked: &Asked<'_>,
+    closures: &Closures,
+    scale: i128,
+    most: i128,
+) -> Result<Summands, Untold> {
+    let often = times_of_goal(asked.goal, scale)?;
+    let least = shortest_closed(
+        alloc,
+        closures,
+        asked.names.space(),
+        asked.constraints,
+        asked.target,
+        often,
+        most,
+    )?;
+    summands_of(alloc, asked, &least)
+}
+
+/// The text of a proof with the least sum of terms over sets, where one is found whose sum is at most that of `summands`.
 fn least_proof(
     alloc: Global,
     asked: &Asked<'_>,
@@ -282,7 +313,7 @@ fn least_proof(
     proof_by(alloc, asked, &least)
 }
 
-/// A row as a goal, in measures where it is a sum of these, else in joint entropies.
+/// `row` as a goal, in measures where it is a sum of these, else in joint entropies.
 fn row_goal(alloc: Global, measures: &[Measure], names: &Names, row: &Row) -> Result<Goal, Untold> {
     let space = names.space();
     let found = match own_sum(alloc, measures, row, space) {
@@ -297,14 +328,14 @@ fn row_goal(alloc: Global, measures: &[Measure], names: &Names, row: &Row) -> Re
     })
 }
 
-/// A target of a relation as a goal, in the relation's own terms.
+/// Target `target` of a relation, counted from 0, as a goal in the relation's own terms.
 fn relation_goal(alloc: Global, relation: &Relation, target: usize) -> Result<Goal, Untold> {
     let mut terms = Vec::new(alloc);
     put_relation(&mut terms, relation, if target == 1 { -1 } else { 1 })?;
     Ok(Goal { terms, factor: 1 })
 }
 
-/// The place of a row among others.
+/// The index of the first of `rows` that is equal to `row`.
 fn place_of(rows: &[Row], row: &Row) -> Option<usize> {
     for (i, other) in rows.iter().enumerate() {
         if is_same(other, row) {
@@ -314,7 +345,7 @@ fn place_of(rows: &[Row], row: &Row) -> Option<usize> {
     None
 }
 
-/// A row as a goal in the terms of a line, None where the line isn't read as a relation of which the row is a target's.
+/// `row` as a goal in the terms of `line`; None where that isn't read as a relation of which it is the row of a target.
 fn line_goal(alloc: Global, line: &[u8], names: &Names, row: &Row) -> Result<Option<Goal>, Untold>
     requires { 1 ≤ length names.now.variables }
 {
@@ -328,8 +359,8 @@ fn line_goal(alloc: Global, line: &[u8], names: &Names, row: &Row) -> Result<Opt
     }
 }
 
-/// A row as a goal: in the own terms of the relation that the question asks for, where it is the row of one of its targets, or in
-/// those of a line that says it.
+/// `row` as a goal: in the terms of the relation that the question asks for, or of `line`, where it is the row of one of their
+/// targets; else in measures, or in joint entropies.
 pub fn goal_of(
     alloc: Global,
     question: &Question,
@@ -355,7 +386,7 @@ pub fn goal_of(
     row_goal(alloc, measures, names, row)
 }
 
-/// The text of a proof by a certificate, where a short one is asked for first with the least sum.
+/// The text of a proof by a certificate; with `short` the one with the least sum is tried first.
 fn any_proof(
     alloc: Global,
     question: &Question,
@@ -390,10 +421,10 @@ fn any_proof(
     proof_by(alloc, &asked, &summands)
 }
 
-/// The text of the proof of a row from the lines of a question, by a certificate: an equation between a multiple of the row
-/// and a sum of terms over sets and of multiples of the question's constraints; None where none was found. On its left are the terms
-/// of the question's relation or of the line, a text, where the row is that of one of their targets. Where a short one is asked for,
-/// one with the least sum of terms over sets is looked for first, which may take long.
+/// The text of the proof of `target` from the lines of a question, by a certificate: an equation between a multiple of the
+/// target and a sum of terms over sets and of multiples of the question's constraints; None where none was found. On its left
+/// are the terms of the question's relation or of `line`, where the target is one of theirs. With `short`, one with the least
+/// sum of terms over sets is looked for first, which may take long.
 pub fn told_form(
     alloc: Global,
     question: &Question,
@@ -407,7 +438,7 @@ pub fn told_form(
 {
     let names = names_of(question);
     let posed = problem(alloc, question)?;
-    let constraints = posed.constraints.as_slice();
+    let constraints = posed.constraints();
     match any_proof(
         alloc,
         question,

@@ -1,4 +1,4 @@
-//! Texts read as `row` and `prove` lines are.
+//! Reads texts as `row` and `prove` lines are read.
 ghost use Rattle.std.specs.Prelude.{IfOk, IfSome, length};
 ghost use Rattle.it_syntax.specs.Givens.{IsRelationOf};
 ghost use Rattle.it_syntax.specs.Meaning.{relation_view};
@@ -8,10 +8,10 @@ use it_syntax::types::{LineTokens, Relation, SyntaxFault};
 use it_syntax::{Names, relation, tokens};
 use std::alloc::{AllocError, Global};
 
-/// The longest text that is read.
+/// The longest text that is read, in bytes.
 const LONGEST: usize = 1048576;
 
-/// The relation that a text is, None where it isn't read as one.
+/// The relation that `text` is, None where it isn't read as one.
 pub fn relation_text(
     alloc: Global,
     text: &[u8],

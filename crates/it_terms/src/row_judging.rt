@@ -1,7 +1,6 @@
 //! Whether a text says what a row says where functions hold.
 ghost use Rattle.std.specs.Prelude.{◌≡◌, ◌≤◌, IfOk, IfSome, length, map};
 ghost use Rattle.std.specs.Bool.{OnTrue};
-ghost use Rattle.it_space.specs.Problems.{IsProblem, problem_view};
 ghost use Rattle.it_space.specs.Rows.{IsOver};
 ghost use Rattle.it_space.specs.declared.problems.Kind.TheVariants.{Equation};
 ghost use Rattle.it_space.specs.Spaces.{IsSpace, size_of};
@@ -61,7 +60,7 @@ fn low_row(alloc: Global, functions: &Dependences, row: &Row) -> Result<Option<R
     }
 }
 
-/// Whether two rows are the same over closed sets in lowest terms.
+/// Whether two rows are equal over closed sets in lowest terms.
 #[tactic(auto, using(crate::proofs::RowLemmas::same_closed))]
 fn is_same_closed(
     alloc: Global,
@@ -80,7 +79,8 @@ fn is_same_closed(
     Ok(is_same(&low, &other_low))
 }
 
-/// Whether an inequality says just what a row says, of the maps that have one value at sets of one closure.
+/// Whether `relation` is an inequality that holds exactly where `row` is at least 0, of the maps that have one value at sets of
+/// one closure.
 fn says_under(
     alloc: Global,
     relation: &Relation,
@@ -110,9 +110,8 @@ pub fn tells_under(
     row: &Row,
 ) -> Result<bool, AllocError>
     requires some { 1 ≤ length names.now.variables }
-    requires problem { IsProblem (problem_view problem.now) }
     requires space { problem.now.space ≡ record { variables = length names.now.variables; rates = length names.now.rates } }
-    ensures { IfOk result (λ b. OnTrue b (TellsRowBy names.now (forms_of (map of_constraint problem.now.constraints.items)) lines.now row.now text.now)) }
+    ensures { IfOk result (λ b. OnTrue b (TellsRowBy names.now (forms_of (map of_constraint problem.now.constraints)) lines.now row.now text.now)) }
 {
     let Some(relation) = relation_text(alloc, text, names)? else {
         return Ok(false);

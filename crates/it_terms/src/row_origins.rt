@@ -17,7 +17,8 @@ use it_rates::problem_of_lines;
 use it_space::Row;
 use std::alloc::{AllocError, Global};
 
-/// The weights by the numbers of constraints alone, of so many variables.
+/// `weights` with the indexes of constraints in place of those of generators: the elemental inequalities of `variables`
+/// variables, which come before the constraints, aren't counted.
 fn by_constraints(
     alloc: Global,
     weights: &[(u32, i128)],
@@ -34,9 +35,9 @@ fn by_constraints(
         .collect(alloc)
 }
 
-/// The lines of a question, `row` lines too, whose sum a row is, up to a positive factor: weights other than 0 by the numbers of what the lines
-/// demand, in their order, of which only equations have one below 0. Without any where none were found. Where the row is one of the lines
-/// it is that one, and few others are named where few are enough.
+/// The lines of a question, `row` lines among them, whose sum `row` is, up to a positive factor: weights by the indexes of what
+/// the lines demand, in order; none is 0, and only those of equations are below 0. No weights where none were found. If `row`
+/// is a multiple of one line, it is that line alone; else few lines if few are enough.
 #[tactic(auto, using(crate::proofs::OriginLemmas::not_told))]
 pub fn row_origin(
     alloc: Global,
@@ -47,13 +48,14 @@ pub fn row_origin(
     ensures { IfOk result (λ ws. ComesFrom (question_body question.now) row.now ws.items) }
 {
     let posed = problem_of_lines(alloc, question)?;
-    if !is_over(row, posed.space) {
+    let space = posed.space();
+    if !is_over(row, space) {
         return Ok(Vec::new(alloc));
     }
     let Some(certificate) = origin(alloc, &posed, row)? else {
         return Ok(Vec::new(alloc));
     };
-    let weights = by_constraints(alloc, certificate.weights.as_slice(), posed.space.variables)?;
+    let weights = by_constraints(alloc, certificate.weights.as_slice(), space.variables)?;
     Ok(weights)
 }
 
@@ -68,6 +70,6 @@ pub fn row_comment(
     ensures { IfOk result (λ t. t.items ≡ row_comment (question_origins (under_all_lines (question_body question.now))) weights.now lines.now) }
 {
     let posed = problem_of_lines(alloc, question)?;
-    let comment = origin_comment(alloc, posed.constraints.as_slice(), weights, lines)?;
+    let comment = origin_comment(alloc, posed.constraints(), weights, lines)?;
     Ok(comment)
 }

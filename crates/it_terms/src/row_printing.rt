@@ -1,6 +1,5 @@
 //! Rows as papers print them: in few terms that are equal to them where the question's functions hold.
 ghost use Rattle.std.specs.Prelude.{◌≡◌, ◌≤◌, IfOk, IfSome, length};
-ghost use Rattle.it_space.specs.Problems.{IsProblem, problem_view};
 ghost use Rattle.it_demand.specs.QuestionSpaces.{space_of};
 ghost use Rattle.it_question.specs.Limits.{IsQuestion};
 ghost use Rattle.it_question.specs.Questions.{question_body};
@@ -24,7 +23,7 @@ use it_space::{Constraint, Problem, Row};
 use it_syntax::Names;
 use std::alloc::{AllocError, Global};
 
-/// A row as papers print it, and the lines, by their numbers, by which it is that row.
+/// A row as papers print it, and the lines, by their numbers, that say the functions by which it is that row.
 #[derive(Drop)]
 pub struct PrintedRow {
     pub text: Vec<u8>,
@@ -53,16 +52,14 @@ fn few_terms(
 }
 
 /// The numbers of the constraints of `given` lines that say functions.
-fn given_functions(alloc: Global, problem: &Problem) -> Result<Vec<u32>, AllocError>
-    requires { IsProblem (problem_view problem.now) }
-{
+fn given_functions(alloc: Global, problem: &Problem) -> Result<Vec<u32>, AllocError> {
     let dependences = Dependences::read(alloc, problem)?;
-    let elementals = count(problem.space.variables);
+    let elementals = count(problem.space().variables);
     let mut lines = Vec::new(alloc);
     for dependence in dependences.list() {
         if dependence.generator >= elementals {
             let line = dependence.generator - elementals;
-            if is_given_at(problem.constraints.as_slice(), line) {
+            if is_given_at(problem.constraints(), line) {
                 lines.push(line)?;
             }
         }
@@ -70,7 +67,7 @@ fn given_functions(alloc: Global, problem: &Problem) -> Result<Vec<u32>, AllocEr
     Ok(lines)
 }
 
-/// How much a row is to read in the question's own measures, where it is a sum of these.
+/// The length of `row` as `own_sum` writes it, None where that finds no sum.
 fn own_length(
     alloc: Global,
     measures: &[Measure],
@@ -84,7 +81,7 @@ fn own_length(
     }
 }
 
-/// The text of a row over closed sets, where there is less of it to read than without them.
+/// The text of `row` over closed sets; `NotFound` unless there is less of it to read than without them.
 fn shorter_text(
     alloc: Global,
     question: &Question,
@@ -117,7 +114,7 @@ fn shorter_text(
     written(alloc, measures, names, row, Ok(found))
 }
 
-/// The numbers without this one.
+/// `lines` without `line`.
 fn without(alloc: Global, lines: &[u32], line: u32) -> Result<Vec<u32>, AllocError> {
     let mut others = Vec::new(alloc);
     for other in lines {
@@ -128,7 +125,8 @@ fn without(alloc: Global, lines: &[u32], line: u32) -> Result<Vec<u32>, AllocErr
     Ok(others)
 }
 
-/// Of these lines those by which a text tells a row: each is left out in turn, and kept where the text doesn't tell it without.
+/// Those of `lines` by which `text` tells `row`: each is left out in turn, and kept where the text doesn't tell the row without
+/// it.
 fn needed_lines(
     alloc: Global,
     names: &Names,
@@ -138,7 +136,6 @@ fn needed_lines(
     text: &[u8],
 ) -> Result<Vec<u32>, AllocError>
     requires some { 1 ≤ length names.now.variables }
-    requires problem { IsProblem (problem_view problem.now) }
     requires space { problem.now.space ≡ record { variables = length names.now.variables; rates = length names.now.rates } }
 {
     let mut needed = Vec::from_slice(alloc, lines)?;
@@ -151,7 +148,7 @@ fn needed_lines(
     Ok(needed)
 }
 
-/// A text with the lines that it needs, where it tells the row by these.
+/// `text` with those of `lines` that it needs, where it tells `row` by these.
 fn printed_by(
     alloc: Global,
     names: &Names,
@@ -161,14 +158,13 @@ fn printed_by(
     text: Vec<u8>,
 ) -> Result<Option<PrintedRow>, AllocError>
     requires some { 1 ≤ length names.now.variables }
-    requires problem { IsProblem (problem_view problem.now) }
     requires space { problem.now.space ≡ record { variables = length names.now.variables; rates = length names.now.rates } }
-    ensures { IfOk result (λ o. IfSome o (λ t. IsPrintedRowFrom names.now row.now problem.now.constraints.items t.lines.items t.text.items)) }
+    ensures { IfOk result (λ o. IfSome o (λ t. IsPrintedRowFrom names.now row.now problem.now.constraints t.lines.items t.text.items)) }
 {
     let shown = text.as_slice();
     let lines = needed_lines(alloc, names, problem, lines, row, shown)?;
     let needed = lines.as_slice();
-    let constraints = problem.constraints.as_slice();
+    let constraints = problem.constraints();
     if !are_given_equations(constraints, needed) {
         return Ok(None);
     }
@@ -179,7 +175,7 @@ fn printed_by(
     Ok(Some(PrintedRow { text, lines }))
 }
 
-/// A row in few terms by a problem's functions.
+/// `row` in few terms by the functions that `problem` says.
 fn any_printed(
     alloc: Global,
     question: &Question,
@@ -187,9 +183,8 @@ fn any_printed(
     row: &Row,
 ) -> Result<Option<PrintedRow>, Untold>
     requires question { IsQuestion (question_body question.now) }
-    requires problem { IsProblem (problem_view problem.now) }
     requires space { problem.now.space ≡ space_of (problem_names (question_body question.now)) }
-    ensures { IfOk result (λ o. IfSome o (λ t. IsPrintedRowFrom (problem_names (question_body question.now)) row.now problem.now.constraints.items t.lines.items t.text.items)) }
+    ensures { IfOk result (λ o. IfSome o (λ t. IsPrintedRowFrom (problem_names (question_body question.now)) row.now problem.now.constraints t.lines.items t.text.items)) }
 {
     let names = names_of(question);
     let lines = given_functions(alloc, problem)?;
@@ -205,8 +200,9 @@ fn any_printed(
     Ok(printed)
 }
 
-/// A row under the names of a question's problem in fewer terms, or in terms with fewer names, than `told_row` has, with the `given` lines
-/// by whose functions these are equal to it; rates stand on the left. None where no such text was found: without functions there is none.
+/// `row` under the names of a question's problem in fewer terms, or in terms with fewer names, than `told_row` has, with the
+/// `given` lines by whose functions the two are equal; rates stand on the left. None where no such text was found, so always
+/// where the lines say no functions.
 pub fn printed_row(
     alloc: Global,
     question: &Question,

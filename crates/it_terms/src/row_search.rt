@@ -1,5 +1,5 @@
-//! Sums over closed sets that rows are, in as few terms as were found. What is found is judged by the text that it gives, so no clause
-//! says it here.
+//! Writes rows as sums over closed sets, in as few terms as it finds. What is found is judged by the text that it gives, so no
+//! clause says it here.
 ghost use Rattle.std.specs.Prelude.{◌≤◌};
 
 use crate::closed::{ClosedTerm, Closures, size};
@@ -14,7 +14,7 @@ use it_space::{Row, Space, VarSet};
 use it_syntax::types::{Atom, Term};
 use std::alloc::{AllocError, Global};
 
-/// Sums of two terms are looked for where there are so many terms at most.
+/// Sums of two terms are looked for where there are at most this many terms.
 const MOST_TERMS: usize = 10_000;
 
 /// Coefficients over closed sets, none of them 0, by ascending place.
@@ -28,7 +28,8 @@ impl Drop for Part {
     }
 }
 
-/// How much a sum is to read: its terms, those of them that its author has nowhere, those with a minus, and the names in them.
+/// How much a sum is to read: the number of its terms, of those that its author has nowhere, of those with a minus, and of the
+/// names in them.
 #[derive(Clone, Copy, PartialEq, Eq)]
 pub struct Length {
     terms: usize,
@@ -38,7 +39,8 @@ pub struct Length {
 }
 
 impl Length {
-    /// Whether there is less to read than in another one: by terms first, then by the author's own, by signs and by names.
+    /// Whether there is less to read than in `other`: fewer terms; of as many terms fewer foreign ones, then fewer with a
+    /// minus, then fewer names.
     pub fn is_less(&self, other: &Length) -> bool {
         if self.terms != other.terms {
             self.terms < other.terms
@@ -52,7 +54,7 @@ impl Length {
     }
 }
 
-/// The names in an atom.
+/// The number of names in an atom; a rate's isn't counted.
 fn names_in(atom: &Atom) -> u32 {
     match atom {
         Atom::Nothing | Atom::Rate(_) => 0,
@@ -63,7 +65,7 @@ fn names_in(atom: &Atom) -> u32 {
     }
 }
 
-/// How much terms are to read.
+/// How much `terms` are to read.
 pub fn length_of(measures: &[Measure], terms: &[Term]) -> Length {
     let mut length = Length {
         terms: terms.len(),
@@ -84,7 +86,7 @@ pub fn length_of(measures: &[Measure], terms: &[Term]) -> Length {
 }
 
 impl Part {
-    /// Adds a number at a place; what is at 0 is left out.
+    /// Adds `number` at `place`; at place 0 nothing.
     fn add_at(&mut self, place: u32, number: i128) -> Result<(), Untold> {
         if place == 0 || number == 0 {
             return Ok(());
@@ -108,7 +110,7 @@ impl Part {
         Ok(())
     }
 
-    /// Adds a term over closed sets so many times.
+    /// Adds `times` times `term`.
     fn add(&mut self, closures: &Closures, term: &ClosedTerm, times: i128) -> Result<(), Untold> {
         let opposite = turned(times, true)?;
         self.add_at(place_of(closures, term.first), times)?;
@@ -127,7 +129,7 @@ fn place_of(closures: &Closures, set: VarSet) -> u32 {
     closures.place(set.number() as u32)
 }
 
-/// The coefficients of a row at closed sets.
+/// The coefficients of `row` at closed sets.
 fn part_of(alloc: Global, closures: &Closures, row: &Row, space: Space) -> Result<Part, Untold>
     requires { space.variables ≤ 10 }
 {
@@ -147,7 +149,7 @@ fn set_at(place: u32) -> VarSet {
     VarSet::from_number((place % 65536) as u16)
 }
 
-/// H(P|C) so many times, by the sets C and P.
+/// `times` times H(P|C), where C is `given` and P is `all`; None if C isn't inside P, or is P.
 fn conditional(
     closures: &Closures,
     given: VarSet,
@@ -161,7 +163,8 @@ fn conditional(
     Some((times, term))
 }
 
-/// I(P;Q|C) so many times, by the sets and the coefficients of P, Q and of their union's closure, and that of C where it has a place.
+/// The multiple of I(P;Q|C) with the coefficients `first`, at P, `second`, at Q, and `both`, at their union's closure, where C
+/// is `given`; None if there is none. The caller compares the coefficient at C.
 fn mutual(
     closures: &Closures,
     given: VarSet,
@@ -181,7 +184,8 @@ fn mutual(
     Some((first.1, term))
 }
 
-/// A term over closed sets so many times, which these coefficients are. A set inside others has a lower number than they.
+/// The multiple of one term over closed sets that has these coefficients; None if there is none. A set inside others has a
+/// lower number than they.
 fn single(closures: &Closures, terms: &[(u32, i128)]) -> Option<(i128, ClosedTerm)> {
     let least = closures.close(VarSet::empty());
     match terms {
@@ -203,7 +207,7 @@ fn single(closures: &Closures, terms: &[(u32, i128)]) -> Option<(i128, ClosedTer
     }
 }
 
-/// A term as it is written, with its sign.
+/// `times` times `term`, as a term to write.
 fn written(
     closures: &Closures,
     measures: &[Measure],
@@ -213,7 +217,7 @@ fn written(
     term_of(times, atom_of(closures, measures, term))
 }
 
-/// The closed sets of so many variables.
+/// The closed sets of `variables` variables, by number.
 fn closed_sets(alloc: Global, closures: &Closures, variables: u8) -> Result<Vec<VarSet>, AllocError>
     requires { variables ≤ 10 }
 {
@@ -227,7 +231,7 @@ fn closed_sets(alloc: Global, closures: &Closures, variables: u8) -> Result<Vec<
     Ok(sets)
 }
 
-/// Puts the terms of two closed sets after the others: one for each closed set inside both. Fails where they become too many.
+/// Appends the terms of two closed sets: one for each closed set inside both. `NotFound` where they become too many.
 fn put_terms(
     terms: &mut Vec<ClosedTerm>,
     closures: &Closures,
@@ -248,7 +252,8 @@ fn put_terms(
     Ok(())
 }
 
-/// All terms over closed sets of so many variables: entropies, and mutual informations of two sets of which neither holds the other.
+/// All terms over closed sets of `variables` variables: entropies, and mutual informations of two sets of which neither holds
+/// the other.
 pub fn closed_terms(
     alloc: Global,
     closures: &Closures,
@@ -270,7 +275,7 @@ pub fn closed_terms(
     Ok(terms)
 }
 
-/// The least of the coefficients, without signs.
+/// The least absolute value of a coefficient.
 fn least_number(terms: &[(u32, i128)]) -> Result<i128, Untold> {
     let mut least = i128::MAX;
     for term in terms {
@@ -279,7 +284,7 @@ fn least_number(terms: &[(u32, i128)]) -> Result<i128, Untold> {
     Ok(least)
 }
 
-/// The two terms that a part is, where the first of them so many times leaves one.
+/// Two terms whose sum is `part`: `times` times `first`, and the rest, where that is a multiple of one term; else None.
 fn pair_with(
     alloc: Global,
     closures: &Closures,
@@ -301,7 +306,7 @@ fn pair_with(
     Ok(Some(terms))
 }
 
-/// Of two sums the one with less to read.
+/// The one of two sums with less to read, `best` if they are alike.
 fn less_to_read(
     measures: &[Measure],
     best: Option<Vec<Term>>,
@@ -320,7 +325,8 @@ fn less_to_read(
     }
 }
 
-/// Two terms that a part is, with the least to read, each first term once or as often as the part's least number says.
+/// Two terms whose sum is `part`, with the least to read; None if there are none. The first one has the least absolute value of
+/// a coefficient as its number, with a plus or a minus.
 fn pair_sum(
     alloc: Global,
     closures: &Closures,
@@ -340,7 +346,7 @@ fn pair_sum(
     Ok(best)
 }
 
-/// A row over closed sets.
+/// `row` over closed sets; `NotFound` where `closed_row` gives None.
 fn closed_or_not(alloc: Global, functions: &Dependences, row: &Row) -> Result<Row, Untold> {
     match closed_row(alloc, functions, row)? {
         Some(row) => Ok(row),
@@ -366,7 +372,8 @@ fn closed_measures(
     Ok(closed)
 }
 
-/// A sum of few terms over closed sets that a row's part over sets is: one term, else two, else several of the question's own.
+/// The part of `row` over sets as a sum of few terms over closed sets: of one term, else of two, the first of them one of
+/// `terms`, else of several of the question's own.
 pub fn closed_sum(
     alloc: Global,
     functions: &Dependences,

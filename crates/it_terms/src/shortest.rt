@@ -1,10 +1,12 @@
-//! A proof with the least sum of terms over sets, by the simplex method. What is found is judged by the text that it gives, so
-//! no clause says it here.
+//! Finds a proof with the least sum of terms over sets, or over closed sets, by the simplex method. What is found is judged by
+//! the text that it gives, so no clause says it here.
 ghost use Rattle.std.specs.Prelude.{◌≡◌, ◌+◌, ◌*◌, ◌^◌, ◌≤◌, ◌<◌, length, IfOk, OnOk};
-ghost use Rattle.it_space.specs.Spaces.{IsSpace, size_of};
+ghost use Rattle.it_space.specs.Spaces.{IsSpace};
 ghost use Rattle.it_demand.specs.Coefficients.{largest};
 
+use crate::closed::{ClosedTerm, Closures};
 use crate::finding::{common_multiple, term_of, turned, weights_of};
+use crate::folding::vanishes;
 use crate::untold::Untold;
 use it_columns::opposite_row;
 use it_demand::Coefficients;
@@ -13,13 +15,19 @@ use it_space::{Constraint, Kind, Row, Space, VarSet};
 use it_syntax::types::{Atom, Term};
 use std::alloc::{AllocError, Global};
 
-/// A proof is looked for among terms over the sets of so many variables at most.
+/// A proof is looked for among terms over the sets of at most this many variables.
 const MOST_VARIABLES: u8 = 6;
 
-/// So many terms at most are added up.
+/// A proof over closed sets is looked for with at most this many variables, and with at most `MOST_CLOSED_TERMS` terms over
+/// closed sets.
+const MOST_CLOSED_VARIABLES: u8 = 10;
+
+const MOST_CLOSED_TERMS: usize = 40000;
+
+/// The most terms of a row that are added up.
 const MOST_TERMS: usize = 1024;
 
-/// A sum of terms over sets and of constraints, by their numbers, that is a target so many times.
+/// A sum of terms over sets and of constraints, by their indexes with weights, that is `scale` times a target.
 pub struct LeastSum {
     pub scale: i128,
     pub terms: Vec<Term>,
@@ -36,9 +44,10 @@ impl Drop for LeastSum {
     }
 }
 
-/// Columns: first those of terms over sets, then those of constraints by their numbers with signs turned or not, and last one
-/// for what a sum of terms is less than its bound.
+/// Columns over `coordinates`: those of terms over sets, then those of constraints by their indexes, negated where the flag is
+/// set, and last one for how far the sum of the terms stays below its bound.
 struct Columns {
+    coordinates: Vec<u32>,
     terms: Vec<Term>,
     constraints: Vec<(u32, bool)>,
     rows: Vec<Row>,
@@ -47,6 +56,7 @@ struct Columns {
 impl Drop for Columns {
     fn drop(self) {
         let Columns {
+            coordinates: _,
             terms: _,
             constraints: _,
             rows: _,
@@ -54,11 +64,13 @@ impl Drop for Columns {
     }
 }
 
-/// The space with a rate more, in whose place each row has the sum of the terms over sets.
-fn wider_space(space: Space) -> Result<Space, Untold>
+/// `space` with one more rate, at which each row has the sum of its terms over sets; `NotFound` unless it has 1 to
+/// `most_variables` variables and at most 15 rates.
+fn wider_space(space: Space, most_variables: u8) -> Result<Space, Untold>
+    requires { most_variables ≤ 10 }
     ensures { IfOk result IsSpace }
 {
-    if space.variables < 1 || space.variables > MOST_VARIABLES || space.rates > 15 {
+    if space.variables < 1 || space.variables > most_variables || space.rates > 15 {
         return Err(Untold::NotFound);
     }
     Ok(Space {
@@ -67,7 +79,7 @@ fn wider_space(space: Space) -> Result<Space, Untold>
     })
 }
 
-/// Adds a number below 2^64 at a coordinate below so many.
+/// Adds `times`, whose absolute value has to be below 2^64, at `coordinate`, which has to be below `places`; else `NotFound`.
 fn put(
     coefficients: &mut Coefficients,
     places: usize,
@@ -86,7 +98,7 @@ fn put(
     Ok(())
 }
 
-/// The row of terms so many times, with a number at the greatest coordinate.
+/// The row of `times` times `terms`, with `last` at the greatest coordinate.
 fn row_with(
     alloc: Global,
     space: Space,
@@ -114,8 +126,8 @@ fn place(set: VarSet) -> u32 {
     set.number() as u32
 }
 
-/// The terms of an entropy or a mutual information by sets; at the empty set for any other atom.
-fn atom_terms(atom: &Atom) -> [(u32, i128); 4] {
+/// The terms of an entropy or a mutual information, by sets; zeros at the empty set for any other atom.
+pub fn atom_terms(atom: &Atom) -> [(u32, i128); 4] {
     match atom {
         Atom::Entropy { of, given } => [
             (place(of.union(*given)), 1),
@@ -133,7 +145,7 @@ fn atom_terms(atom: &Atom) -> [(u32, i128); 4] {
     }
 }
 
-/// Adds a term over sets.
+/// Adds the column of a term over sets.
 fn put_atom(alloc: Global, columns: &mut Columns, space: Space, atom: Atom) -> Result<(), Untold>
     requires { IsSpace space }
 {
@@ -148,7 +160,8 @@ fn meets(set: VarSet, other: VarSet) -> bool {
     set.meet(other) != VarSet::empty()
 }
 
-/// Adds H(A|C) and each I(A;B|C) with B after A, for a set A apart from C.
+/// Adds the columns of H(A|C) and of each I(A;B|C), where A is `left`, C is `given`, and B has a greater number than A; all
+/// three are disjoint.
 fn put_atoms_of(
     alloc: Global,
     columns: &mut Columns,
@@ -169,7 +182,7 @@ fn put_atoms_of(
     Ok(())
 }
 
-/// Adds each H(A|C) and each I(A;B|C) of sets that are apart.
+/// Adds the columns of each H(A|C) and each I(A;B|C) of disjoint sets.
 fn put_atoms(alloc: Global, columns: &mut Columns, space: Space, sets: u16) -> Result<(), Untold>
     requires { IsSpace space }
 {
@@ -185,7 +198,7 @@ fn put_atoms(alloc: Global, columns: &mut Columns, space: Space, sets: u16) -> R
     Ok(())
 }
 
-/// Adds a constraint, with its sign turned too where it is an equation.
+/// Adds the column of a constraint; of an equation also the negated one.
 fn put_constraint(
     alloc: Global,
     columns: &mut Columns,
@@ -201,15 +214,22 @@ fn put_constraint(
     Ok(())
 }
 
-/// All columns: terms over sets, constraints, and what a sum is less than its bound.
-fn all_columns(alloc: Global, space: Space, constraints: &[Constraint]) -> Result<Columns, Untold>
-    requires { IsSpace space }
-{
-    let mut columns = Columns {
+/// No columns, over `coordinates`.
+fn no_columns(alloc: Global, coordinates: Vec<u32>) -> Columns {
+    Columns {
+        coordinates,
         terms: Vec::new(alloc),
         constraints: Vec::new(alloc),
         rows: Vec::new(alloc),
-    };
+    }
+}
+
+/// All columns: those of terms over sets, those of constraints, and the one for how far a sum stays below its bound.
+fn all_columns(alloc: Global, space: Space, constraints: &[Constraint]) -> Result<Columns, Untold>
+    requires { IsSpace space }
+{
+    let coordinates = (1..space.size() + 1).collect(alloc)?;
+    let mut columns = no_columns(alloc, coordinates);
     put_atoms(alloc, &mut columns, space, 1u16 << space.variables)?;
     for (i, constraint) in constraints.iter().enumerate() {
         put_constraint(alloc, &mut columns, constraint, (i % 65536) as u32)?;
@@ -218,7 +238,109 @@ fn all_columns(alloc: Global, space: Space, constraints: &[Constraint]) -> Resul
     Ok(columns)
 }
 
-/// Weights of the columns that add up to a target, with terms over sets of a sum that is at most a bound.
+/// The coordinates that are left over closed sets.
+fn closed_coordinates(
+    alloc: Global,
+    closures: &Closures,
+    space: Space,
+) -> Result<Vec<u32>, AllocError>
+    requires { IsSpace space }
+{
+    let mut coordinates = Vec::new(alloc);
+    for coordinate in 1..space.size() + 1 {
+        if closures.place(coordinate) == coordinate {
+            coordinates.push(coordinate)?;
+        }
+    }
+    Ok(coordinates)
+}
+
+/// The row over closed sets of `times` times `terms`, with `last` at the greatest coordinate.
+fn closed_row(
+    alloc: Global,
+    closures: &Closures,
+    space: Space,
+    terms: &[(u32, i128)],
+    times: i128,
+    last: i128,
+) -> Result<Row, Untold>
+    requires { IsSpace space }
+{
+    let mut folded = Vec::new(alloc);
+    for term in terms {
+        folded.push((closures.place(term.0), term.1))?;
+    }
+    row_with(alloc, space, folded.as_slice(), times, last)
+}
+
+/// Adds the columns of terms over closed sets.
+fn put_closed_terms(
+    alloc: Global,
+    columns: &mut Columns,
+    closures: &Closures,
+    space: Space,
+    terms: &[ClosedTerm],
+) -> Result<(), Untold>
+    requires { IsSpace space }
+{
+    for term in terms {
+        let atom = term.atom();
+        let row = closed_row(alloc, closures, space, &atom_terms(&atom), 1, 1)?;
+        columns.rows.push(row)?;
+        columns.terms.push(term_of(1, atom)?)?;
+    }
+    Ok(())
+}
+
+/// Adds the column of a constraint over closed sets; of an equation also the negated one.
+fn put_closed_constraint(
+    alloc: Global,
+    columns: &mut Columns,
+    closures: &Closures,
+    space: Space,
+    constraint: &Constraint,
+    number: u32,
+) -> Result<(), Untold>
+    requires { IsSpace space }
+{
+    let terms = constraint.row.terms();
+    let row = closed_row(alloc, closures, space, terms, 1, 0)?;
+    columns.rows.push(row)?;
+    columns.constraints.push((number, false))?;
+    if constraint.kind == Kind::Equation {
+        let row = closed_row(alloc, closures, space, terms, -1, 0)?;
+        columns.rows.push(row)?;
+        columns.constraints.push((number, true))?;
+    }
+    Ok(())
+}
+
+/// All columns over closed sets, without constraints that are 0 there.
+fn closed_columns(
+    alloc: Global,
+    closures: &Closures,
+    space: Space,
+    constraints: &[Constraint],
+) -> Result<Columns, Untold>
+    requires { IsSpace space }
+{
+    let Some(terms) = closures.terms(alloc, MOST_CLOSED_TERMS)? else {
+        return Err(Untold::NotFound);
+    };
+    let coordinates = closed_coordinates(alloc, closures, space)?;
+    let mut columns = no_columns(alloc, coordinates);
+    put_closed_terms(alloc, &mut columns, closures, space, terms.as_slice())?;
+    for (i, constraint) in constraints.iter().enumerate() {
+        if !vanishes(closures, constraint.row.terms())? {
+            let number = (i % 65536) as u32;
+            put_closed_constraint(alloc, &mut columns, closures, space, constraint, number)?;
+        }
+    }
+    columns.rows.push(row_with(alloc, space, &[], 1, 1)?)?;
+    Ok(columns)
+}
+
+/// Weights of the columns that add up to `scale` times `target`, where the sum of the terms over sets is at most `bound`.
 fn weights_within(
     alloc: Global,
     space: Space,
@@ -230,11 +352,15 @@ fn weights_within(
     requires { IsSpace space }
 {
     let row = row_with(alloc, space, target.terms(), scale, bound)?;
-    let coordinates: Vec<u32> = (1..space.size() + 1).collect(alloc)?;
-    weights_of(alloc, coordinates.as_slice(), columns.rows.as_slice(), &row)
+    weights_of(
+        alloc,
+        columns.coordinates.as_slice(),
+        columns.rows.as_slice(),
+        &row,
+    )
 }
 
-/// The weights for the least bound for which some are found, none of them above a bound for which there are.
+/// The weights for the least whole bound up to `most` for which some are found, by bisection.
 fn least_weights(
     alloc: Global,
     space: Space,
@@ -265,7 +391,7 @@ fn least_weights(
     Ok(best)
 }
 
-/// Adds what a column stands for so many times.
+/// Adds `times` times what `column` stands for.
 fn put_times(
     found: &mut LeastSum,
     columns: &Columns,
@@ -284,7 +410,8 @@ fn put_times(
     Ok(())
 }
 
-/// The sum that weights of the columns make of a target so many times, as often as makes each weight a whole number.
+/// The sum that `weights` of the columns for `scale` times a target make, times the least common multiple of their
+/// denominators.
 fn sum_by_weights(
     alloc: Global,
     columns: &Columns,
@@ -304,8 +431,8 @@ fn sum_by_weights(
     Ok(sum)
 }
 
-/// Terms over sets with a plus and weights of constraints that add up to a multiple of a target: with the least sum of such
-/// terms for the target so many times, where there are some whose sum is at most a bound.
+/// Terms over sets with a plus and weights of constraints that add up to a multiple of `target`, with the least sum of terms.
+/// `NotFound` where none are found whose sum is at most `most` for `scale` times the target.
 pub fn shortest(
     alloc: Global,
     space: Space,
@@ -314,8 +441,26 @@ pub fn shortest(
     scale: i128,
     most: i128,
 ) -> Result<LeastSum, Untold> {
-    let wider = wider_space(space)?;
+    let wider = wider_space(space, MOST_VARIABLES)?;
     let columns = all_columns(alloc, wider, constraints)?;
     let weights = least_weights(alloc, wider, &columns, target, scale, most)?;
+    sum_by_weights(alloc, &columns, weights.as_slice(), scale)
+}
+
+/// Like `shortest`, with terms over closed sets, where these are few enough: they add up to the target where the functions
+/// hold.
+pub fn shortest_closed(
+    alloc: Global,
+    closures: &Closures,
+    space: Space,
+    constraints: &[Constraint],
+    target: &Row,
+    scale: i128,
+    most: i128,
+) -> Result<LeastSum, Untold> {
+    let wider = wider_space(space, MOST_CLOSED_VARIABLES)?;
+    let columns = closed_columns(alloc, closures, wider, constraints)?;
+    let target = closed_row(alloc, closures, wider, target.terms(), 1, 0)?;
+    let weights = least_weights(alloc, wider, &columns, &target, scale, most)?;
     sum_by_weights(alloc, &columns, weights.as_slice(), scale)
 }

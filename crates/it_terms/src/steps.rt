@@ -1,4 +1,4 @@
-//! The steps of a proof, each judged before it is handed out.
+//! The steps of a proof, each judged before it is returned.
 ghost use Rattle.std.specs.Prelude.{◌≡◌, ◌≤◌, ◌++◌, ◌∷◌, [], length, map, IfOk, IfSome};
 ghost use Rattle.std.specs.Bool.{OnTrue};
 ghost use Rattle.it_syntax.specs.Meaning.{relation_view};
@@ -29,7 +29,7 @@ struct Step {
     sum: Vec<Term>,
 }
 
-/// Whether two terms are the same.
+/// Whether two terms are equal.
 fn is_same_term(term: &Term, other: &Term) -> bool
     ensures { OnTrue result (term.now ≡ other.now) }
 {
@@ -37,7 +37,7 @@ fn is_same_term(term: &Term, other: &Term) -> bool
 }
 
 /// Whether two sums have the same terms in the same order.
-fn are_same_terms(terms: &[Term], others: &[Term]) -> bool
+pub fn are_same_terms(terms: &[Term], others: &[Term]) -> bool
     ensures { OnTrue result (terms.now ≡ others.now) }
 {
     if terms.len() != others.len() {
@@ -51,7 +51,7 @@ fn are_same_terms(terms: &[Term], others: &[Term]) -> bool
     true
 }
 
-/// A sum and a term after it.
+/// `sum` with `term` after it.
 fn with_term(alloc: Global, sum: &[Term], term: &Term) -> Result<Vec<Term>, AllocError>
     ensures { IfOk result (λ v. v.items ≡ sum.now ++ term.now ∷ []) }
 {
@@ -60,7 +60,7 @@ fn with_term(alloc: Global, sum: &[Term], term: &Term) -> Result<Vec<Term>, Allo
     Ok(terms)
 }
 
-/// The row of a sum, by the text that says it to be at least 0.
+/// The row of a sum: that of the text which says the sum to be at least 0.
 fn row_of(alloc: Global, measures: &[Measure], names: &Names, sum: &[Term]) -> Result<Row, Untold>
     requires { 1 ≤ length names.now.variables }
 {
@@ -71,7 +71,7 @@ fn row_of(alloc: Global, measures: &[Measure], names: &Names, sum: &[Term]) -> R
     }
 }
 
-/// A sum for a row's part over sets: of the question's own measures where that is one of whole numbers, else of joint
+/// A sum equal to the part of `row` over sets: of the question's own measures if it is one with whole numbers, else of joint
 /// entropies.
 fn whole_sum(alloc: Global, measures: &[Measure], row: &Row, space: Space) -> Result<Found, Untold>
     requires { space.variables ≤ 10 }
@@ -89,7 +89,7 @@ fn whole_sum(alloc: Global, measures: &[Measure], row: &Row, space: Space) -> Re
     }
 }
 
-/// What a sum is, as short as found.
+/// Terms with the same sum as `sum`, as few as were found.
 fn short_sum(
     alloc: Global,
     measures: &[Measure],
@@ -104,7 +104,8 @@ fn short_sum(
     row_terms(alloc, &row, &found, space)
 }
 
-/// The text of a step, whose left side is these terms: on its right side is the total where this is the last step.
+/// The text of a step with `left` on its left side; on its right side is `total` in the last step, else a short form of the
+/// left side.
 fn step_text(
     alloc: Global,
     measures: &[Measure],
@@ -122,7 +123,7 @@ fn step_text(
     Ok(sums_text(alloc, measures, names, left, Sign::Equal, right.as_slice())?)
 }
 
-/// The step that a text is, where it is an equation that is true of every map, with the sum and the term on its left.
+/// `text` as a step, where it is an equation that is true of every map, with `sum` and `term` on its left.
 fn judged(
     alloc: Global,
     names: &Names,
@@ -146,7 +147,7 @@ fn judged(
     }
 }
 
-/// The step that adds a term to a sum, None where it isn't found.
+/// The step that adds `term` to `sum`, None where it isn't found.
 fn next_step(
     alloc: Global,
     measures: &[Measure],
@@ -167,7 +168,7 @@ fn next_step(
     }
 }
 
-/// The lines of the steps from a sum, by these terms, to the total; None where one isn't found.
+/// The lines of the steps from `first`, by `terms`, to `total`; None where one isn't found.
 fn step_texts(
     alloc: Global,
     measures: &[Measure],
@@ -223,8 +224,8 @@ fn equation_steps(
     )
 }
 
-/// The steps of a proof that `told_form` told of a question, a line each: the sum of the terms on its right side, one term
-/// more in each line, up to its left side. Each line may stand after the word `prove`. None where a step isn't found.
+/// The steps of a proof that `told_form` told of a question, one line for each: the sum of the terms on its right side, one
+/// more term in each line, up to its left side. Each line may stand after the word `prove`. None where a step isn't found.
 pub fn told_steps(
     alloc: Global,
     question: &Question,

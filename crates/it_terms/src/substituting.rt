@@ -1,5 +1,5 @@
-//! The lines of a containment's second region with sets put in for its auxiliary variables. What comes of them is judged by its text,
-//! so no clause says it here.
+//! The lines of a containment's second region with sets substituted for its auxiliary variables. They are judged by their
+//! texts, so no clause says it here.
 use crate::constraints::{item_of, link, union_of};
 use crate::untold::Untold;
 use it_question::types::{Question, Region, Verb};
@@ -7,24 +7,25 @@ use it_space::{Origin, VarSet};
 use it_syntax::types::{Atom, Expr, Given, Relation, Sign, Term};
 use std::alloc::{AllocError, Global};
 
-/// What is put in: the variables of both regions stay, and each auxiliary variable of the second one, in order, is a part.
+/// A substitution: the `common` variables of both regions stay, and the auxiliary variables of the second one, in order, become
+/// `parts`.
 #[derive(Clone, Copy)]
 pub struct Substitution<'a> {
     pub common: u8,
     pub parts: &'a [VarSet],
 }
 
-/// Whether a set has the variable of a number; not from 16 on.
+/// Whether `set` has variable `number`; `false` from 16 on.
 fn has(set: VarSet, number: usize) -> bool {
     number < 16 && set.has(number as u8)
 }
 
-/// A term so many times.
+/// `term` with `atom` in place of its own.
 fn with_atom(term: &Term, atom: Atom) -> Term {
     Term { atom, ..*term }
 }
 
-/// A term of an atom once, with a plus.
+/// `atom` as a term: once, with a plus.
 fn once(atom: Atom) -> Term {
     Term {
         negative: false,
@@ -34,7 +35,8 @@ fn once(atom: Atom) -> Term {
     }
 }
 
-/// What two sets share; where one of them lies in the other its entropy, and None where one is empty.
+/// The mutual information of two sets given a third; where one of the two lies in the other its entropy, and None where one is
+/// empty.
 fn mutual(left: VarSet, right: VarSet, given: VarSet) -> Option<Atom> {
     if left == VarSet::empty() || right == VarSet::empty() {
         return None;
@@ -86,7 +88,7 @@ impl Substitution<'_> {
         }
     }
 
-    /// Terms over what their sets stand for.
+    /// `terms` over what their sets stand for, without those of which nothing is left.
     fn side(&self, alloc: Global, terms: &[Term]) -> Result<Expr, AllocError> {
         let mut kept = Vec::new(alloc);
         for term in terms {
@@ -97,7 +99,7 @@ impl Substitution<'_> {
         Ok(Expr { terms: kept })
     }
 
-    /// A relation so.
+    /// `relation` over what its sets stand for.
     fn relation(&self, alloc: Global, relation: &Relation) -> Result<Relation, AllocError> {
         Ok(Relation {
             left: self.side(alloc, relation.left.terms.as_slice())?,
@@ -106,7 +108,7 @@ impl Substitution<'_> {
         })
     }
 
-    /// That a term is 0, or what other terms are.
+    /// The equation of `left` and `right`, over what their sets stand for.
     fn equation(
         &self,
         alloc: Global,
@@ -120,7 +122,7 @@ impl Substitution<'_> {
         })
     }
 
-    /// That the joint entropy of independent sets given one is the sum of theirs.
+    /// The equation that says `members` to be independent given `given`: the sum of their entropies is their joint entropy.
     fn independence(
         &self,
         alloc: Global,
@@ -135,7 +137,7 @@ impl Substitution<'_> {
         self.equation(alloc, sum.as_slice(), &[once(Atom::Entropy { of, given })])
     }
 
-    /// What a part of a given demands; parts are counted from 1.
+    /// What part `part` of `given` demands; parts are counted from 1.
     fn given(&self, alloc: Global, given: &Given, part: u16) -> Result<Relation, Untold> {
         match given {
             Given::Relation(relation) => Ok(self.relation(alloc, relation)?),
@@ -154,7 +156,7 @@ impl Substitution<'_> {
         }
     }
 
-    /// What a region's line demands, by its number among the region's own.
+    /// What the line `origin` of `region` demands; the region's own lines are counted.
     fn demanded(&self, alloc: Global, region: &Region, origin: Origin) -> Result<Relation, Untold> {
         match origin {
             Origin::Given { line, part, .. } => {
@@ -169,7 +171,8 @@ impl Substitution<'_> {
     }
 }
 
-/// What a line of a containment's second region demands, by its number among the region's own, with these parts put in.
+/// What the line `origin` of a containment's second region demands, with `parts` substituted for its auxiliary variables; the
+/// region's own lines are counted.
 pub fn substituted(
     alloc: Global,
     question: &Question,

@@ -14,7 +14,8 @@ use it_fraction::signed_product;
 use it_space::{Constraint, Kind, Row, Space, Sums};
 use std::alloc::{AllocError, Global};
 
-/// Adds a term so often as a weight says to sums at so many places, where its place is one of them and no number is wide.
+/// Adds `weight.1` times `term` to `sums`, which has `places` places; `NotFound` if its coordinate isn't one of them, or on
+/// overflow.
 fn add_term(
     sums: &mut Sums,
     places: usize,
@@ -33,7 +34,7 @@ fn add_term(
     Ok(())
 }
 
-/// Adds the terms of a row so often as a weight says.
+/// Adds `weight.1` times the row of `terms` to `sums`, which has `places` places; errors as in `add_term`.
 pub fn add_terms(
     sums: &mut Sums,
     places: usize,
@@ -49,7 +50,7 @@ pub fn add_terms(
     Ok(())
 }
 
-/// Adds a constraint by its number so often as its weight says.
+/// Adds `weight.1` times the constraint with index `weight.0` to `sums`; `NotFound` if there is none, or on overflow.
 fn add_constraint(
     sums: &mut Sums,
     places: usize,
@@ -67,7 +68,7 @@ fn add_constraint(
     Ok(())
 }
 
-/// Adds each constraint so often as its weight says.
+/// Adds the sum of `constraints` with `weights` to `sums`; errors as in `add_constraint`.
 pub fn add_constraints(
     sums: &mut Sums,
     places: usize,
@@ -83,7 +84,7 @@ pub fn add_constraints(
     Ok(())
 }
 
-/// Whether a row is what sums are.
+/// Whether `row` has the coefficients `sums`.
 fn is_row_of(alloc: Global, row: &Row, sums: &Sums) -> Result<bool, AllocError>
     requires { length sums.now ≤ 2 ^ 31 }
     ensures { IfOk result (λ b. OnTrue b (AreSame (value row.now) (dense_form sums.now))) }
@@ -92,7 +93,7 @@ fn is_row_of(alloc: Global, row: &Row, sums: &Sums) -> Result<bool, AllocError>
     Ok(row.terms() == terms.as_slice())
 }
 
-/// Whether a row is another one so often as a weight says.
+/// Whether `row` is `weight.1` times `target`; `false` on overflow.
 pub fn is_multiple(
     alloc: Global,
     space: Space,
@@ -111,7 +112,7 @@ pub fn is_multiple(
     }
 }
 
-/// Whether a row is the sum of constraints with these weights.
+/// Whether `row` is the sum of `constraints` with `weights`; `false` on overflow.
 pub fn is_sum(
     alloc: Global,
     space: Space,
@@ -130,7 +131,7 @@ pub fn is_sum(
     }
 }
 
-/// Whether a weight may stand in a proof: of a constraint that is there, and not negative unless that is an equation.
+/// Whether a weight may stand in a proof: its constraint exists, and it is at least 0 unless that is an equation.
 fn is_allowed(constraints: &[Constraint], weight: &(u32, i128)) -> bool
     ensures { OnTrue result (IsAllowed (forms_of (map of_constraint constraints.now)) weight.now) }
 {

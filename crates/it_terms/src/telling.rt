@@ -1,4 +1,4 @@
-//! The line of a row, judged before it is handed out.
+//! The line of a row, judged before it is returned.
 ghost use Rattle.std.specs.Prelude.{◌≡◌, ◌≤◌, IfOk, IfSome, length};
 ghost use Rattle.it_question.specs.Limits.{IsQuestion};
 ghost use Rattle.it_question.specs.Questions.{question_body};
@@ -27,7 +27,7 @@ pub fn names_of(question: &Question) -> &Names
     problem_names(question)
 }
 
-/// The text that a sum for a row's part over sets makes.
+/// The text of `row` with `sum` for its part over sets.
 pub fn written(
     alloc: Global,
     measures: &[Measure],
@@ -48,7 +48,7 @@ pub fn written(
     )?)
 }
 
-/// A text, where there is one and it tells the row.
+/// `text`, where there is one and it tells `row`.
 fn judged(
     alloc: Global,
     names: &Names,
@@ -70,7 +70,7 @@ fn judged(
     }
 }
 
-/// The text of a row in these measures, else in joint entropies.
+/// The text of `row` in `measures`, else in joint entropies.
 fn row_text(
     alloc: Global,
     measures: &[Measure],

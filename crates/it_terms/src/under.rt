@@ -1,7 +1,6 @@
 //! Whether an equation is true where functions hold.
-ghost use Rattle.std.specs.Prelude.{◌≡◌, ◌+ℤ◌, ◌-ℤ◌, ◌<◌, ◌≤◌, All, IfOk, IfSome, OnOk, length, map, pos};
+ghost use Rattle.std.specs.Prelude.{◌≡◌, ◌+ℤ◌, ◌<◌, All, IfOk, IfSome, OnOk, length, map, pos};
 ghost use Rattle.std.specs.Bool.{OnTrue};
-ghost use Rattle.it_space.specs.Problems.{IsProblem, problem_view};
 ghost use Rattle.it_space.specs.Rows.{IsOver, value};
 ghost use Rattle.it_space.specs.Spaces.{IsSpace, size_of};
 ghost use Rattle.it_polymatroid.specs.Certificates.{combination};
@@ -9,7 +8,6 @@ ghost use Rattle.it_elemental.specs.Generators.{forms_of, of_constraint};
 ghost use Rattle.it_syntax.specs.Givens.{IsRelationOf};
 ghost use Rattle.it_syntax.specs.Meaning.{relation_view};
 ghost use Rattle.it_terms.specs.FunctionProofs.{AreSameUnder, IsSaid};
-ghost use Rattle.it_terms.specs.Proofs.{side_form};
 ghost use Rattle.it_terms.specs.Sums.{AreChosen, IsExcess, IsPlus, constraint_value};
 
 use crate::sums::{add_constraints, add_terms};
@@ -20,20 +18,21 @@ use it_space::{Constraint, Problem, Row, RowFault, Space, Sums};
 use it_syntax::types::Relation;
 use std::alloc::{AllocError, Global};
 
-/// The row of what the right side of a relation with multiples of constraints is more than the left one, None where a number of it
-/// is too large.
+/// The row of the left side of `relation` less its right side, negated if `turned`, plus the constraints with `weights`; None
+/// where one of its numbers is too large.
 pub fn excess(
     alloc: Global,
     relation: &Relation,
+    turned: bool,
     space: Space,
     constraints: &[Constraint],
     weights: &[(u32, i128)],
 ) -> Result<Option<Row>, AllocError>
     requires space { IsSpace space }
     requires within { IsRelationOf space.variables space.rates (relation_view relation.now) }
-    ensures { IfOk result (λ o. IfSome o (IsExcess space (relation_view relation.now) constraints.now weights.now)) }
+    ensures { IfOk result (λ o. IfSome o (IsExcess space (relation_view relation.now) turned constraints.now weights.now)) }
 {
-    let difference = difference(alloc, relation, true, space)?;
+    let difference = difference(alloc, relation, turned, space)?;
     let places = space.size() as usize + 1;
     let mut sums = Sums::zeros(alloc, places)?;
     match add_both(&mut sums, places, difference.terms(), constraints, weights) {
@@ -42,7 +41,7 @@ pub fn excess(
     }
 }
 
-/// Adds the terms of a row, and multiples of constraints.
+/// Adds the row of `terms`, and the sum of the constraints with `weights`.
 fn add_both(
     sums: &mut Sums,
     places: usize,
@@ -58,7 +57,7 @@ fn add_both(
     Ok(())
 }
 
-/// Whether a row is 0 over closed sets, and no number on the way is too large.
+/// Whether `row` is 0 over closed sets; `false` where a number on the way is too large.
 pub fn is_nothing_under(
     alloc: Global,
     functions: &Dependences,
@@ -74,7 +73,7 @@ pub fn is_nothing_under(
     }
 }
 
-/// The constraints of these numbers, None where one isn't there or they are more than all.
+/// The constraints with the indexes `lines`, None where there is none with such an index.
 fn chosen(
     alloc: Global,
     constraints: &[Constraint],
@@ -93,26 +92,26 @@ fn chosen(
     Ok(Some(chosen))
 }
 
-/// The functions that the constraints of these numbers say, None where one isn't there.
+/// The functions that the constraints with the indexes `lines` say; None where there is none with such an index, or these are more
+/// than the constraints.
 pub fn functions_of(
     alloc: Global,
     problem: &Problem,
     lines: &[u32],
 ) -> Result<Option<Dependences>, AllocError>
-    requires { IsProblem (problem_view problem.now) }
     ensures space { IfOk result (λ o. IfSome o (λ d. d.space ≡ problem.now.space)) }
-    ensures there { IfOk result (λ o. IfSome o (λ d. All (λ l. l < (forms_of (map of_constraint problem.now.constraints.items)).count) lines.now)) }
-    ensures said { IfOk result (λ o. IfSome o (λ d. All (IsSaid problem.now.space.variables (forms_of (map of_constraint problem.now.constraints.items)) lines.now) d.list)) }
+    ensures there { IfOk result (λ o. IfSome o (λ d. All (λ l. l < (forms_of (map of_constraint problem.now.constraints)).count) lines.now)) }
+    ensures said { IfOk result (λ o. IfSome o (λ d. All (IsSaid problem.now.space.variables (forms_of (map of_constraint problem.now.constraints)) lines.now) d.list)) }
 {
-    if lines.len() > problem.constraints.len() {
+    problem.facts();
+    let space = problem.space();
+    let all = problem.constraints();
+    if lines.len() > all.len() {
         return Ok(None);
     }
-    match chosen(alloc, problem.constraints.as_slice(), lines)? {
+    match chosen(alloc, all, lines)? {
         Some(constraints) => {
-            let few = Problem {
-                space: problem.space,
-                constraints,
-            };
+            let few = Problem { space, constraints };
             Ok(Some(Dependences::read(alloc, &few)?))
         }
         None => Ok(None),

@@ -1,7 +1,6 @@
 //! Whether texts tell a proof where functions hold.
 ghost use Rattle.std.specs.Prelude.{◌≡◌, ◌<◌, ◌≤◌, ◌^◌, All, IfOk, IfSome, length, map};
 ghost use Rattle.std.specs.Bool.{OnTrue};
-ghost use Rattle.it_space.specs.Problems.{IsProblem, problem_view};
 ghost use Rattle.it_space.specs.Rows.{IsOver, value};
 ghost use Rattle.it_space.specs.Spaces.{size_of};
 ghost use Rattle.it_elemental.specs.Generators.{forms_of, of_constraint};
@@ -24,7 +23,7 @@ use it_syntax::types::{Relation, Sign};
 use it_syntax::{Names, common_denominator};
 use std::alloc::{AllocError, Global};
 
-/// A proof that is proposed where functions hold: the texts of its sides, what these are, and the weights of the constraints that
+/// A proposed proof where functions hold: the texts of its sides, how these are split, and the weights of the constraints that
 /// stand behind the right side by the names of their lines.
 #[derive(Drop)]
 pub struct Sides {
@@ -34,8 +33,8 @@ pub struct Sides {
     pub named: Vec<(u32, i128)>,
 }
 
-/// Two sides with `=` between them, the right one as `0` where nothing stands there.
-fn sides_text(alloc: Global, left: &[u8], right: &[u8]) -> Result<Vec<u8>, AllocError>
+/// Two sides with `=` between them, the right one as `0` if it is empty.
+pub fn sides_text(alloc: Global, left: &[u8], right: &[u8]) -> Result<Vec<u8>, AllocError>
     ensures { IfOk result (λ t. t.items ≡ sides_text left.now right.now) }
 {
     let mut out = Vec::from_slice(alloc, left)?;
@@ -48,22 +47,23 @@ fn sides_text(alloc: Global, left: &[u8], right: &[u8]) -> Result<Vec<u8>, Alloc
     Ok(out)
 }
 
-/// The relation that the sides are, None where they aren't read as one.
-fn sides_relation(
+/// The relation of these sides, None where they aren't read as one.
+pub fn sides_relation(
     alloc: Global,
     names: &Names,
-    sides: &Sides,
+    left: &[u8],
+    right: &[u8],
 ) -> Result<Option<Relation>, AllocError>
     requires some { 1 ≤ length names.now.variables }
-    ensures is { IfOk result (λ o. IfSome o (λ r. IsRelationText names.now (sides_text sides.now.left.items sides.now.right.items) (relation_view r))) }
+    ensures is { IfOk result (λ o. IfSome o (λ r. IsRelationText names.now (sides_text left.now right.now) (relation_view r))) }
     ensures limits { IfOk result (λ o. IfSome o (λ r. IsRelationOf (length names.now.variables) (length names.now.rates) (relation_view r))) }
 {
-    let text = sides_text(alloc, sides.left.as_slice(), sides.right.as_slice())?;
+    let text = sides_text(alloc, left, right)?;
     relation_text(alloc, text.as_slice(), names)
 }
 
 /// Whether a relation is an equation without denominators.
-fn is_whole_equation(relation: &Relation) -> bool
+pub fn is_whole_equation(relation: &Relation) -> bool
     requires some { 1 ≤ common_denominator (relation_view relation.now) }
     requires small { common_denominator (relation_view relation.now) ≤ 2 ^ 32 }
     ensures { OnTrue result ((relation.now.sign ≡ Equal) × (common_denominator (relation_view relation.now) ≡ 1)) }
@@ -71,7 +71,7 @@ fn is_whole_equation(relation: &Relation) -> bool
     relation.sign == Sign::Equal && common_denominator(relation) == 1
 }
 
-/// Whether an equation with weights of constraints proves a target where functions hold.
+/// Whether `relation`, with the weights of constraints that `sides` names, is a proof of `target` where the functions hold.
 fn is_proof_under(
     alloc: Global,
     relation: &Relation,
@@ -81,15 +81,14 @@ fn is_proof_under(
     target: &Row,
     sides: &Sides,
 ) -> Result<bool, AllocError>
-    requires problem { IsProblem (problem_view problem.now) }
     requires within { IsRelationOf problem.now.space.variables problem.now.space.rates (relation_view relation.now) }
     requires space { functions.now.space ≡ problem.now.space }
-    requires there { All (λ l. l < (forms_of (map of_constraint problem.now.constraints.items)).count) lines.now }
-    requires said { All (IsSaid problem.now.space.variables (forms_of (map of_constraint problem.now.constraints.items)) lines.now) functions.now.list }
-    ensures { IfOk result (λ b. OnTrue b (IsProofUnder problem.now.space.variables lines.now (relation_view relation.now) sides.now.named.items (value target.now) (forms_of (map of_constraint problem.now.constraints.items)))) }
+    requires there { All (λ l. l < (forms_of (map of_constraint problem.now.constraints)).count) lines.now }
+    requires said { All (IsSaid problem.now.space.variables (forms_of (map of_constraint problem.now.constraints)) lines.now) functions.now.list }
+    ensures { IfOk result (λ b. OnTrue b (IsProofUnder problem.now.space.variables lines.now (relation_view relation.now) sides.now.named.items (value target.now) (forms_of (map of_constraint problem.now.constraints)))) }
 {
-    let space = problem.space;
-    let constraints = problem.constraints.as_slice();
+    let space = problem.space();
+    let constraints = problem.constraints();
     let named = sides.named.as_slice();
     if !is_whole_equation(relation) || !are_allowed(constraints, named) {
         return Ok(false);
@@ -98,31 +97,29 @@ fn is_proof_under(
     if !is_split {
         return Ok(false);
     }
-    let Some(row) = excess(alloc, relation, space, constraints, named)? else {
+    let Some(row) = excess(alloc, relation, true, space, constraints, named)? else {
         return Ok(false);
     };
     let is_nothing = is_nothing_under(alloc, functions, &row)?;
     Ok(is_nothing)
 }
 
-/// The text of sides with names of constraints behind the right one.
-fn named_text(
+/// The text of sides, with the names of constraints behind the right one.
+pub fn named_text(
     alloc: Global,
     constraints: &[Constraint],
-    sides: &Sides,
+    left: &[u8],
+    right: &[u8],
+    named: &[(u32, i128)],
 ) -> Result<Vec<u8>, AllocError>
-    ensures { IfOk result (λ t. t.items ≡ named_sides_text (origins_of constraints.now) sides.now.named.items sides.now.left.items sides.now.right.items) }
+    ensures { IfOk result (λ t. t.items ≡ named_sides_text (origins_of constraints.now) named.now left.now right.now) }
 {
-    let right = with_names(
-        alloc,
-        sides.right.as_slice(),
-        constraints,
-        sides.named.as_slice(),
-    )?;
-    sides_text(alloc, sides.left.as_slice(), right.as_slice())
+    let right = with_names(alloc, right, constraints, named)?;
+    sides_text(alloc, left, right.as_slice())
 }
 
-/// The text of sides, where it tells a proof of a target where the functions hold that the constraints of these numbers say.
+/// The text of `sides`, where it tells a proof of `target` where the functions hold that the constraints `lines` say; else
+/// None.
 #[tactic(auto, using(crate::proofs::UnderLemmas::told_by_sides, crate::proofs::UnderLemmas::relation_of_space))]
 pub fn judged_under(
     alloc: Global,
@@ -133,11 +130,12 @@ pub fn judged_under(
     sides: &Sides,
 ) -> Result<Option<Vec<u8>>, AllocError>
     requires some { 1 ≤ length names.now.variables }
-    requires problem { IsProblem (problem_view problem.now) }
     requires space { problem.now.space ≡ record { variables = length names.now.variables; rates = length names.now.rates } }
-    ensures { IfOk result (λ o. IfSome o (λ t. TellsProofUnder names.now (origins_of problem.now.constraints.items) lines.now sides.now.named.items (value target.now) (forms_of (map of_constraint problem.now.constraints.items)) t.items)) }
+    ensures { IfOk result (λ o. IfSome o (λ t. TellsProofUnder names.now (origins_of problem.now.constraints) lines.now sides.now.named.items (value target.now) (forms_of (map of_constraint problem.now.constraints)) t.items)) }
 {
-    let Some(relation) = sides_relation(alloc, names, sides)? else {
+    let left = sides.left.as_slice();
+    let right = sides.right.as_slice();
+    let Some(relation) = sides_relation(alloc, names, left, right)? else {
         return Ok(None);
     };
     let Some(functions) = functions_of(alloc, problem, lines)? else {
@@ -146,11 +144,12 @@ pub fn judged_under(
     if !is_proof_under(alloc, &relation, problem, &functions, lines, target, sides)? {
         return Ok(None);
     }
-    let text = named_text(alloc, problem.constraints.as_slice(), sides)?;
+    let named = sides.named.as_slice();
+    let text = named_text(alloc, problem.constraints(), left, right, named)?;
     Ok(Some(text))
 }
 
-/// The row that has to be 0 where functions hold for the sides to be a proof.
+/// The row that has to be 0 where functions hold, for the sides to be a proof.
 pub fn sides_excess(
     alloc: Global,
     names: &Names,
@@ -160,12 +159,15 @@ pub fn sides_excess(
     requires some { 1 ≤ length names.now.variables }
     ensures { IfOk result (IsOver (size_of (record { variables = length names.now.variables; rates = length names.now.rates }))) }
 {
-    let Some(relation) = sides_relation(alloc, names, sides)? else {
+    let left = sides.left.as_slice();
+    let right = sides.right.as_slice();
+    let Some(relation) = sides_relation(alloc, names, left, right)? else {
         return Err(Untold::NotFound);
     };
     match excess(
         alloc,
         &relation,
+        true,
         names.space(),
         constraints,
         sides.named.as_slice(),

@@ -3,7 +3,7 @@ use it_fraction::Wide;
 use std::alloc::{AllocError, AllocFailed};
 use std::num::TryFromIntError;
 
-/// Memory ran out; or nothing was found, or a number of it is too large.
+/// `Memory`: allocation fails. `NotFound`: nothing was found, or a number is too large.
 #[derive(Clone, Copy)]
 pub enum Untold {
     Memory,

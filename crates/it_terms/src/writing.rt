@@ -7,7 +7,7 @@ use it_syntax::Names;
 use it_syntax::types::{Atom, Sign, Term};
 use std::alloc::{AllocError, Global};
 
-/// What is given, after a bar where it is something, and the parenthesis at the end.
+/// Writes a bar and `given`, unless it is empty, and then the right parenthesis.
 fn write_given(out: &mut Vec<u8>, names: &Names, given: VarSet) -> Result<(), AllocError> {
     if given != VarSet::empty() {
         out.extend_from_slice(b"|")?;
@@ -16,7 +16,8 @@ fn write_given(out: &mut Vec<u8>, names: &Names, given: VarSet) -> Result<(), Al
     out.extend_from_slice(b")")
 }
 
-/// `H(A)`, `H(A|C)`, `I(A;B)` or `I(A;B|C)`, the sets in order of declaration; the name of a rate that there is; `0`.
+/// Writes `H(A)`, `H(A|C)`, `I(A;B)` or `I(A;B|C)`, the sets in order of declaration; the name of a rate, if there is such a
+/// rate; `0`.
 fn write_plain(out: &mut Vec<u8>, names: &Names, atom: &Atom) -> Result<(), AllocError> {
     match atom {
         Atom::Nothing => out.extend_from_slice(b"0"),
@@ -39,7 +40,7 @@ fn write_plain(out: &mut Vec<u8>, names: &Names, atom: &Atom) -> Result<(), Allo
     }
 }
 
-/// An atom, as the question's author wrote it where that is so.
+/// Writes `atom`, in the author's own spelling if it is one of `measures`.
 fn write_atom(
     out: &mut Vec<u8>,
     measures: &[Measure],
@@ -52,7 +53,7 @@ fn write_atom(
     }
 }
 
-/// The sign of a term, which is the first of its side or not.
+/// The text of a term's sign: without a plus where the term is the first one of its side.
 fn sign_before(is_first: bool, negative: bool) -> &'static [u8] {
     match (is_first, negative) {
         (true, true) => b"- ",
@@ -62,7 +63,7 @@ fn sign_before(is_first: bool, negative: bool) -> &'static [u8] {
     }
 }
 
-/// A number before an atom with a blank, and nothing where it is 1.
+/// Writes `number` and a blank; nothing where it is 1.
 fn write_factor(out: &mut Vec<u8>, number: u64) -> Result<(), AllocError> {
     if number == 1 {
         return Ok(());
@@ -71,7 +72,7 @@ fn write_factor(out: &mut Vec<u8>, number: u64) -> Result<(), AllocError> {
     out.extend_from_slice(b" ")
 }
 
-/// The terms of a side with their signs, or `0`.
+/// Writes the terms of a side with their signs; `0` if there are none.
 fn write_side(
     out: &mut Vec<u8>,
     measures: &[Measure],
@@ -103,7 +104,7 @@ pub fn terms_text(
     Ok(out)
 }
 
-/// What stands between the sums.
+/// The text of a relation's sign, between blanks.
 fn sign_text(sign: Sign) -> &'static [u8] {
     match sign {
         Sign::AtLeast => b" >= ",

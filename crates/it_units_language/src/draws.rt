@@ -11,7 +11,7 @@ vars A, B, C, D
 prove 1 I(C;D|B) + 2 I(C;D|A,B) + 1 I(B;D) >= 2 H(A,D)
 ";
 
-/// Whether they are drawn.
+/// Whether these two questions are drawn.
 fn are_drawn(alloc: Global) -> bool {
     match questions_of(alloc, 1, 2) {
         Ok(file) => file.as_slice() == TWO_QUESTIONS,

@@ -5,7 +5,7 @@ use it_copy::head;
 use it_copy::types::{CopyLine, Head};
 use std::alloc::Global;
 
-/// Whether these are the names, in order.
+/// Whether `names` are the names `want`, in order.
 fn are_names(names: &[Vec<u8>], want: &[&[u8]]) -> bool {
     if names.len() != want.len() {
         return false;
@@ -18,15 +18,15 @@ fn are_names(names: &[Vec<u8>], want: &[&[u8]]) -> bool {
     true
 }
 
-/// Whether a line asks for this copy of a variable over a set.
+/// Whether a line asks for the copy `fresh` of the variable `old` over the set `over`.
 fn is_copy(line: &CopyLine, fresh: &[u8], old: &[u8], over: &[&[u8]]) -> bool {
     line.fresh.as_slice() == fresh
         && line.old.as_slice() == old
         && are_names(line.over.as_slice(), over)
 }
 
-/// Whether a head is R, a copy of A over C and D, then S, a copy of R over the empty set, and the questions begin at this byte after so
-/// many lines.
+/// Whether a head is R, a copy of A over C and D, then S, a copy of R over the empty set, and the questions begin at byte `from` after
+/// `skipped` lines.
 fn is_of_two(head: &Head, from: usize, skipped: u32) -> bool {
     let lines = head.lines.as_slice();
     lines.len() == 2

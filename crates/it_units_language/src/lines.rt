@@ -1,11 +1,11 @@
-//! Tests: lines cut into tokens, and two bytes that files have elsewhere and no line has.
+//! Tests: lines cut into tokens, and two bytes that a line has none of: they stand elsewhere in files.
 
 use crate::fixtures::LONGEST_FILE;
 use it_syntax::tokens;
 use it_syntax::types::{Code, Symbol, SyntaxFault, Token, TokenKind};
 use std::alloc::Global;
 
-/// Whether these are the tokens, each by its kind, its start and its end.
+/// Whether `tokens` are the tokens `want`, each by its kind, its start and its end.
 fn are_tokens(tokens: &[Token], want: &[(TokenKind, u32, u32)]) -> bool {
     if tokens.len() != want.len() {
         return false;
@@ -19,7 +19,7 @@ fn are_tokens(tokens: &[Token], want: &[(TokenKind, u32, u32)]) -> bool {
     true
 }
 
-/// Whether a line is cut into these tokens.
+/// Whether a line is cut into the tokens `want`.
 fn is_cut(alloc: Global, line: &[u8], want: &[(TokenKind, u32, u32)]) -> bool {
     if line.len() > LONGEST_FILE {
         return false;
@@ -64,7 +64,7 @@ fn a_line_is_cut_into_its_longest_tokens(rt: HostRuntime) {
     assert!(rt; are_symbols(rt.alloc()));
 }
 
-/// Whether a line is refused at a byte of this column.
+/// Whether a line is refused at the byte of column `column`.
 fn is_refused(alloc: Global, line: &[u8], column: u32) -> bool {
     if line.len() > LONGEST_FILE {
         return false;

@@ -11,7 +11,7 @@ use std::io::{ErrorKind, Read, Write};
 
 const LINE: &[u8] = b"1 yes 1 : 1 I(X;Y)\n";
 
-/// A source of these bytes that gives `step` at a call and fails at the calls `failing`.
+/// A source of `bytes` that gives `step` of them at a call and fails at the calls `failing`.
 fn source(
     alloc: Global,
     bytes: &[u8],
@@ -24,7 +24,7 @@ fn source(
     Ok(MemorySource::new(Vec::from_slice(alloc, bytes)?, step, failing))
 }
 
-/// Whether the reading up to a limit of these bytes ends so, where `step` come at a call and the calls `failing` fail.
+/// Whether the reading of `bytes` up to `limit` of them ends with `want`, where `step` come at a call and the calls `failing` fail.
 fn reads(
     alloc: Global,
     bytes: &[u8],
@@ -69,7 +69,7 @@ fn reading_ends_at_the_end_the_limit_or_a_fault(rt: HostRuntime) {
     assert!(rt; ends_before(rt.alloc()));
 }
 
-/// A sink with room for so many bytes that takes `step` at a call and fails at the calls `failing`.
+/// A sink with room for `room` bytes that takes `step` at a call and fails at the calls `failing`.
 fn sink(alloc: Global, room: usize, step: usize, failing: &[u64]) -> Result<MemorySink, AllocError>
     requires { 0 < step }
 {
@@ -78,8 +78,8 @@ fn sink(alloc: Global, room: usize, step: usize, failing: &[u64]) -> Result<Memo
     Ok(sink)
 }
 
-/// Whether the writing of the line to a sink with room for so many bytes, that takes `step` at a call and fails at the calls
-/// `failing`, ends so, with the line's first so many bytes there.
+/// Whether the writing of the line to a sink with room for `room` bytes, that takes `step` at a call and fails at the calls
+/// `failing`, ends with `want`, with the line's first `count` bytes there.
 fn writes(
     alloc: Global,
     room: usize,
@@ -108,7 +108,7 @@ fn stops(alloc: Global) -> bool {
         && writes(alloc, 0, 7, &[], 0, fault)
 }
 
-/// Whether the writing of a piece ends so after a call for more room, with these bytes in the sink.
+/// Whether the writing of `piece` ends with `want` after a call for `more` room, with `bytes` in the sink.
 fn ends(
     sink: &mut MemorySink,
     more: usize,
@@ -166,7 +166,7 @@ impl Trial {
     }
 }
 
-/// The outcome of a call with this number.
+/// The outcome of call number `call`, which fails if it is number `failing`.
 fn outcome<T: Drop>(value: T, call: u32, failing: u32) -> io::Result<T>
     ensures { IfOk result (λ given. given ≡ value) }
 {
@@ -228,7 +228,7 @@ fn fails_at_read(alloc: Global) -> bool {
     matches!(read, Err(InFault::ReadFault)) && trial.reads == 2
 }
 
-/// Whether the writing of the line ends so where these calls fail, after so many writes and so many flushes.
+/// Whether the writing of the line ends with `want` where these calls fail, after `calls` writes and as many flushes.
 fn tries(failing_write: u32, failing_flush: u32, calls: u32, want: Result<(), OutFault>) -> bool {
     let mut trial = Trial::new(0, failing_write, failing_flush);
     let end = write_all(&mut StdSink::new(&mut trial), LINE);
@@ -251,7 +251,7 @@ fn fails_when_full() -> bool {
     end == Err(OutFault::WriteFault) && two.as_slice() == b"ab".as_slice()
 }
 
-/// Whether a sure sink with such a limit keeps this of what a sure source gives, and tells whether there was more.
+/// Whether a sure sink with the limit `limit` keeps `kept` of what a sure source gives, and tells by `more` whether there was more.
 fn keeps(alloc: Global, limit: usize, kept: &[u8], more: bool) -> bool {
     let Ok(bytes) = Vec::from_slice(alloc, b"abc") else {
         return false;
@@ -269,7 +269,7 @@ fn keeps(alloc: Global, limit: usize, kept: &[u8], more: bool) -> bool {
     }
 }
 
-/// Whether it keeps a prefix.
+/// Whether a sure sink keeps a prefix.
 fn keeps_prefix(alloc: Global) -> bool {
     keeps(alloc, 4, b"abc", false) && keeps(alloc, 3, b"abc", false) && keeps(alloc, 2, b"ab", true)
 }

@@ -20,7 +20,7 @@ const DEFINED: Effort = Effort {
     pivots: None,
 };
 
-/// A proposer of one candidate, so many times, whatever it is begun with. It learns nothing. One that lies in `learn`, so that a
+/// A proposer of one candidate, `times` times, whatever it is begun with. It learns nothing. One that lies in `learn`, so that a
 /// failure changes what it proposes or a proof changes it otherwise than its plan says, can't be written: it has no proof.
 #[derive(Drop)]
 struct StubbornProposer {
@@ -49,7 +49,7 @@ impl Proposer for StubbornProposer {
     fn learn(&mut self, _candidate: &Candidate, _proved: bool) {}
 }
 
-/// A candidate of so many sets, the first of which is this one and the others are empty.
+/// A candidate of `count` sets, the first of which is `first` and the others are empty.
 fn candidate(count: u8, first: VarSet) -> Candidate {
     Candidate {
         count,
@@ -122,7 +122,7 @@ fn free_pair(alloc: Global) -> Pair
     }
 }
 
-/// Whether a search tried so many candidates in vain.
+/// Whether a search tried `count` candidates in vain.
 fn has_tried(end: &Contained, count: u32) -> bool {
     match end {
         Contained::Open { tried } => *tried == count,
@@ -130,7 +130,7 @@ fn has_tried(end: &Contained, count: u32) -> bool {
     }
 }
 
-/// Whether a search found a candidate with this first part.
+/// Whether a search found a candidate with the first part `part`.
 fn has_part(end: &Contained, part: VarSet) -> bool {
     match end {
         Contained::Open { .. } => false,
@@ -138,7 +138,7 @@ fn has_part(end: &Contained, part: VarSet) -> bool {
     }
 }
 
-/// Whether a search by these boxes tries so many candidates in vain.
+/// Whether a search by these boxes tries `count` candidates in vain.
 fn is_open(
     alloc: Global,
     pair: &Pair,
@@ -155,7 +155,7 @@ fn is_open(
     }
 }
 
-/// Whether a search by these boxes finds a candidate with this first part.
+/// Whether a search by these boxes finds a candidate with the first part `part`.
 fn is_found(
     alloc: Global,
     pair: &Pair,
@@ -266,7 +266,7 @@ fn come_first(alloc: Global, pair: &Pair) -> bool
         && is_found(alloc, pair, &[], &mut boxes, 1, VarSet::single(0))
 }
 
-/// Whether the searches about the two regions end so.
+/// Whether the searches about the two regions end as they should.
 fn are_searched(alloc: Global) -> bool {
     match pair_of_regions(alloc) {
         Some(pair) => {

@@ -1,7 +1,7 @@
 //! Tests: closures by functions of functions.
 
 ghost use Rattle.std.specs.Prelude.{◌≡◌, IfOk};
-ghost use Rattle.it_space.specs.Problems.{IsProblem, problem_view};
+ghost use Rattle.it_space.specs.Problems.{IsProblem};
 
 use it_closure::Dependences;
 use it_space::{Constraint, Kind, Origin, Problem, Row, Space, VarSet};
@@ -31,7 +31,7 @@ fn equation(row: Row, line: u16) -> Constraint
 
 /// Y is a function of X, and Z is one of Y.
 fn functions(alloc: Global) -> Result<Problem, AllocError>
-    ensures problem { IfOk result (λ p. IsProblem (problem_view p)) }
+    ensures problem { IfOk result (λ p. IsProblem p) }
     ensures space { IfOk result (λ p. p.space ≡ record { variables = 3; rates = 0 }) }
 {
     let first = equation(Row::new(vec![in alloc; (1, -1), (3, 1)]?), 1);
@@ -42,7 +42,7 @@ fn functions(alloc: Global) -> Result<Problem, AllocError>
     })
 }
 
-/// What these functions make dependent.
+/// The dependences that these functions make.
 fn dependences(alloc: Global) -> Result<Dependences, AllocError>
     ensures { IfOk result (λ d. d.space ≡ record { variables = 3; rates = 0 }) }
 {
@@ -63,7 +63,7 @@ fn closes(alloc: Global, dependences: &Dependences, sets: &[u32]) -> bool
     }
 }
 
-/// Whether h(X,Z) - h(X) is nothing over closed sets.
+/// Whether h(X,Z) - h(X) is 0 over closed sets.
 fn vanishes(alloc: Global, dependences: &Dependences) -> bool
     requires { dependences.now.space ≡ record { variables = 3; rates = 0 } }
 {

@@ -7,14 +7,14 @@ use it_codes::{Field, LinearCode, Variable, entropies_of, first_other};
 use it_space::{Point, Space};
 use std::alloc::{AllocError, Global};
 
-/// A variable that is one function of two symbols, with these coefficients.
+/// A variable that is one function of two symbols, with the coefficients `first` and `second`.
 fn variable(alloc: Global, first: u8, second: u8) -> Result<Variable, AllocError> {
     let function = vec![in alloc; first, second]?;
     let functions = vec![in alloc; function]?;
     Ok(Variable { functions })
 }
 
-/// Of two symbols a and b: a, b, a + b, a + 2 b.
+/// The code of two symbols a and b with the variables a, b, a + b, a + 2 b.
 fn code(alloc: Global, field: Field) -> Result<LinearCode, AllocError>
     ensures code { IfOk result (λ c. IsCode (code_view c)) }
     ensures four { IfOk result (λ c. length c.variables.items ≡ 4) }
@@ -32,7 +32,7 @@ fn code(alloc: Global, field: Field) -> Result<LinearCode, AllocError>
     })
 }
 
-/// Twice the point at which each of four variables has entropy 1, and any two or more have 2.
+/// Twice the point at which each of four variables has entropy 1, and any two or more have entropy 2.
 fn twice_any_two(alloc: Global) -> Result<Point, AllocError>
     ensures { IfOk result (λ p. length p ≡ 15) }
 {
@@ -44,7 +44,7 @@ fn twice_any_two(alloc: Global) -> Result<Point, AllocError>
     Ok(Point::new(space, values))
 }
 
-/// The first set whose entropy isn't that of any two of the four, 0 where there is none.
+/// The first set whose entropy isn't that of any two of the four; 0 where there is none.
 fn first_of_other_entropy(alloc: Global, field: Field) -> Result<u16, AllocError> {
     let code = code(alloc, field)?;
     let point = twice_any_two(alloc)?;
@@ -52,7 +52,7 @@ fn first_of_other_entropy(alloc: Global, field: Field) -> Result<u16, AllocError
     Ok(other.unwrap_or(0))
 }
 
-/// The entropy of a and a + 2 b together, 0 where there is none.
+/// The entropy of a and a + 2 b together; 0 where there is none.
 fn outer_two(alloc: Global, field: Field) -> Result<i128, AllocError> {
     let code = code(alloc, field)?;
     match entropies_of(alloc, &code)? {
@@ -61,7 +61,7 @@ fn outer_two(alloc: Global, field: Field) -> Result<i128, AllocError> {
     }
 }
 
-/// Whether any two determine the message over the field of three elements, and over that of two the first and last are one.
+/// Whether any two variables determine the message over the field of three elements, and the first and the last are one over that of two.
 fn are_by_hand(alloc: Global) -> bool {
     matches!(first_of_other_entropy(alloc, Field::Three), Ok(0))
         && matches!(first_of_other_entropy(alloc, Field::Two), Ok(9))

@@ -2,7 +2,7 @@
 
 use it_fraction::{gcd, lcm};
 
-/// Python's math.gcd
+/// Greatest common divisors, against Python's math.gcd.
 fn are_divisors() -> bool {
     gcd(0, 0) == 0
         && gcd(-12, 18) == 6
@@ -10,7 +10,7 @@ fn are_divisors() -> bool {
         && gcd(1 << 126, 3 << 100) == 1 << 100
 }
 
-/// Python's math.lcm
+/// Least common multiples, against Python's math.lcm.
 fn are_multiples() -> bool {
     let largest = i128::MAX;
     let big = 1 << 126;

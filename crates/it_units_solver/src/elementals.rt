@@ -7,7 +7,7 @@ use it_polymatroid::{Substitution, Table, is_polymatroid, pull_back};
 use it_space::VarSet;
 use std::alloc::{AllocError, Global};
 
-/// Whether the inequality of n variables with this number is this one.
+/// Whether inequality number `index` of n variables is `inequality`.
 fn is_at(n: u8, index: u32, inequality: Elemental) -> bool
     requires some { 1 ≤ n }
     requires few { n ≤ 6 }
@@ -15,8 +15,8 @@ fn is_at(n: u8, index: u32, inequality: Elemental) -> bool
     index < count(n) && parts(n, index) == inequality
 }
 
-/// Whether the inequalities of a pair of n variables, by loops over all sets, have the numbers from `first` on; the number after
-/// them.
+/// The number after the inequalities of the pair `left` and `right` of n variables, by loops over all sets, if these have the numbers
+/// from `first` on.
 fn pair_listed(n: u8, left: u8, right: u8, first: u32) -> Option<u32>
     requires some { 1 ≤ n }
     requires few { n ≤ 6 }
@@ -68,7 +68,7 @@ fn numbers_name_the_inequalities_in_order(rt: HostRuntime) {
     }
 }
 
-/// How many inequalities there are, by Yeung.
+/// Whether there are as many inequalities as by Yeung.
 fn are_as_many() -> bool {
     [count(1), count(2), count(3), count(4)] == [1, 3, 9, 28]
         && [count(5), count(6), count(7), count(8)] == [85, 246, 679, 1800]
@@ -97,7 +97,7 @@ fn there_are_as_many_as_yeung_counts_each_with_its_row(rt: HostRuntime) {
     assert!(rt; is_eighth(rt.alloc()));
 }
 
-/// Whether the entropy of a set of three variables given another one expands to these inequalities.
+/// Whether the entropy of `of` given `given`, sets of three variables, expands to the inequalities `numbers`.
 fn is_conditional(alloc: Global, of: u16, given: u16, numbers: &[u32]) -> bool
     requires of { of < 8 }
     requires given { given < 8 }
@@ -110,7 +110,7 @@ fn is_conditional(alloc: Global, of: u16, given: u16, numbers: &[u32]) -> bool
     }
 }
 
-/// Whether the mutual information of two sets of three variables given a third one expands to these inequalities.
+/// Whether the mutual information of `left` and `right` given `given`, sets of three variables, expands to the inequalities `numbers`.
 fn is_mutual(alloc: Global, left: u16, right: u16, given: u16, numbers: &[u32]) -> bool
     requires left { left < 8 }
     requires right { right < 8 }
@@ -147,7 +147,7 @@ fn table(alloc: Global, x: u8, y: u8, both: u8) -> Result<Table, AllocError>
     Ok(Table::new(2, list))
 }
 
-/// Whether this is the first inequality that is broken at the set function of these values, which is a polymatroid only where none is.
+/// Whether `broken` is the first inequality that the set function of these values breaks; only where there is none it is a polymatroid.
 fn breaks(alloc: Global, x: u8, y: u8, both: u8, broken: Option<u32>) -> bool {
     match table(alloc, x, y, both) {
         Ok(table) => {
@@ -157,7 +157,7 @@ fn breaks(alloc: Global, x: u8, y: u8, both: u8, broken: Option<u32>) -> bool {
     }
 }
 
-/// Whether tables are tested by their first broken inequality.
+/// Whether set functions are tested by their first broken inequality.
 fn are_tested(alloc: Global) -> bool {
     breaks(alloc, 0, 1, 1, None)
         && breaks(alloc, 1, 1, 3, Some(2))

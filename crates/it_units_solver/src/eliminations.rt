@@ -7,7 +7,7 @@ use it_eliminate::{Eliminated, eliminate};
 use it_space::{Row, Space, System};
 use std::alloc::{AllocError, Global};
 
-/// Whether elimination ends with a region of these rows.
+/// Whether elimination ends with a region of the rows `rows`.
 fn is_region(end: &Eliminated, rows: &[&[(u32, i128)]]) -> bool {
     match end {
         Eliminated::Region(region) => {
@@ -64,7 +64,7 @@ fn has_rate_region(alloc: Global, system: &System) -> bool
     }
 }
 
-/// Whether it names Rc where a rate may leave two rows alone.
+/// Whether the elimination stops at Rc where a rate may leave only two rows.
 fn names_rate(alloc: Global, system: &System) -> bool
     requires system { IsSystem system.now }
     requires rates { system.now.space.rates ≡ 3 }
@@ -73,7 +73,7 @@ fn names_rate(alloc: Global, system: &System) -> bool
     matches!(end, Ok(Eliminated::Rows { rate: 1 }))
 }
 
-/// Whether superposition coding has its rate region, and too many rows are told.
+/// Whether superposition coding has its rate region, and the rate that leaves too many rows is named.
 fn is_eliminated(alloc: Global) -> bool {
     match superposition(alloc) {
         Ok(system) => has_rate_region(alloc, &system) && names_rate(alloc, &system),
@@ -103,7 +103,7 @@ fn wide_products(alloc: Global) -> Result<System, AllocError>
     })
 }
 
-/// Whether the elimination of A finds them too wide.
+/// Whether the elimination of A finds that the products are too wide.
 fn is_wide(alloc: Global) -> bool {
     let Ok(system) = wide_products(alloc) else {
         return false;

@@ -5,7 +5,7 @@ ghost use Rattle.it_space.specs.Rows.{IsCanonical};
 use it_space::{Row, normal};
 use std::alloc::Global;
 
-/// Whether a row of these terms has those in lowest terms.
+/// Whether the row of `terms` has the terms `lowest` in lowest terms.
 fn has_lowest_terms(alloc: Global, terms: &[(u32, i128)], lowest: &[(u32, i128)]) -> bool
     requires { IsCanonical terms.now }
 {

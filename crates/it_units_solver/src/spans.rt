@@ -1,4 +1,4 @@
-//! Tests: hulls of rays that a judge makes, with rows that go.
+//! Tests: hulls of rays that a judge makes, with rows that are dropped.
 
 ghost use Rattle.std.specs.Prelude.{◌≡◌, ◌∷◌, [], pos, length, IfOk};
 ghost use Rattle.it_number.specs.Limit.{IsWithin};
@@ -19,7 +19,7 @@ const FRAME: Frame = Frame {
     rows: 100,
 };
 
-/// A step with the ray at which R and S are these.
+/// A step with the ray at which R is `r` and S is `s`.
 fn step(alloc: Global, r: i128, s: i128, drops: Vec<RowDrop>) -> Result<Step, AllocError>
     requires r { IsWithin r }
     requires s { IsWithin s }
@@ -29,8 +29,8 @@ fn step(alloc: Global, r: i128, s: i128, drops: Vec<RowDrop>) -> Result<Step, Al
     Ok(Step { ray, drops })
 }
 
-/// The drop of the row of this number, with these weights of R - S >= 0 and S >= 0. The generators before them are the one elemental
-/// inequality and the equation of the one variable.
+/// The drop of row number `row`, with the weights `first` of R - S >= 0 and `last` of S >= 0. The generators before them are the one
+/// elemental inequality and the equation of the one variable.
 fn row_drop(alloc: Global, row: usize, first: i128, last: i128) -> Result<RowDrop, AllocError> {
     let weights = vec![in alloc; (2, first), (3, last)]?;
     Ok(RowDrop {
@@ -39,7 +39,7 @@ fn row_drop(alloc: Global, row: usize, first: i128, last: i128) -> Result<RowDro
     })
 }
 
-/// The verdict on the rows R >= S and S >= 0 as the hull of the rays (1, 0) and (1, 1), after which these drops come. By hand: the
+/// The verdict on the rows R >= S and S >= 0 as the hull of the rays (1, 0) and (1, 1), with `drops` after the second. By hand: the
 /// second ray leaves R - S >= 0, S >= 0 and R >= 0, of which the last is the sum of the other two.
 fn verdict(alloc: Global, drops: Vec<RowDrop>) -> Result<HullVerdict, AllocError> {
     let first = step(alloc, 1, 0, Vec::new(alloc))?;
@@ -58,7 +58,7 @@ fn verdict(alloc: Global, drops: Vec<RowDrop>) -> Result<HullVerdict, AllocError
     )
 }
 
-/// The verdict where one drop comes.
+/// The verdict where there is one drop.
 fn verdict_on(
     alloc: Global,
     row: usize,
@@ -69,7 +69,7 @@ fn verdict_on(
     verdict(alloc, drops)
 }
 
-/// Whether the rows are the hull where R goes as the sum of the others, and not where it stays.
+/// Whether the rows are the hull where R >= 0 is dropped as the sum of the others, and not where it stays.
 fn are_hull(alloc: Global) -> bool {
     matches!(verdict_on(alloc, 2, 1, 1), Ok(HullVerdict::Valid))
         && matches!(
@@ -78,7 +78,7 @@ fn are_hull(alloc: Global) -> bool {
         )
 }
 
-/// Whether a wrong weight is refused with its verdict, and a row that isn't there.
+/// Whether a wrong weight and a row that isn't there are refused, each with its verdict.
 fn are_refused(alloc: Global) -> bool {
     matches!(
         verdict_on(alloc, 2, 1, 2),

@@ -7,7 +7,7 @@ use it_space::{Row, RowFault};
 use it_tableau::Tableau;
 use std::alloc::{AllocError, Global};
 
-/// Whether a row has these entries and this right side. They are whole numbers here: numerators alone.
+/// Whether row `row` has these entries and the right side `right`. They are whole numbers here: numerators alone.
 fn has_row(tableau: &Tableau, row: usize, entries: &[i128], right: i128) -> bool
     requires usable { tableau.now.spent ≡ false }
     requires row { row < height tableau.now }
@@ -23,7 +23,7 @@ fn has_row(tableau: &Tableau, row: usize, entries: &[i128], right: i128) -> bool
     true
 }
 
-/// Whether a row has these terms, numerators alone.
+/// Whether row `row` has these terms, numerators alone.
 fn has_terms(tableau: &Tableau, row: usize, terms: &[(usize, i128)]) -> bool
     requires usable { tableau.now.spent ≡ false }
     requires row { row < height tableau.now }
@@ -40,7 +40,7 @@ fn has_terms(tableau: &Tableau, row: usize, terms: &[(usize, i128)]) -> bool
     true
 }
 
-/// Whether the cost row has these entries and this right side, numerators alone.
+/// Whether the cost row has these entries and the right side `right`, numerators alone.
 fn costs(tableau: &Tableau, entries: &[i128], right: i128) -> bool
     requires { tableau.now.spent ≡ false }
 {
@@ -77,7 +77,7 @@ fn example(alloc: Global) -> Result<Tableau, RowFault>
     Tableau::start(alloc, &[1, 2, 3], columns.as_slice(), &target)
 }
 
-/// The tableau after a pivot at an entry above 0, if its ratio is this one.
+/// The tableau after a pivot at an entry above 0, if its ratio is `num` / `den`.
 fn pivoted(start: Tableau, row: usize, column: usize, num: i128, den: i128) -> Option<Tableau>
     requires usable { start.spent ≡ false }
     requires rows { height start ≡ 3 }
@@ -114,7 +114,7 @@ fn has_shape(tableau: &Tableau) -> bool
         && tableau.sign(2) == -1
 }
 
-/// Whether the start has the rows with their signs, and of a row the terms that are not 0.
+/// Whether the start has the rows with their signs, and one of them the terms that are not 0.
 fn has_rows(tableau: &Tableau) -> bool
     requires usable { tableau.now.spent ≡ false }
     requires rows { height tableau.now ≡ 3 }

@@ -9,7 +9,7 @@ use Rattle.it_vectors.specs.StretchesUpTo.{AreStretchesUpTo}
 use Rattle.it_vectors.specs.Places.{IsNextPlace}
 use Rattle.it_vectors.proofs.Places.{next_here, nulls_are_passed}
 
--- where nulls follow nulls
+-- zeros after zeros
 next_after_next : (row : List ℤ) (from mid to : ℕ) → IsNextPlace row from mid → IsNextPlace row mid to → IsNextPlace row from to
 next_after_next row from mid to m n = record { after = omega (arith, m.after, n.after); within = n.within; nulls = λ k h l. by_cases k h l (cases_lt k mid) }
   where
@@ -49,7 +49,7 @@ stretches_and_rest row starts k r = record { some = omega (arith, length_with_on
         subst (IsNextPlace row (end_of_stretches (starts ++ k ∷ []) j)) (sym (get_or_append_left starts (k ∷ []) 0 j h))
         (subst (λ (s : ℕ). IsNextPlace row s (slice_index_or starts j 0)) (sym (ends_stay starts k j (omega (arith, h)))) (r.each j h))
 
--- one more stretch
+-- a further stretch
 pub stretches_and_stretch : (row : List ℤ) (starts : List ℕ) (k : ℕ) → k + 8 ≤ length row → AreStretchesUpTo row starts k → AreStretchesUpTo row (starts ++ k ∷ []) (k + 8)
 stretches_and_stretch row starts k h r = record {
   each = (stretches_and_rest row starts k r).each;
@@ -57,7 +57,7 @@ stretches_and_stretch row starts k h r = record {
       (subst (λ (s : ℕ). IsNextPlace row (s + 8) (k + 8)) (sym (get_or_push starts k 0 (length starts) refl)) (next_here row (k + 8) h));
 }
 
--- where one more place is noted
+-- where a further place is noted
 pub stretch_is_noted : (b : Bool) (row : List ℤ) (starts new : List ℕ) (k : ℕ) → k + 8 ≤ length row → AreStretchesUpTo row starts k → OnTrue b (new ≡ starts ++ k ∷ []) → OnTrue b (AreStretchesUpTo row new (k + 8))
 stretch_is_noted true row starts new k h r e = subst (λ (s : List ℕ). AreStretchesUpTo row s (k + 8)) (sym e) (stretches_and_stretch row starts k h r)
 stretch_is_noted false row starts new k h r e = record {}

@@ -2,7 +2,7 @@
 use Rattle.std.specs.Prelude.{ℕ, ◌<◌, ◌≤◌, ◌^◌, ℤ, unsigned_abs, List, length}
 use Rattle.it_space.specs.Sums.{number_at}
 
--- no number is greater in absolute value
+-- each number is at most most in absolute value
 abbrev pub AreAtMost : List ℤ → ℕ → Type 0
 AreAtMost numbers most = (k : ℕ) → k < length numbers → unsigned_abs (number_at numbers k) ≤ most
 

@@ -5,16 +5,16 @@ ghost use Rattle.std.specs.Option.{IfNone, IfSome};
 ghost use Rattle.it_number.specs.Division.{int_quotient};
 ghost use Rattle.it_number.specs.Gcd.{gcd};
 
-/// Whether a number is 0. The clauses have each case by itself, for callers that go by cases on it.
+/// Whether `z` is 0. The contract states each case by itself, for callers that branch on it.
 pub fn is_zero(z: i64) -> bool
     ensures yes { OnTrue result (z ≡ pos 0) }
     ensures no { OnFalse result (¬ (z ≡ pos 0)) }
 {
-    // written out, so that the prover has each case with its test
+    // written out, so that the prover sees each case with its test
     if z == 0 { true } else { false }
 }
 
-/// The product, where that is below 2^63, so that it fits a number with a sign too. None where it is larger.
+/// The product of `a` and `b`; `None` unless it is below 2^63, so that it fits a signed number too.
 #[inline]
 pub fn short_product(a: u64, b: u64) -> Option<u64>
     ensures { SomeIff result (a * b < 2 ^ 63) (a * b) }
@@ -27,7 +27,7 @@ pub fn short_product(a: u64, b: u64) -> Option<u64>
     }
 }
 
-/// The sum plus the product.
+/// `sum` plus `factor` times `x`.
 #[inline]
 pub fn plus_product(sum: i64, factor: i64, x: i64) -> i64
     requires { unsigned_abs sum + unsigned_abs (factor *ℤ x) < 2 ^ 63 }
@@ -36,7 +36,7 @@ pub fn plus_product(sum: i64, factor: i64, x: i64) -> i64
     sum + factor * x
 }
 
-/// The sum of two numbers, less that of two others.
+/// (a + b) - (c + d).
 #[inline]
 pub fn difference_of_sums(a: i64, b: i64, c: i64, d: i64) -> i64
     requires { unsigned_abs a + unsigned_abs b + (unsigned_abs c + unsigned_abs d) < 2 ^ 63 }
@@ -45,7 +45,7 @@ pub fn difference_of_sums(a: i64, b: i64, c: i64, d: i64) -> i64
     (a + b) - (c + d)
 }
 
-/// The product, in 128 bits, which hold every one.
+/// The product of `x` and `y`, in 128 bits, where it always fits.
 #[inline]
 pub fn product(x: i64, y: i64) -> i128
     ensures { result ≡ x *ℤ y }
@@ -53,7 +53,7 @@ pub fn product(x: i64, y: i64) -> i128
     i128::from(x) * i128::from(y)
 }
 
-/// One number less another.
+/// x - y.
 #[inline]
 fn difference(x: i128, y: i128) -> i128
     requires x { unsigned_abs x < 2 ^ 126 }
@@ -63,7 +63,7 @@ fn difference(x: i128, y: i128) -> i128
     x - y
 }
 
-/// The number itself in 64 bits, where it is at most the limit in absolute value. None where it is larger.
+/// `z` in 64 bits; `None` if it is above `limit` in absolute value.
 #[inline]
 pub fn narrow(z: i128, limit: u64) -> Option<i64>
     requires { limit < 2 ^ 63 }
@@ -76,7 +76,7 @@ pub fn narrow(z: i128, limit: u64) -> Option<i64>
     }
 }
 
-/// The difference x a - y b, where that is at most the limit in absolute value.
+/// The difference x a - y b; `None` if it is above `limit` in absolute value.
 #[inline]
 #[tactic(auto, using(crate::proofs::Bounds::half_product))]
 pub fn narrow_difference(x: i64, a: i64, y: i64, b: i64, limit: u64) -> Option<i64>
@@ -90,7 +90,7 @@ pub fn narrow_difference(x: i64, a: i64, y: i64, b: i64, limit: u64) -> Option<i
     narrow(difference(product(x, a), product(y, b)), limit)
 }
 
-/// The greatest common divisor, by Euclid's algorithm; that of 0 and 0 is 0.
+/// The greatest common divisor of `a` and `b`, by Euclid's algorithm; that of 0 and 0 is 0.
 pub fn common_divisor(a: u64, b: u64) -> u64
     ensures value { result ≡ gcd a b }
     ensures some { 0 < a → 0 < result }
@@ -109,7 +109,7 @@ pub fn common_divisor(a: u64, b: u64) -> u64
     larger
 }
 
-/// The quotient z / k, toward 0.
+/// The quotient z / k, rounded towards 0.
 pub fn quotient(z: i64, k: u64) -> i64
     requires z { unsigned_abs z < 2 ^ 63 }
     requires some { 0 < k }
@@ -122,7 +122,8 @@ pub fn quotient(z: i64, k: u64) -> i64
     if z < 0 { -size } else { size }
 }
 
-/// A pivot and an entry without their common divisor. Mostly the pivot is 1 or divides the entry, and a division is dear.
+/// `pivot` and `entry`, divided by their greatest common divisor. Mostly the pivot is 1 or divides the entry; these cases come
+/// first, as divisions are slow.
 #[inline]
 pub fn lowest_terms(pivot: i64, entry: i64) -> (i64, i64)
     requires pivot { pos 1 ≤ℤ pivot }
@@ -141,7 +142,7 @@ pub fn lowest_terms(pivot: i64, entry: i64) -> (i64, i64)
     (quotient(pivot, shared), quotient(entry, shared))
 }
 
-/// The sum, where that is below 2^63, so that it fits a number with a sign too. None where it is larger.
+/// The sum of `a` and `b`; `None` unless it is below 2^63, so that it fits a signed number too.
 #[inline]
 pub fn short_sum(a: u64, b: u64) -> Option<u64>
     ensures { SomeIff result (a + b < 2 ^ 63) (a + b) }
@@ -150,7 +151,7 @@ pub fn short_sum(a: u64, b: u64) -> Option<u64>
     if sum < 1 << 63 { Some(sum) } else { None }
 }
 
-/// The sum x a + y b, where that is at most the limit.
+/// The sum x a + y b; `None` if it is above `limit`.
 pub fn sum_within(x: u64, a: u64, y: u64, b: u64, limit: u64) -> Option<u64>
     ensures some { IfSome result (λ s. (s ≡ x * a + y * b) × (s ≤ limit)) }
     ensures none { IfNone result (¬ (x * a + y * b ≤ limit)) }

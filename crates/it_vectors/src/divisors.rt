@@ -1,4 +1,4 @@
-//! Divisors with a reciprocal, which tells most quotients without a division.
+//! Divisors with a reciprocal, which gives most quotients without a division.
 ghost use Rattle.std.specs.Prelude.{◌≡◌, ◌*◌, ◌/◌, ◌<◌, ◌^◌, unsigned_abs};
 ghost use Rattle.std.specs.Bool.{OnTrue};
 ghost use Rattle.std.specs.Option.{IfSome};
@@ -12,12 +12,12 @@ use crate::arithmetic::common_divisor;
 pub struct Divisor {
     /// The divisor itself.
     pub value: u64,
-    // 2^32 over the divisor, rounded down, and 1 more; nothing that is proved rests on it
+    // 2^32 over the divisor, rounded down, plus 1; no proof depends on it
     reciprocal: u64,
 }
 
 impl Divisor {
-    /// The divisor with its reciprocal.
+    /// The divisor `value` with its reciprocal.
     pub fn new(value: u64) -> Divisor
         requires { 0 < value }
         ensures { result.value ≡ value }
@@ -35,7 +35,8 @@ impl Divisor {
         if self.value == 1 { true } else { false }
     }
 
-    /// The quotient, where it is whole and the reciprocal tells it; of numbers below 2^32 it tells all that are whole.
+    /// The quotient of `size` by the divisor, where it is whole and the reciprocal gives it; for sizes below 2^32 it gives every
+    /// whole quotient. Else `None`.
     #[inline]
     fn whole_quotient(&self, size: u64) -> Option<u64>
         ensures { IfSome result (λ q. q * self.now.value ≡ size) }
@@ -48,7 +49,7 @@ impl Divisor {
         }
     }
 
-    /// The quotient size / divisor.
+    /// The quotient of `size` by the divisor, rounded down.
     #[inline]
     #[tactic(auto, using(crate::proofs::Divisions::factor_is_quotient))]
     pub fn size_quotient(&self, size: u64) -> u64
@@ -61,7 +62,7 @@ impl Divisor {
         }
     }
 
-    /// The quotient z / divisor, toward 0.
+    /// The quotient of `z` by the divisor, rounded towards 0.
     #[inline]
     pub fn quotient(&self, z: i64) -> i64
         requires z { unsigned_abs z < 2 ^ 63 }
@@ -72,7 +73,7 @@ impl Divisor {
         if z < 0 { -size } else { size }
     }
 
-    /// The greatest common divisor of a size and this divisor.
+    /// The greatest common divisor of `size` and this divisor.
     #[inline]
     pub fn shared_with(self, size: u64) -> Divisor
         requires { 0 < self.value }
@@ -85,7 +86,7 @@ impl Divisor {
     }
 }
 
-/// 2^32 over a divisor, rounded down, and 1 more; without a division for the most frequent divisor.
+/// 2^32 over `value`, rounded down, plus 1; without a division for 1, the most frequent divisor.
 #[inline]
 fn reciprocal_of(value: u64) -> u64
     requires { 0 < value }

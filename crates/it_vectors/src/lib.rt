@@ -1,8 +1,8 @@
-//! Lists of whole numbers in 32 and in 64 bits: what a step of the simplex method makes of them.
+//! Kernels of a step of the simplex method, on lists of whole numbers in 32 and in 64 bits.
 //!
-//! A step multiplies a list by one whole number and takes off another list times another one. Mostly bounds on both lists show
-//! beforehand that the numbers stay within a limit, and then none is tested; places where the other list is 0 are passed over.
-//! A common divisor of a list and a denominator is found and divided away, mostly without a division.
+//! A step multiplies a list by one whole number and subtracts a multiple of another list. Mostly bounds on both lists show
+//! beforehand that the results stay within a limit, and then none is tested; places where the other list is 0 are skipped.
+//! The kernels also find a common divisor of a list and a denominator, and divide by it, mostly without a division.
 #![tactic(auto)]
 
 mod arithmetic;

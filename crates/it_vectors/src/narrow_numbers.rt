@@ -1,6 +1,6 @@
-//! What a step makes of the numbers of a row in 32 bits.
-//! The loops go by index, since their invariants speak of the numbers at the first k places, and over slices, since only these
-//! are run several numbers at once.
+//! A step's operations on the numbers of a row in 32 bits.
+//! The loops go by index, since their invariants are about the numbers at the first k places, and over slices, since only these
+//! are vectorized.
 ghost use Rattle.std.specs.Prelude.{◌≡◌, ◌++◌, ◌∷◌, [], ℕ, ◌+◌, ◌*◌, ◌<◌, ◌^◌, ◌+ℤ◌, ◌*ℤ◌, neg_ℤ, pos, length, unsigned_abs, ◌≤◌, ◌≤ℤ◌, SomeIff};
 ghost use Prim.Native.Nat.{◌∣◌};
 ghost use Rattle.std.specs.Bool.{OnFalse, OnTrue};
@@ -17,10 +17,10 @@ ghost use Rattle.it_vectors.specs.Sizes.{AreAtMost};
 use crate::arithmetic::sum_within;
 use crate::divisors::Divisor;
 
-/// The largest number of 32 bits, 2^31 - 1.
+/// The largest signed number of 32 bits, 2^31 - 1.
 const LARGEST_NARROW: u32 = i32::MAX as u32;
 
-/// The number at place k.
+/// The number of `row` at place `k`.
 #[inline]
 pub fn read(row: &[i32], k: usize) -> i32
     requires { k < length row.now }
@@ -29,7 +29,7 @@ pub fn read(row: &[i32], k: usize) -> i32
     row[k]
 }
 
-/// The greatest absolute value.
+/// The greatest absolute value in `row`.
 pub fn greatest_size(row: &[i32]) -> u64
     ensures { AreAtMost row.now result }
 {
@@ -43,7 +43,7 @@ pub fn greatest_size(row: &[i32]) -> u64
     u64::from(most)
 }
 
-/// A product that is narrow.
+/// The product of `x` and `a`, without overflow checks: it is below 2^31 in absolute value.
 #[inline]
 fn times(x: i32, a: i32) -> i32
     requires { unsigned_abs (x *ℤ a) < 2 ^ 31 }
@@ -52,7 +52,7 @@ fn times(x: i32, a: i32) -> i32
     x * a
 }
 
-/// A difference that is narrow.
+/// x - y, without overflow checks: it is below 2^31 in absolute value.
 #[inline]
 fn minus(x: i32, y: i32) -> i32
     requires { unsigned_abs x + unsigned_abs y < 2 ^ 31 }
@@ -61,7 +61,7 @@ fn minus(x: i32, y: i32) -> i32
     x - y
 }
 
-/// x a - y b, where no part needs a test.
+/// x a - y b, without overflow checks: the bound rules overflow out.
 #[inline]
 fn narrow_difference(x: i32, a: i32, y: i32, b: i32) -> i32
     requires { unsigned_abs (x *ℤ a) + unsigned_abs (y *ℤ b) < 2 ^ 31 }
@@ -70,7 +70,7 @@ fn narrow_difference(x: i32, a: i32, y: i32, b: i32) -> i32
     minus(times(x, a), times(y, b))
 }
 
-/// The next number at place k, where no part needs a test.
+/// `a` times the number of `row` at place `k`, less `b` times that of `by`, without overflow checks.
 #[inline]
 fn plain_number(row: &[i32], by: &[i32], k: usize, a: i32, b: i32) -> i32
     requires k_row { k < length row.now }
@@ -81,7 +81,7 @@ fn plain_number(row: &[i32], by: &[i32], k: usize, a: i32, b: i32) -> i32
     narrow_difference(read(row, k), a, read(by, k), b)
 }
 
-/// The next number at place k where the row's own factor is 1 and no part needs a test.
+/// The number of `row` at place `k`, less `b` times that of `by`, without overflow checks.
 #[inline]
 fn less_product(row: &[i32], by: &[i32], k: usize, b: i32) -> i32
     requires k_row { k < length row.now }
@@ -92,10 +92,10 @@ fn less_product(row: &[i32], by: &[i32], k: usize, b: i32) -> i32
     minus(read(row, k), times(read(by, k), b))
 }
 
-/// So many places make a stretch: two operations on four numbers each.
+/// The number of places in a stretch: two vector operations on four numbers each.
 pub const STRETCH: usize = 8;
 
-/// Whether the number at place k is 0.
+/// Whether the number of `row` at place `k` is 0.
 #[inline]
 fn is_null(row: &[i32], k: usize) -> bool
     requires { k < length row.now }
@@ -104,7 +104,7 @@ fn is_null(row: &[i32], k: usize) -> bool
     read(row, k) == 0
 }
 
-/// Whether the numbers of the stretch that begins at a place are all 0. All of them are looked at, so that several are at once.
+/// Whether the numbers of the stretch that begins at place `from` are all 0. The loop has no early exit, so that it is vectorized.
 #[inline]
 fn is_null_stretch(row: &[i32], from: usize) -> bool
     requires { from + 8 ≤ length row.now }
@@ -117,7 +117,7 @@ fn is_null_stretch(row: &[i32], from: usize) -> bool
     all
 }
 
-/// From where on the rest of the row isn't 0.
+/// The first place from `from` on where `row` isn't 0, or the length of `row` where there is none.
 fn past_nulls(row: &[i32], from: usize) -> usize
     requires { from ≤ length row.now }
     ensures { IsNextPlace row.now from result }
@@ -130,7 +130,7 @@ fn past_nulls(row: &[i32], from: usize) -> usize
     row.len()
 }
 
-/// Notes one more place; false for want of memory.
+/// Appends place `k` to `starts`; `false` if allocation fails.
 #[inline]
 fn note_place(starts: &mut Vec<usize>, k: usize) -> bool
     ensures { OnTrue result (starts.new.items ≡ starts.old.items ++ k ∷ []) }
@@ -138,7 +138,7 @@ fn note_place(starts: &mut Vec<usize>, k: usize) -> bool
     starts.push(k).is_ok()
 }
 
-/// Notes that a stretch begins at a place, unless the row is 0 in it; false for want of memory.
+/// Appends place `k` to `starts`, unless `row` is 0 in the stretch that begins there; `false` if allocation fails.
 #[inline]
 fn note_stretch(row: &[i32], k: usize, starts: &mut Vec<usize>) -> bool
     requires stretch { k + 8 ≤ length row.now }
@@ -148,8 +148,8 @@ fn note_stretch(row: &[i32], k: usize, starts: &mut Vec<usize>) -> bool
     is_null_stretch(row, k) || note_place(starts, k)
 }
 
-/// Notes where the stretches begin in which the row isn't 0, and last from where on the rest isn't, which has fewer places than a stretch;
-/// false for want of memory.
+/// Sets `starts` to the places where the stretches begin in which `row` isn't 0; its last entry is the first place where the rest
+/// of `row`, which is shorter than a stretch, isn't 0 (or the length of `row`). `false` if allocation fails.
 pub fn note_stretches(row: &[i32], starts: &mut Vec<usize>) -> bool
     ensures { OnTrue result (AreStretches row.now starts.new.items) }
 {
@@ -164,7 +164,7 @@ pub fn note_stretches(row: &[i32], starts: &mut Vec<usize>) -> bool
     note_place(starts, past_nulls(row, k))
 }
 
-/// As combine, where no number needs a test.
+/// Like `combine`, without overflow checks: the bound rules overflow out.
 fn multiply_and_subtract(row: &mut [i32], by: &[i32], a: i32, b: i32)
     requires even { length row.old ≡ length by.now }
     requires bound { (k : ℕ) → k < length by.now → unsigned_abs (number_at row.old k *ℤ a) + unsigned_abs (number_at by.now k *ℤ b) < 2 ^ 31 }
@@ -176,7 +176,8 @@ fn multiply_and_subtract(row: &mut [i32], by: &[i32], a: i32, b: i32)
     }
 }
 
-/// The numbers from one place on up to another, less those of another row times b, where no number needs a test.
+/// Subtracts `b` times the numbers of `by` from those of `row` at the places from `from` up to `to`, `to` excluded, without overflow
+/// checks: the bound rules overflow out.
 #[inline(always)]
 fn subtract_part(row: &mut [i32], by: &[i32], from: usize, to: usize, b: i32)
     requires even { length row.old ≡ length by.now }
@@ -193,7 +194,8 @@ fn subtract_part(row: &mut [i32], by: &[i32], from: usize, to: usize, b: i32)
     }
 }
 
-/// The numbers of the stretch that begins at a place, less those of another row times b, where no number needs a test.
+/// The numbers of `row` in the stretch that begins at place `from`, less `b` times those of `by`, without overflow checks: the bound
+/// rules overflow out.
 #[inline(always)]
 fn stretch_less_product(row: &[i32], by: &[i32], from: usize, b: i32) -> [i32; STRETCH]
     requires row { from + 8 ≤ length row.now }
@@ -208,7 +210,7 @@ fn stretch_less_product(row: &[i32], by: &[i32], from: usize, b: i32) -> [i32; S
     numbers
 }
 
-/// Puts numbers in the place of those of the stretch that begins at a place.
+/// Overwrites the stretch of `row` that begins at place `from` with `numbers`.
 #[inline(always)]
 fn write_stretch(row: &mut [i32], from: usize, numbers: &[i32; STRETCH])
     requires { from + 8 ≤ length row.old }
@@ -222,8 +224,8 @@ fn write_stretch(row: &mut [i32], from: usize, numbers: &[i32; STRETCH])
     }
 }
 
-/// As `subtract_part` for the stretch that begins at a place. All its numbers are read before the first is written: only so are four
-/// formed at once.
+/// Like `subtract_part`, for the stretch that begins at place `from`. All its numbers are read before the first is written: only
+/// then is the loop vectorized.
 #[inline(always)]
 fn subtract_stretch(row: &mut [i32], by: &[i32], from: usize, b: i32)
     requires even { length row.old ≡ length by.now }
@@ -238,7 +240,7 @@ fn subtract_stretch(row: &mut [i32], by: &[i32], from: usize, b: i32)
     write_stretch(row, from, &numbers);
 }
 
-/// As combine with the factor 1, where no number needs a test: only the stretches change in which the other row isn't 0.
+/// Like `combine` with factor 1, without overflow checks: the bound rules overflow out. Only stretches where `by` isn't 0 change.
 fn subtract_stretches(row: &mut [i32], by: &[i32], starts: &[usize], b: i32)
     requires even { length row.old ≡ length by.now }
     requires bound { (k : ℕ) → k < length by.now → unsigned_abs (number_at row.old k) + unsigned_abs (number_at by.now k *ℤ b) < 2 ^ 31 }
@@ -254,7 +256,8 @@ fn subtract_stretches(row: &mut [i32], by: &[i32], starts: &[usize], b: i32)
     subtract_part(row, by, starts[last], row.len(), b);
 }
 
-/// The same. Where no stretches are noted, all places are gone through.
+/// Subtracts `b` times the numbers of `by` from those of `row`, without overflow checks: by the stretches that begin at `starts` if
+/// they are `noted`, else at all places.
 #[inline]
 fn subtract_noted(row: &mut [i32], by: &[i32], starts: &[usize], noted: bool, b: i32)
     requires even { length row.old ≡ length by.now }
@@ -270,7 +273,7 @@ fn subtract_noted(row: &mut [i32], by: &[i32], starts: &[usize], noted: bool, b:
     }
 }
 
-/// As combine, where no number needs a test.
+/// Like `combine`, without overflow checks: the bound rules overflow out.
 fn combine_plain(row: &mut [i32], by: &[i32], starts: &[usize], noted: bool, a: i32, b: i32)
     requires even { length row.old ≡ length by.now }
     requires bound { (k : ℕ) → k < length by.now → unsigned_abs (number_at row.old k *ℤ a) + unsigned_abs (number_at by.now k *ℤ b) < 2 ^ 31 }
@@ -285,8 +288,8 @@ fn combine_plain(row: &mut [i32], by: &[i32], starts: &[usize], noted: bool, a: 
     }
 }
 
-/// A bound on each number times a less another, which is at most y, times b: with most for the numbers, and where that is
-/// above the limit, with the greatest of them. None where that is above it too.
+/// A bound on the numbers of `row` times `a` less numbers of at most `y` times `b`: from `most`, the known bound on `row`, or if
+/// that gives more than `limit`, from the greatest number of `row`. `None` if that gives more than `limit` too.
 pub fn bound(row: &[i32], most: u64, a: u64, y: u64, b: u64, limit: u64) -> Option<u64>
     requires most { AreAtMost row.now most }
     ensures { IfSome result (λ s. IsBound row.now a y b limit s) }
@@ -297,7 +300,7 @@ pub fn bound(row: &[i32], most: u64, a: u64, y: u64, b: u64, limit: u64) -> Opti
     }
 }
 
-/// The factor, where it is narrow.
+/// `z` in 32 bits; `None` unless it is below 2^31 in absolute value.
 fn narrow_factor(z: i64) -> Option<i32>
     ensures { IfSome result (λ x. x ≡ z) }
 {
@@ -308,9 +311,9 @@ fn narrow_factor(z: i64) -> Option<i32>
     }
 }
 
-/// The numbers times a, less those of another row times b, with a bound on them, where most and most_by are bounds on the
-/// numbers of the two, and stretches in which the other row isn't 0 begin at the starts, if they are noted. None where the bounds don't
-/// show that all stay within the limit: then the row stays.
+/// Multiplies the numbers of `row` by `a` and subtracts `b` times those of `by`; returns a bound on the results. `most` and
+/// `most_by` are bounds on the numbers of the two rows, and if `noted`, the stretches where `by` isn't 0 begin at `starts`. `None`
+/// if the bounds don't show that all results stay within `limit`: then `row` is unchanged.
 pub fn combine(
     row: &mut [i32],
     by: &[i32],
@@ -345,8 +348,8 @@ pub fn combine(
     Some(sum)
 }
 
-/// As combine, for the usual case that the row's own factor is 1 and that the bounds that are kept show that all stay within the
-/// limit. None where they don't: then the row stays.
+/// Like `combine`, for the usual case that `a` is 1 and that `most` and `most_by` show that all results stay within `limit`. Else
+/// `None`, and `row` is unchanged.
 #[inline]
 pub fn subtract_multiple(
     row: &mut [i32],
@@ -378,7 +381,7 @@ pub fn subtract_multiple(
     Some(sum)
 }
 
-/// The number at place k, where it is at most the limit.
+/// The number of `room` at place `k`, in 32 bits; `None` if it is above `limit` in absolute value.
 #[inline]
 pub fn narrow_number(room: &[i64], k: usize, limit: u64) -> Option<i32>
     requires place { k < length room.now }
@@ -393,13 +396,13 @@ pub fn narrow_number(room: &[i64], k: usize, limit: u64) -> Option<i32>
     }
 }
 
-/// A step from an approximate inverse of an odd number modulo 2^32 to a closer one.
+/// From an approximate inverse of `odd` modulo 2^32 a closer one, by a step of Newton's iteration.
 fn closer_inverse(odd: i32, inverse: i32) -> i32 {
     inverse.wrapping_mul(2i32.wrapping_sub(odd.wrapping_mul(inverse)))
 }
 
-/// The inverse of an odd number modulo 2^32, by Newton's iteration (Jebelean, "An Algorithm for Exact Division", 1993); nothing that is
-/// proved rests on it.
+/// The inverse of `odd` modulo 2^32, by Newton's iteration (Jebelean, "An Algorithm for Exact Division", 1993); no proof depends on
+/// it.
 fn inverse_of(odd: i32) -> i32 {
     let first = closer_inverse(odd, odd);
     let second = closer_inverse(odd, first);
@@ -407,7 +410,7 @@ fn inverse_of(odd: i32) -> i32 {
     closer_inverse(odd, third)
 }
 
-/// What is the quotient of z, where it is whole, by a divisor that is 2^shift times a number with this inverse.
+/// The likely quotient of `z` by 2^`shift` times a number with this `inverse` modulo 2^32: it is the quotient where that is whole.
 #[inline]
 fn likely_quotient(z: i32, shift: u32, inverse: i32) -> i32
     requires { shift < 32 }
@@ -416,7 +419,7 @@ fn likely_quotient(z: i32, shift: u32, inverse: i32) -> i32
     (z >> shift).wrapping_mul(inverse)
 }
 
-/// The product modulo 2^32.
+/// The product of `x` and `a` modulo 2^32.
 #[inline]
 fn wrapped_product(x: i32, a: i32) -> i32
     ensures { unsigned_abs (x *ℤ a) < 2 ^ 31 → result ≡ x *ℤ a }
@@ -424,7 +427,7 @@ fn wrapped_product(x: i32, a: i32) -> i32
     x.wrapping_mul(a)
 }
 
-/// Whether the likely quotient of z is its quotient by k. Both tests are made of each number, so that several are tested at once.
+/// Whether the likely quotient of `z` is its quotient by `k`. Both tests are always evaluated, so that loops of them are vectorized.
 #[inline]
 fn is_told(z: i32, k: i32, shift: u32, inverse: i32, most: u32) -> bool
     requires shift { shift < 32 }
@@ -437,7 +440,7 @@ fn is_told(z: i32, k: i32, shift: u32, inverse: i32, most: u32) -> bool
     small & same
 }
 
-/// Whether the likely quotients by k of the numbers from one place on up to another are their quotients.
+/// Whether the likely quotients by `k` of the numbers at the places from `from` up to `to`, `to` excluded, are their quotients.
 fn are_told(
     row: &[i32],
     from: usize,
@@ -460,7 +463,8 @@ fn are_told(
     all
 }
 
-/// Whether k divides the numbers from one place on up to another, as far as that is told without a division.
+/// Whether `k` divides the numbers at the places from `from` up to `to`, `to` excluded, tested without a division: `true` is
+/// certain, `false` isn't.
 fn divides_at_once(row: &[i32], from: usize, to: usize, k: i32) -> bool
     requires from { from ≤ to }
     requires to { to ≤ length row.now }
@@ -475,7 +479,7 @@ fn divides_at_once(row: &[i32], from: usize, to: usize, k: i32) -> bool
     are_told(row, from, to, k, shift, inverse_of(k >> shift), most)
 }
 
-/// The greatest common divisor of an earlier one and the numbers from one place on up to another.
+/// The greatest common divisor of `earlier` and the numbers at the places from `from` up to `to`, `to` excluded.
 fn shared_one_by_one(row: &[i32], from: usize, to: usize, earlier: Divisor) -> Divisor
     requires from { from ≤ to }
     requires to { to ≤ length row.now }
@@ -492,7 +496,7 @@ fn shared_one_by_one(row: &[i32], from: usize, to: usize, earlier: Divisor) -> D
     shared
 }
 
-/// The same. Mostly it is the earlier one, and that is tested first, of several numbers at once.
+/// Like `shared_one_by_one`. Mostly the result is `earlier`, and so that is tested first, by a vectorized loop.
 fn shared_part(row: &[i32], from: usize, to: usize, earlier: Divisor) -> Divisor
     requires from { from ≤ to }
     requires to { to ≤ length row.now }
@@ -506,10 +510,10 @@ fn shared_part(row: &[i32], from: usize, to: usize, earlier: Divisor) -> Divisor
     }
 }
 
-/// So many numbers are tested at once.
+/// The number of places in a part of a row; a test of a row may stop after each part.
 const PART: usize = 64;
 
-/// The end of the part of a row that begins at a place.
+/// The end of the part that begins at place `from`, of a row of `length` places.
 fn end_of_part(from: usize, length: usize) -> usize
     requires { from < length }
     ensures { (from < result) × (result ≤ length) }
@@ -521,7 +525,7 @@ fn end_of_part(from: usize, length: usize) -> usize
     }
 }
 
-/// The greatest common divisor of the numbers and the denominator.
+/// The greatest common divisor of the numbers of `row` and the denominator `bottom`.
 pub fn divisor(row: &[i32], bottom: u64) -> Divisor
     requires { 0 < bottom }
     ensures numbers { DividesAll result.value row.now }
@@ -540,7 +544,8 @@ pub fn divisor(row: &[i32], bottom: u64) -> Divisor
     shared
 }
 
-/// Whether the likely quotients by k of all numbers are their quotients. The test ends with the first part in which one isn't.
+/// Whether the likely quotients by `k` of all numbers of `row` are their quotients. The test ends after the first part where one
+/// isn't.
 fn are_all_told(row: &[i32], k: i32, shift: u32, inverse: i32, most: u32) -> bool
     requires shift { shift < 32 }
     requires most { most * unsigned_abs k < 2 ^ 31 }
@@ -557,7 +562,7 @@ fn are_all_told(row: &[i32], k: i32, shift: u32, inverse: i32, most: u32) -> boo
     true
 }
 
-/// Puts the likely quotients in the place of the numbers.
+/// Replaces the numbers by their likely quotients, which are their quotients by `k`.
 fn divide_as_told(row: &mut [i32], k: i32, shift: u32, inverse: i32)
     requires shift { shift < 32 }
     requires told { (j : ℕ) → j < length row.old → likely_quotient_of shift inverse (number_at row.old j) *ℤ k ≡ number_at row.old j }
@@ -569,8 +574,8 @@ fn divide_as_told(row: &mut [i32], k: i32, shift: u32, inverse: i32)
     }
 }
 
-/// Divides the numbers by k without a division, several at once; false where that doesn't give all quotients, and then the row
-/// stays.
+/// Divides the numbers of `row` by `k` without a division, by a vectorized loop; `false` if that doesn't give all quotients, and
+/// then `row` is unchanged.
 pub fn divide_at_once(row: &mut [i32], k: i32) -> bool
     requires { pos 1 ≤ℤ k }
     ensures length { length row.new ≡ length row.old }
@@ -590,7 +595,7 @@ pub fn divide_at_once(row: &mut [i32], k: i32) -> bool
     true
 }
 
-/// Divides the numbers by a common divisor, one after the other.
+/// Divides the numbers of `row` by their common divisor `shared`, one after the other.
 fn divide_each(row: &mut [i32], shared: &Divisor)
     requires divides { DividesAll shared.now.value row.old }
     ensures length { length row.new ≡ length row.old }
@@ -601,7 +606,7 @@ fn divide_each(row: &mut [i32], shared: &Divisor)
     }
 }
 
-/// Divides the numbers by a common divisor.
+/// Divides the numbers of `row` by their common divisor `shared`.
 pub fn divide(row: &mut [i32], shared: &Divisor)
     requires divides { DividesAll shared.now.value row.old }
     ensures length { length row.new ≡ length row.old }
@@ -613,7 +618,7 @@ pub fn divide(row: &mut [i32], shared: &Divisor)
     divide_each(row, shared);
 }
 
-/// The quotient z / divisor, where the divisor divides z.
+/// The quotient of `z` by `shared`, which divides it.
 #[inline]
 fn narrow_quotient(z: i32, shared: &Divisor) -> i32
     requires some { 0 < shared.now.value }

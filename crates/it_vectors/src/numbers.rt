@@ -1,5 +1,5 @@
-//! What a step makes of the numbers of a row.
-//! The loops go by index, since their invariants speak of the numbers at the first k places.
+//! A step's operations on the numbers of a row in 64 bits.
+//! The loops go by index, since their invariants are about the numbers at the first k places.
 ghost use Rattle.std.specs.Prelude.{◌≡◌, ℕ, ◌+◌, ◌*◌, ◌<◌, ◌≤◌, ◌^◌, ◌+ℤ◌, ◌*ℤ◌, neg_ℤ, pos, length, unsigned_abs, SomeIff};
 ghost use Prim.Native.Nat.{◌∣◌};
 ghost use Rattle.std.specs.Bool.{OnTrue};
@@ -13,7 +13,7 @@ ghost use Rattle.it_space.specs.Sums.{number_at};
 use crate::arithmetic::{narrow_difference, sum_within};
 use crate::divisors::Divisor;
 
-/// The number at place k of a list.
+/// The number at place `k` of `row`.
 #[inline]
 pub fn read(row: &[i64], k: usize) -> i64
     requires { k < length row.now }
@@ -22,7 +22,7 @@ pub fn read(row: &[i64], k: usize) -> i64
     row[k]
 }
 
-/// The next number at place k.
+/// `a` times the number of `row` at place `k`, less `b` times that of `by`; `None` if it is above `limit` in absolute value.
 #[inline]
 fn next_number(row: &[i64], by: &[i64], k: usize, a: i64, b: i64, limit: u64) -> Option<i64>
     requires k_row { k < length row.now }
@@ -37,7 +37,7 @@ fn next_number(row: &[i64], by: &[i64], k: usize, a: i64, b: i64, limit: u64) ->
     narrow_difference(read(row, k), a, read(by, k), b, limit)
 }
 
-/// As combine, with a test at each number; false where one would be too large, and then nothing is known of them.
+/// Like `combine`, with each number tested: `false` if one would be above `limit`, and then nothing is known of the row.
 #[inline(never)]
 fn combine_tested(row: &mut [i64], by: &[i64], a: i64, b: i64, limit: u64) -> bool
     requires even { length row.old ≡ length by.now }
@@ -57,7 +57,7 @@ fn combine_tested(row: &mut [i64], by: &[i64], a: i64, b: i64, limit: u64) -> bo
     true
 }
 
-/// The greatest absolute value.
+/// The greatest absolute value in `row`.
 pub fn greatest_size(row: &[i64]) -> u64
     ensures { AreAtMost row.now result }
 {
@@ -71,8 +71,8 @@ pub fn greatest_size(row: &[i64]) -> u64
     most
 }
 
-/// A bound on each number times a less another, which is at most y, times b: with most for the numbers, and where that is
-/// above the limit, with the greatest of them. None where that is above it too.
+/// A bound on the numbers of `row` times `a` less numbers of at most `y` times `b`: from `most`, the known bound on `row`, or if
+/// that gives more than `limit`, from the greatest number of `row`. `None` if that gives more than `limit` too.
 fn bound(row: &[i64], most: u64, a: u64, y: u64, b: u64, limit: u64) -> Option<u64>
     requires most { AreAtMost row.now most }
     ensures { IfSome result (λ s. IsBound row.now a y b limit s) }
@@ -83,7 +83,7 @@ fn bound(row: &[i64], most: u64, a: u64, y: u64, b: u64, limit: u64) -> Option<u
     }
 }
 
-/// A product that is short.
+/// The product of `x` and `a`, without overflow checks: it is below 2^63 in absolute value.
 #[inline]
 fn times(x: i64, a: i64) -> i64
     requires { unsigned_abs (x *ℤ a) < 2 ^ 63 }
@@ -92,7 +92,7 @@ fn times(x: i64, a: i64) -> i64
     x * a
 }
 
-/// A difference that is short.
+/// x - y, without overflow checks: it is below 2^63 in absolute value.
 #[inline]
 fn minus(x: i64, y: i64) -> i64
     requires { unsigned_abs x + unsigned_abs y < 2 ^ 63 }
@@ -101,7 +101,7 @@ fn minus(x: i64, y: i64) -> i64
     x - y
 }
 
-/// x a - y b, where no part needs a test.
+/// x a - y b, without overflow checks: the bound rules overflow out.
 #[inline]
 pub fn plain_difference(x: i64, a: i64, y: i64, b: i64) -> i64
     requires { unsigned_abs (x *ℤ a) + unsigned_abs (y *ℤ b) < 2 ^ 63 }
@@ -110,7 +110,7 @@ pub fn plain_difference(x: i64, a: i64, y: i64, b: i64) -> i64
     minus(times(x, a), times(y, b))
 }
 
-/// The next number at place k, where no part needs a test.
+/// `a` times the number of `row` at place `k`, less `b` times that of `by`, without overflow checks.
 #[inline]
 fn plain_number(row: &[i64], by: &[i64], k: usize, a: i64, b: i64) -> i64
     requires k_row { k < length row.now }
@@ -121,7 +121,7 @@ fn plain_number(row: &[i64], by: &[i64], k: usize, a: i64, b: i64) -> i64
     plain_difference(read(row, k), a, read(by, k), b)
 }
 
-/// The next number at place k where the row's own factor is 1 and no part needs a test.
+/// The number of `row` at place `k`, less `b` times that of `by`, without overflow checks.
 #[inline]
 fn less_product(row: &[i64], by: &[i64], k: usize, b: i64) -> i64
     requires k_row { k < length row.now }
@@ -132,7 +132,7 @@ fn less_product(row: &[i64], by: &[i64], k: usize, b: i64) -> i64
     minus(read(row, k), times(read(by, k), b))
 }
 
-/// The place itself where the row isn't 0 there, else the one found after it.
+/// Place `k` if `row` isn't 0 there; else `after`, the next place after it where `row` isn't 0.
 #[tactic(auto, using(crate::proofs::Places::next_here, crate::proofs::Places::next_null))]
 fn next_place(row: &[i64], k: usize, after: usize) -> usize
     requires k { k < length row.now }
@@ -142,21 +142,21 @@ fn next_place(row: &[i64], k: usize, after: usize) -> usize
     if read(row, k) == 0 { after } else { k }
 }
 
-/// Notes for each place of the row the next one where the row isn't 0.
+/// Sets `next` to hold for each place the first place from there on where `row` isn't 0, or the length of `row` where there is none.
 pub fn note_places(row: &[i64], next: &mut [usize])
     requires { length next.old ≡ length row.now + 1 }
     ensures { AreNextPlaces row.now next.new }
 {
     let mut k = row.len();
     next[k] = k;
-    // a `while`, which counts down: the invariant speaks of the places from k on
+    // a `while`, which counts down: the invariant is about the places from k on
     while k > 0 {
         k -= 1;
         next[k] = next_place(row, k, next[k + 1]);
     }
 }
 
-/// As combine, where no number needs a test.
+/// Like `combine`, without overflow checks: the bound rules overflow out.
 fn multiply_and_subtract(row: &mut [i64], by: &[i64], a: i64, b: i64)
     requires even { length row.old ≡ length by.now }
     requires bound { (k : ℕ) → k < length by.now → unsigned_abs (number_at row.old k *ℤ a) + unsigned_abs (number_at by.now k *ℤ b) < 2 ^ 63 }
@@ -168,7 +168,7 @@ fn multiply_and_subtract(row: &mut [i64], by: &[i64], a: i64, b: i64)
     }
 }
 
-/// As combine with the factor 1, where no number needs a test: only the places where the other row isn't 0 change.
+/// Like `combine` with factor 1, without overflow checks: the bound rules overflow out. Only places where `by` isn't 0 change.
 fn subtract_times(row: &mut [i64], by: &[i64], next: &[usize], b: i64)
     requires even { length row.old ≡ length by.now }
     requires bound { (k : ℕ) → k < length by.now → unsigned_abs (number_at row.old k) + unsigned_abs (number_at by.now k *ℤ b) < 2 ^ 63 }
@@ -183,7 +183,7 @@ fn subtract_times(row: &mut [i64], by: &[i64], next: &[usize], b: i64)
     }
 }
 
-/// As combine, where no number needs a test.
+/// Like `combine`, without overflow checks: the bound rules overflow out.
 fn combine_plain(row: &mut [i64], by: &[i64], next: &[usize], a: i64, b: i64)
     requires even { length row.old ≡ length by.now }
     requires bound { (k : ℕ) → k < length by.now → unsigned_abs (number_at row.old k *ℤ a) + unsigned_abs (number_at by.now k *ℤ b) < 2 ^ 63 }
@@ -198,9 +198,9 @@ fn combine_plain(row: &mut [i64], by: &[i64], next: &[usize], a: i64, b: i64)
     }
 }
 
-/// The numbers times a, less those of another row times b, with a bound on them, where most and most_by are bounds on the
-/// numbers of the two, and next has the next places where the other row isn't 0. None where one would be larger than the
-/// limit: then nothing is known of them.
+/// Multiplies the numbers of `row` by `a` and subtracts `b` times those of `by`; returns a bound on the results. `most` and
+/// `most_by` are bounds on the numbers of the two rows, and `next` has the next places where `by` isn't 0. `None` if a result
+/// would be above `limit` in absolute value: then nothing is known of the row.
 pub fn combine(
     row: &mut [i64],
     by: &[i64],
@@ -245,7 +245,7 @@ pub fn combine(
     }
 }
 
-/// The greatest common divisor of the numbers and the denominator.
+/// The greatest common divisor of the numbers of `row` and the denominator `bottom`.
 pub fn divisor(row: &[i64], bottom: u64) -> Divisor
     requires { 0 < bottom }
     ensures numbers { DividesAll result.value row.now }
@@ -261,7 +261,7 @@ pub fn divisor(row: &[i64], bottom: u64) -> Divisor
     shared
 }
 
-/// Divides the numbers by a common divisor.
+/// Divides the numbers of `row` by their common divisor `shared`.
 pub fn divide(row: &mut [i64], shared: &Divisor)
     requires row { AreShort row.old }
     requires divides { DividesAll shared.now.value row.old }

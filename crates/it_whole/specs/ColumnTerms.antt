@@ -19,11 +19,11 @@ pub record IsSubmodular (terms : Terms) : Type 0 where
   pub third : (slice_index_or terms 2 (0, pos 0)).1 ≡ pos 1
   pub fourth : (slice_index_or terms 3 (0, pos 0)).1 ≡ negsuc 0
 
--- no sum of the column's terms at the row's numbers passes 2 ^ 63 - 1
+-- no sum of the column's terms at the row's numbers is above 2 ^ 63 - 1 in absolute value
 abbrev pub IsPriceable : Terms → List ℤ → Type 0
 IsPriceable terms numbers = (limit : ℕ) × ((k : ℕ) → k < length numbers → unsigned_abs (number_at numbers k) ≤ limit) × (row_mass terms * limit < 2 ^ 63)
 
--- the column's terms are of the row's places
+-- the column's terms are at places of the row, and its entry in the row is short
 pub record Suits (terms : Terms) (numbers : List ℤ) : Type 0 where
   pub within : All (λ t. t.0 < length numbers) terms
   pub fits : IsPriceable terms numbers

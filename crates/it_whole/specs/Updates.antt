@@ -1,22 +1,22 @@
--- What a step of the simplex method makes of a row, said of the rational numbers that it shows.
+-- A step of the simplex method on a row, stated for the rational numbers that the row represents.
 use Rattle.std.specs.Prelude.{◌≡◌, ℕ, ◌*◌, ◌<◌, ℤ, pos, ◌*ℤ◌, unsigned_abs, length}
 use Rattle.it_rational.specs.Rational.{Rational, plus, times, minus, inverse, IsRatio}
 use Rattle.it_space.specs.Sums.{number_at}
 use Rattle.it_whole.specs.WholeRows.{IsRow, IsUsable, WholeRowView}
 
--- the row less as much of the leaving row as makes its entry z at the column 0, where the leaving row's entry is p
+-- new is old less the multiple of the leaving row own that makes the entry z of old at the column 0, where own has the entry p
 abbrev pub IsWholeRowReduced : ℕ → ℕ → WholeRowView → WholeRowView → ℤ → ℤ → WholeRowView → Type 0
 IsWholeRowReduced width limit old own z p new = (f g : ℕ → Rational) (x w : Rational)
     → IsRow width limit f old.numbers old.bottom → IsRow width limit g own.numbers own.bottom → IsRatio x z old.bottom → IsRatio w p own.bottom
     → IsRow width limit (λ k. plus (f k) (minus (times (g k) (times x (inverse w))))) new.numbers new.bottom
 
--- the row is made less as above, and is usable; it stays as it is where its entry is 0
+-- new is old reduced as above, and usable; where z is 0, old is unchanged
 pub record IsUpdated (width limit : ℕ) (old own : WholeRowView) (z p : ℤ) (new : WholeRowView) : Type 0 where
   pub less : IsWholeRowReduced width limit old own z p new
   pub usable : IsUsable width limit new
   pub kept : z ≡ pos 0 → new ≡ old
 
--- a common divisor of the numbers and the denominator is divided away
+-- new is old with its numbers and its denominator divided by a common divisor
 pub record IsShortened (old new : WholeRowView) : Type 0 where
   pub shared : ℕ
   pub some : 0 < shared
@@ -24,6 +24,6 @@ pub record IsShortened (old new : WholeRowView) : Type 0 where
   pub entries : (k : ℕ) → k < length old.numbers → number_at new.numbers k *ℤ pos shared ≡ number_at old.numbers k
   pub bottom_is : new.bottom * shared ≡ old.bottom
 
--- the row over its entry p, without a common divisor of its numbers and p
+-- new is old divided by its entry p: its numbers over p, divided by a common divisor
 abbrev pub IsQuotient : WholeRowView → ℤ → WholeRowView → Type 0
 IsQuotient old p new = IsShortened record { numbers = old.numbers; bottom = unsigned_abs p } new

@@ -3,12 +3,12 @@ use Rattle.std.specs.Prelude.{◌≡◌, ℕ, ◌<◌, ◌≤◌, ◌^◌, ℤ, 
 use Rattle.it_rational.specs.Rational.{Rational, IsRatio}
 use Rattle.it_space.specs.Sums.{number_at}
 
--- what contracts see of a row of whole numbers over one denominator
+-- the contracts' view of a row of whole numbers over one denominator
 pub record WholeRowView : Type 0 where
   pub numbers : List ℤ
   pub bottom : ℕ
 
--- a row shows the first numbers of f: each is a whole number within a bound over one denominator, which is below 2 ^ 63
+-- row represents the first width numbers of f: each is a whole number within limit over the denominator bottom, below 2 ^ 63
 pub record IsRow (width limit : ℕ) (f : ℕ → Rational) (row : List ℤ) (bottom : ℕ) : Type 0 where
   pub length_is : length row ≡ width
   pub some : 0 < bottom
@@ -16,7 +16,7 @@ pub record IsRow (width limit : ℕ) (f : ℕ → Rational) (row : List ℤ) (bo
   pub named : (k : ℕ) → k < width → IsRatio (f k) (number_at row k) bottom
   pub small : (k : ℕ) → k < width → unsigned_abs (number_at row k) ≤ limit
 
--- so many numbers within a bound, over a denominator above 0
+-- row has width numbers within limit, over a denominator above 0
 pub record IsUsable (width limit : ℕ) (row : WholeRowView) : Type 0 where
   pub length_is : length row.numbers ≡ width
   pub some : 0 < row.bottom

@@ -13,12 +13,12 @@ use it_vectors::{difference_of_sums, plus_product, short_sum};
 use std::alloc::{AllocError, Global};
 use std::marker::Model;
 
-/// The entries of a column of the start other than 0, each after its row, by ascending row; or a sum of multiples of such columns, in
-/// which rows may repeat.
+/// The nonzero entries of a column of the start, as pairs of row and number, by ascending row; or a sum of multiples of such
+/// columns, in which rows may repeat.
 #[derive(Drop)]
 pub struct Column {
     terms: Vec<(usize, i64)>,
-    // whether it has four terms with the factors -1, 1, 1 and -1, as the submodularity of entropy has, so that an entry needs no product
+    // whether it has four terms with the factors -1, 1, 1 and -1, like the submodularity of entropy, so that an entry needs no product
     submodular: bool,
 }
 
@@ -35,7 +35,7 @@ impl Model for Column {
     ghost invariant = { λ c. OnTrue c.submodular (IsSubmodular c.terms.items) };
 }
 
-/// Whether these are four terms with the factors -1, 1, 1 and -1.
+/// Whether `terms` are four terms with the factors -1, 1, 1 and -1.
 fn is_submodular(terms: &[(usize, i64)]) -> bool
     ensures { OnTrue result (IsSubmodular terms.now) }
 {
@@ -43,7 +43,7 @@ fn is_submodular(terms: &[(usize, i64)]) -> bool
 }
 
 impl Column {
-    /// A column whose entries are all 0. It takes no memory.
+    /// A column whose entries are all 0. It allocates nothing.
     pub fn empty(alloc: Global) -> Column
         ensures { result ≡ [] }
     {
@@ -53,7 +53,7 @@ impl Column {
         }
     }
 
-    /// Puts the entry of a row after those that the column has. Err, where memory runs out.
+    /// Appends the entry `number` of `row`. `Err` if allocation fails.
     pub fn push_entry(&mut self, row: usize, number: i64) -> Result<(), AllocError>
         ensures { OnOk result (self.new ≡ self.old ++ (row, number) ∷ []) }
     {
@@ -62,7 +62,7 @@ impl Column {
         Ok(())
     }
 
-    /// Takes all entries away, and keeps the memory.
+    /// Removes all entries, and keeps the allocation.
     pub fn clear(&mut self)
         ensures { self.new ≡ [] }
     {
@@ -70,7 +70,7 @@ impl Column {
         self.submodular = false;
     }
 
-    /// Puts entry i of another column times a factor after the entries; false where it is too large, or for want of memory.
+    /// Appends `factor` times entry `i` of `other`; `false` if the product overflows or allocation fails.
     #[inline]
     fn push_multiple(&mut self, other: &Column, i: usize, factor: i64) -> bool
         requires { i < length other.now }
@@ -79,12 +79,12 @@ impl Column {
         let Some(number) = other.factor(i).checked_mul(factor) else {
             return false;
         };
-        // not looked at: a sum of multiples of columns is seldom such a column
+        // not tested: a sum of multiples of columns is seldom such a column
         self.submodular = false;
         self.terms.push((other.place(i), number)).is_ok()
     }
 
-    /// Puts the entries of another column times a factor after the entries; false where one is too large, or for want of memory.
+    /// Appends `factor` times each entry of `other`; `false` if a product overflows or allocation fails.
     pub fn add_multiple(&mut self, other: &Column, factor: i64) -> bool
         ensures { OnTrue result (self.new ≡ self.old ++ multiple_of_terms factor other.now) }
     {
@@ -96,14 +96,14 @@ impl Column {
         true
     }
 
-    /// How many entries it has.
+    /// The number of entries.
     fn size(&self) -> usize
         ensures { result ≡ length self.now }
     {
         self.terms.len()
     }
 
-    /// The row of entry i.
+    /// The row of entry `i`.
     #[inline]
     fn place(&self, i: usize) -> usize
         requires { i < length self.now }
@@ -112,7 +112,7 @@ impl Column {
         self.terms[i].0
     }
 
-    /// The number of entry i.
+    /// The number of entry `i`.
     #[inline]
     fn factor(&self, i: usize) -> i64
         requires { i < length self.now }
@@ -121,7 +121,7 @@ impl Column {
         self.terms[i].1
     }
 
-    /// The sum of the absolute values of the entries, where it is below 2^63. None where it is larger.
+    /// The sum of the absolute values of the entries; `None` unless it is below 2^63.
     pub fn weight(&self) -> Option<u64>
         ensures { SomeIff result (row_mass self.now < 2 ^ 63) (row_mass self.now) }
     {
@@ -132,7 +132,7 @@ impl Column {
         Some(sum)
     }
 
-    /// The sum with one more term.
+    /// `sum` plus term `i` of the entry of `row` at this column.
     #[inline]
     fn add_narrow_term(&self, row: &NarrowRow, i: usize, sum: i64) -> i64
         requires suits { Suits self.now row.now.numbers }
@@ -143,7 +143,7 @@ impl Column {
         plus_product(sum, self.factor(i), row.number(self.place(i)))
     }
 
-    /// The entry of a row in 32 bits at a column of four terms with the factors -1, 1, 1 and -1, as most columns are.
+    /// The entry of `row`, in 32 bits, at a column of four terms with the factors -1, 1, 1 and -1, as in most columns.
     #[inline(always)]
     fn price_submodular(&self, row: &NarrowRow) -> i64
         requires suits { Suits self.now row.now.numbers }
@@ -158,7 +158,7 @@ impl Column {
         )
     }
 
-    /// The entry of a row in 32 bits at this column, over the row's denominator.
+    /// The entry of `row`, in 32 bits, at this column, as a numerator over the row's denominator.
     #[inline(always)]
     #[tactic(auto, using(crate::proofs::Pricing::priced_none, crate::proofs::Pricing::priced_all))]
     fn price_narrow(&self, row: &NarrowRow) -> i64
@@ -175,7 +175,7 @@ impl Column {
         sum
     }
 
-    /// The sum with one more term.
+    /// `sum` plus term `i` of the entry of `row` at this column.
     #[inline]
     fn add_wide_term(&self, row: &WideRow, i: usize, sum: i64) -> i64
         requires suits { Suits self.now row.now.numbers }
@@ -186,7 +186,7 @@ impl Column {
         plus_product(sum, self.factor(i), row.number(self.place(i)))
     }
 
-    /// The entry of a row in 64 bits at a column of four terms, as most columns are.
+    /// The entry of `row`, in 64 bits, at a column of four terms, as in most columns.
     #[inline]
     #[tactic(auto, using(crate::proofs::Pricing::priced_none, crate::proofs::Pricing::priced_all))]
     fn price_wide_four(&self, row: &WideRow) -> i64
@@ -200,7 +200,7 @@ impl Column {
         self.add_wide_term(row, 3, three)
     }
 
-    /// The entry of a row in 64 bits at this column, over the row's denominator.
+    /// The entry of `row`, in 64 bits, at this column, as a numerator over the row's denominator.
     #[inline(always)]
     #[tactic(auto, using(crate::proofs::Pricing::priced_none, crate::proofs::Pricing::priced_all))]
     fn price_wide(&self, row: &WideRow) -> i64
@@ -217,7 +217,8 @@ impl Column {
         sum
     }
 
-    /// The entry of a row at this column, over the row's denominator: the sum of the column's terms at the row's numbers.
+    /// The entry of `row` at this column, as a numerator over the row's denominator: the sum of each term's factor times the row's
+    /// number at the term's place.
     #[inline(always)]
     pub fn price(&self, row: &WholeRow) -> i64
         requires suits { Suits self.now row.now.numbers }

@@ -1,8 +1,8 @@
-//! Rows of whole numbers over one denominator, in 32 or in 64 bits, and what a step of the simplex method makes of them.
+//! Rows of whole numbers over one denominator, in 32 or in 64 bits, and a step of the simplex method on them.
 //!
-//! A row represents rational numbers: each of its numbers over its denominator, which are mostly not in lowest terms. A step takes
-//! off a row as much of the one that leaves as makes its entry at the column that enters 0. Where the numbers stay within a limit,
-//! this is done without a fraction and mostly without a division; where they don't, the row gives up.
+//! A row represents rational numbers: each of its numbers over its denominator, mostly not in lowest terms. A step subtracts from a
+//! row the multiple of the leaving row that makes its entry at the entering column 0. While the numbers stay within a limit, this
+//! needs no fractions and mostly no division; where they don't, the operation fails.
 #![tactic(auto)]
 
 mod columns;

@@ -18,14 +18,14 @@ use it_vectors::{lowest_terms, short_product};
 use std::alloc::{AllocError, Global};
 use std::marker::Model;
 
-/// Whole numbers in 32 bits over one denominator, not in lowest terms.
+/// Whole numbers in 32 bits over one denominator, not necessarily in lowest terms.
 #[derive(Drop)]
 pub struct NarrowRow {
     numbers: Vec<i32>,
     bottom: u64,
-    // no number is greater in absolute value; kept, so that a step mostly needs no pass over the numbers for it
+    // a bound on the absolute values of the numbers; kept so that a step mostly needs no pass over them
     most: u64,
-    // where the stretches begin outside of which the row is 0, and whether that is noted: of a row that leaves, and of one that is shortened
+    // where the stretches begin outside of which the row is 0, and whether that is known: it is for a leaving row and a shortened one
     starts: Vec<usize>,
     noted: bool,
 }
@@ -44,7 +44,7 @@ impl Model for NarrowRow {
 }
 
 impl NarrowRow {
-    /// The row of these numbers over a denominator, where no number is above the limit.
+    /// The row of `numbers` over the denominator `bottom`; `None` if a number is above `limit` in absolute value.
     pub fn from_numbers(
         alloc: Global,
         numbers: &[i64],
@@ -63,7 +63,7 @@ impl NarrowRow {
             short.push(number)?;
         }
         let most = greatest_size(short.as_slice());
-        // room for all that is noted later
+        // room for all stretches that are noted later
         let starts = Vec::with_capacity(alloc, numbers.len() / STRETCH + 1)?;
         Ok(Some(NarrowRow {
             numbers: short,
@@ -74,7 +74,7 @@ impl NarrowRow {
         }))
     }
 
-    /// The number at place k, before it is divided.
+    /// The number at place `k`, a numerator over the row's denominator.
     #[inline]
     pub fn number(&self, k: usize) -> i64
         requires { k < length self.now.numbers }
@@ -90,15 +90,15 @@ impl NarrowRow {
         self.bottom
     }
 
-    /// No number is greater in absolute value.
+    /// A bound on the absolute values of the numbers.
     pub fn most(&self) -> u64
         ensures { AreAtMost self.now.numbers result }
     {
         self.most
     }
 
-    /// No number is greater in absolute value: mostly the least such bound, for which the numbers are gone through where the one that is
-    /// kept is large.
+    /// A bound on the absolute values of the numbers: the stored one, or if that is large, the least one, which takes a pass over the
+    /// numbers.
     pub fn closer_most(&self) -> u64
         ensures { AreAtMost self.now.numbers result }
     {
@@ -109,14 +109,14 @@ impl NarrowRow {
         }
     }
 
-    /// Notes the stretches outside of which the row is 0.
+    /// Computes the stretches outside of which the row is 0.
     fn note_stretches(&mut self)
         ensures { self.new ≡ self.old }
     {
         self.noted = note_stretches(self.numbers.as_slice(), &mut self.starts);
     }
 
-    /// Notes an exact bound on the numbers, and the stretches.
+    /// Computes the least bound on the numbers, and the stretches.
     fn note(&mut self)
         ensures { self.new ≡ self.old }
     {
@@ -124,7 +124,7 @@ impl NarrowRow {
         self.note_stretches();
     }
 
-    /// Puts the row over the denominator 1, where the denominator is seen to divide all numbers; false otherwise, and then the row stays.
+    /// Puts the row over the denominator 1, if the denominator is found to divide all numbers; else `false`, and the row is unchanged.
     fn divide_out(&mut self) -> bool
         requires some { 0 < self.old.bottom }
         ensures shortened { OnTrue result (IsShortened self.old self.new) }
@@ -142,7 +142,7 @@ impl NarrowRow {
         true
     }
 
-    /// Puts the row over the least denominator.
+    /// Puts the row over its least denominator.
     #[inline(never)]
     fn put_in_lowest_terms(&mut self)
         requires some { 0 < self.old.bottom }
@@ -161,7 +161,7 @@ impl NarrowRow {
         self.most = greatest_size(self.numbers.as_slice());
     }
 
-    /// The same, and notes the stretches outside of which the row is 0.
+    /// Puts the row over its least denominator, and computes the stretches outside of which it is 0.
     pub fn shorten(&mut self)
         requires some { 0 < self.old.bottom }
         ensures { IsShortened self.old self.new }
@@ -170,8 +170,8 @@ impl NarrowRow {
         self.note_stretches();
     }
 
-    /// The numbers times a, less those of the leaving row times b, over another denominator, where the bounds of both rows show that
-    /// all stay within the limit. False where they don't: then the row stays.
+    /// Multiplies the numbers by `a`, subtracts `b` times those of the leaving row `own`, and puts them over `bottom`. `false` if the
+    /// bounds of the two rows don't show that all results stay within `limit`: then the row is unchanged.
     fn combine(&mut self, own: &NarrowRow, a: i64, b: i64, bottom: u64, limit: u64) -> bool
         requires even { length self.old.numbers ≡ length own.now.numbers }
         requires limit { limit < 2 ^ 31 }
@@ -200,8 +200,8 @@ impl NarrowRow {
         }
     }
 
-    /// The same over the same denominator, in the usual case that the factor a is 1 and the bounds that are kept show that all stay within
-    /// the limit.
+    /// Like `combine`, over the same denominator, in the usual case that `a` is 1 and the stored bounds show that all results stay within
+    /// `limit`. Else `false`, and the row is unchanged.
     #[inline]
     fn subtract_multiple(&mut self, own: &NarrowRow, a: i64, b: i64, limit: u64) -> bool
         requires even { length self.old.numbers ≡ length own.now.numbers }
@@ -231,8 +231,8 @@ impl NarrowRow {
         }
     }
 
-    /// As combine, where numbers may pass the limit on the way and not over the least denominator. False where one is still above it:
-    /// then nothing is known of the row.
+    /// Like `combine`, where the numbers may pass `limit` until they are put over the least denominator; they are formed in `room`.
+    /// `false` if one is still above `limit`: then nothing is known of the row.
     #[inline(never)]
     fn combine_in_room(
         &mut self,
@@ -272,8 +272,9 @@ impl NarrowRow {
         }
     }
 
-    /// Takes off as much of the leaving row as makes the entry at the column 0; false where a number would be too large, and then
-    /// nothing is known of the row.
+    /// Subtracts the multiple of the leaving row `own` that makes this row's entry at the entering column 0. `entry` and `pivot` are the
+    /// entries of this row and of `own` there, `room` is space for a row. `false` if a number would be above `limit`: then nothing is
+    /// known of the row.
     fn reduce(
         &mut self,
         own: &NarrowRow,
@@ -305,8 +306,8 @@ impl NarrowRow {
         self.combine_in_room(own, room, a, b, bottom, limit)
     }
 
-    /// The row, which has this entry at the column, after a step in which another row leaves, whose entry there is the pivot; false
-    /// where a number would be larger than the limit, and then nothing is known of the row. Room is room for a row.
+    /// Updates the row in a step in which `own` leaves, whose entry at the entering column is `pivot`; this row's entry there is `entry`.
+    /// `room` is space for a row. `false` if a number would be above `limit`: then nothing is known of the row.
     #[inline(never)]
     pub fn update(
         &mut self,
@@ -335,7 +336,7 @@ impl NarrowRow {
         true
     }
 
-    /// The leaving row after a step: it is divided by its entry at the column, over the least denominator.
+    /// The leaving row after a step: divided by `pivot`, its entry at the entering column, and put over its least denominator.
     pub fn divided_by(self, pivot: i64) -> NarrowRow
         requires pivot { pos 1 ≤ℤ pivot }
         ensures { IsQuotient self pivot result }
@@ -353,7 +354,7 @@ impl NarrowRow {
     }
 }
 
-/// Whether a denominator or a bound is large. To go through a whole row is dear, so that it gets its least one only there.
+/// Whether a denominator or a bound is large. The least one takes a pass over the whole row, and so is found only then.
 fn is_large(size: u64) -> bool {
     size > 1 << 12
 }

@@ -1,6 +1,6 @@
-//! What a step makes of the numbers of a row in 32 bits that may pass the limit on the way, with room for them in 64 bits.
-//! The loops go by index, since their invariants speak of the numbers at the first k places, and over slices, since only these
-//! are run several numbers at once.
+//! A step on the numbers of a row in 32 bits that may pass the limit on the way, with space for them in 64 bits.
+//! The loops go by index, since their invariants are about the numbers at the first k places, and over slices, since only these
+//! are vectorized.
 ghost use Rattle.std.specs.Prelude.{◌≡◌, ℕ, ◌+◌, ◌<◌, ◌≤◌, ◌^◌, ◌+ℤ◌, ◌*ℤ◌, neg_ℤ, length, unsigned_abs};
 ghost use Rattle.std.specs.Bool.{OnTrue};
 ghost use Rattle.std.specs.Option.{IfSome};
@@ -11,10 +11,10 @@ ghost use Rattle.it_whole.specs.Combinations.{IsCombinedAndShortened};
 use it_vectors::narrow_numbers::{bound, greatest_size, narrow_number, read};
 use it_vectors::numbers::{divide, divisor, plain_difference};
 
-/// The largest number of 64 bits, 2^63 - 1.
+/// The largest signed number of 64 bits, 2^63 - 1.
 const LARGEST: u64 = i64::MAX as u64;
 
-/// The next number at place k in 64 bits.
+/// `a` times the number of `row` at place `k`, less `b` times that of `by`, in 64 bits.
 #[inline]
 fn wide_number(row: &[i32], by: &[i32], k: usize, a: i64, b: i64) -> i64
     requires k_row { k < length row.now }
@@ -25,7 +25,7 @@ fn wide_number(row: &[i32], by: &[i32], k: usize, a: i64, b: i64) -> i64
     plain_difference(i64::from(read(row, k)), a, i64::from(read(by, k)), b)
 }
 
-/// Writes the numbers times a, less those of another row times b, to a row of 64 bits.
+/// Writes to `room` the numbers of `row` times `a`, less those of `by` times `b`.
 fn fill(room: &mut [i64], row: &[i32], by: &[i32], a: i64, b: i64)
     requires even { length row.now ≡ length by.now }
     requires room { length room.old ≡ length by.now }
@@ -38,7 +38,7 @@ fn fill(room: &mut [i64], row: &[i32], by: &[i32], a: i64, b: i64)
     }
 }
 
-/// Writes a row of 64 bits to one of 32; false where a number is above the limit.
+/// Writes the numbers of `room` to `row`; `false` if one is above `limit` in absolute value.
 fn write_back(row: &mut [i32], room: &[i64], limit: u64) -> bool
     requires even { length row.old ≡ length room.now }
     requires limit { limit < 2 ^ 31 }
@@ -55,9 +55,9 @@ fn write_back(row: &mut [i32], room: &[i64], limit: u64) -> bool
     true
 }
 
-/// As combine, over a denominator, where the numbers may pass the limit on the way: they are formed in 64 bits, in room, and a
-/// common divisor of them and the denominator is divided away. The denominator that is left; None where a number is still above
-/// the limit, and then nothing is known of the row.
+/// Multiplies the numbers of `row`, over the denominator `bottom`, by `a` and subtracts `b` times those of `by`. The results may pass
+/// `limit` on the way: they are formed in 64 bits, in `room`, and then they and `bottom` are divided by a common divisor. Returns the
+/// new denominator; `None` if a number is still above `limit`, and then nothing is known of the row.
 pub fn combine_in_room(
     row: &mut [i32],
     by: &[i32],

@@ -47,7 +47,7 @@ impl Model for WholeRow {
 }
 
 impl WholeRow {
-    /// A row of whole numbers in 64 bits, over the denominator 1. It takes no further memory.
+    /// The row of `numbers` in 64 bits, over the denominator 1. It allocates nothing.
     pub fn from_numbers(numbers: Vec<i64>) -> WholeRow
         ensures numbers { result.numbers ≡ numbers.items }
         ensures bottom { result.bottom ≡ 1 }
@@ -57,7 +57,7 @@ impl WholeRow {
         }
     }
 
-    /// A row without numbers. It takes no memory.
+    /// A row without numbers. It allocates nothing.
     pub fn empty(alloc: Global) -> WholeRow
         ensures numbers { result.numbers ≡ [] }
         ensures bottom { result.bottom ≡ 1 }
@@ -67,8 +67,8 @@ impl WholeRow {
         }
     }
 
-    /// The same row in 32 bits, where no number is above the limit. None where one is, and for a row in 32 bits, which is given no second
-    /// time. Err, where memory runs out.
+    /// A copy of the row in 32 bits. `None` if a number is above `limit` in absolute value, or if the row is in 32 bits already. `Err` if
+    /// allocation fails.
     pub fn narrowed(&self, alloc: Global, limit: u64) -> Result<Option<WholeRow>, AllocError>
         requires { limit < 2 ^ 31 }
         ensures row { IfOk result (λ o. IfSome o (λ row. row ≡ self.now)) }
@@ -95,7 +95,7 @@ impl WholeRow {
         &self.row
     }
 
-    /// The number at place k, before it is divided.
+    /// The number at place `k`, a numerator over the row's denominator.
     #[inline]
     pub fn number(&self, k: usize) -> i64
         requires { k < length self.now.numbers }
@@ -117,7 +117,7 @@ impl WholeRow {
         }
     }
 
-    /// What represents 1 in the row: its denominator.
+    /// The number that represents 1 in the row: its denominator.
     pub fn unit(&self) -> i64
         requires { self.now.bottom < 2 ^ 63 }
         ensures { result ≡ pos self.now.bottom }
@@ -125,8 +125,8 @@ impl WholeRow {
         self.bottom() as i64
     }
 
-    /// Notes for each place the next one where the row isn't 0, unless it is in 32 bits, where it notes its stretches itself; tells whether it
-    /// did.
+    /// Sets `next` to the next places where the row isn't 0, and returns `true`; for a row in 32 bits, which keeps its stretches itself,
+    /// does nothing and returns `false`.
     pub fn note_places(&self, next: &mut [usize]) -> bool
         requires { length next.old ≡ length self.now.numbers + 1 }
         ensures places { OnTrue result (AreNextPlaces self.now.numbers next.new) }
@@ -141,7 +141,7 @@ impl WholeRow {
         }
     }
 
-    /// A bound: no number is greater in absolute value. It is kept with the row, and mostly not the least one.
+    /// A bound on the absolute values of the numbers. It is stored with the row, and mostly isn't the least one.
     pub fn most(&self) -> u64
         ensures { AreAtMost self.now.numbers result }
     {
@@ -151,7 +151,8 @@ impl WholeRow {
         }
     }
 
-    /// A bound as well, closer than the one that is kept where that is large: for rows in 32 bits the numbers are gone through then.
+    /// A bound on the absolute values of the numbers, mostly closer than the stored one where that is large: for rows in 32 bits it then
+    /// takes a pass over the numbers.
     pub fn closer_most(&self) -> u64
         ensures { AreAtMost self.now.numbers result }
     {
@@ -161,7 +162,7 @@ impl WholeRow {
         }
     }
 
-    /// Whether it is in 32 bits. It has no clause: contracts don't see the width, and callers ask only for the sake of speed.
+    /// Whether the row is in 32 bits. It has no contract: contracts don't see the width, and callers ask only for the sake of speed.
     pub fn is_narrow(&self) -> bool {
         match &self.row {
             AnyRow::Narrow(_) => true,
@@ -169,10 +170,9 @@ impl WholeRow {
         }
     }
 
-    /// The row, which has this entry at the column, after a step in which another row leaves, whose entry there is the pivot; false
-    /// where a number would be larger than the limit, or the other row is of another width, or no places are noted of a row in 64
-    /// bits, and then nothing is known of the row. Next has the next places where the leaving row isn't 0, if they are noted, and
-    /// room is room for a row.
+    /// Updates the row in a step in which `own` leaves, whose entry at the entering column is `pivot`; this row's entry there is `entry`.
+    /// If `noted`, `next` has the next places where `own` isn't 0; `room` is space for a row. `false` if a number would be above `limit`,
+    /// if the two rows have different widths, or if a row in 64 bits has no `noted` places; then nothing is known of the row.
     #[inline(always)]
     pub fn update(
         &mut self,
@@ -200,7 +200,7 @@ impl WholeRow {
         self.update_other(own, next, noted, room, entry, pivot, limit)
     }
 
-    /// The same, where the entry isn't 0.
+    /// Like `update`, where `entry` isn't 0.
     #[inline(always)]
     fn update_other(
         &mut self,
@@ -237,7 +237,7 @@ impl WholeRow {
         }
     }
 
-    /// Puts the row over the least denominator.
+    /// Puts the row over its least denominator.
     pub fn shorten(&mut self)
         requires some { 0 < self.old.bottom }
         requires short { AreShort self.old.numbers }
@@ -249,7 +249,8 @@ impl WholeRow {
         }
     }
 
-    /// The leaving row after a step: it is divided by its entry at the column, over the least denominator. It keeps its width.
+    /// The leaving row after a step: divided by `pivot`, its entry at the entering column, and put over its least denominator. It keeps
+    /// its width.
     pub fn divided_by(self, pivot: i64) -> WholeRow
         requires pivot { pos 1 ≤ℤ pivot }
         requires short { AreShort self.numbers }

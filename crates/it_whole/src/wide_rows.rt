@@ -12,12 +12,12 @@ use it_vectors::{lowest_terms, short_product};
 use std::alloc::Global;
 use std::marker::Model;
 
-/// Whole numbers in 64 bits over one denominator, not in lowest terms.
+/// Whole numbers in 64 bits over one denominator, not necessarily in lowest terms.
 #[derive(Drop)]
 pub struct WideRow {
     numbers: Vec<i64>,
     bottom: u64,
-    // no number is greater in absolute value; kept, so that a step mostly needs no pass over the numbers for it
+    // a bound on the absolute values of the numbers; kept so that a step mostly needs no pass over them
     most: u64,
 }
 
@@ -33,7 +33,7 @@ impl Model for WideRow {
 }
 
 impl WideRow {
-    /// A row of whole numbers.
+    /// The row of `numbers` over the denominator 1.
     pub fn from_numbers(numbers: Vec<i64>) -> WideRow
         ensures numbers { result.numbers ≡ numbers.items }
         ensures bottom { result.bottom ≡ 1 }
@@ -46,7 +46,7 @@ impl WideRow {
         }
     }
 
-    /// A row without numbers. It takes no memory.
+    /// A row without numbers. It allocates nothing.
     pub fn empty(alloc: Global) -> WideRow
         ensures numbers { result.numbers ≡ [] }
         ensures bottom { result.bottom ≡ 1 }
@@ -58,7 +58,7 @@ impl WideRow {
         }
     }
 
-    /// The number at place k, before it is divided.
+    /// The number at place `k`, a numerator over the row's denominator.
     #[inline]
     pub fn number(&self, k: usize) -> i64
         requires { k < length self.now.numbers }
@@ -81,14 +81,14 @@ impl WideRow {
         self.numbers.as_slice()
     }
 
-    /// No number is greater in absolute value.
+    /// A bound on the absolute values of the numbers.
     pub fn most(&self) -> u64
         ensures { AreAtMost self.now.numbers result }
     {
         self.most
     }
 
-    /// Notes for each place the next one where the row isn't 0.
+    /// Sets `next` to hold for each place the first place from there on where the row isn't 0.
     pub fn note_places(&self, next: &mut [usize])
         requires { length next.old ≡ length self.now.numbers + 1 }
         ensures { AreNextPlaces self.now.numbers next.new }
@@ -96,7 +96,7 @@ impl WideRow {
         note_places(self.numbers.as_slice(), next);
     }
 
-    /// The same row, with an exact bound on its numbers.
+    /// The row, with the least bound on its numbers.
     fn with_exact_bound(self) -> WideRow
         ensures { result ≡ self }
     {
@@ -108,7 +108,7 @@ impl WideRow {
         }
     }
 
-    /// Puts the row over the least denominator.
+    /// Puts the row over its least denominator.
     #[inline(never)]
     pub fn shorten(&mut self)
         requires some { 0 < self.old.bottom }
@@ -124,8 +124,8 @@ impl WideRow {
         self.most = greatest_size(self.numbers.as_slice());
     }
 
-    /// Takes off as much of the leaving row as makes the entry at the column 0; false where a number would be too large, and then
-    /// nothing is known of the row.
+    /// Subtracts the multiple of the leaving row `own` that makes this row's entry at the entering column 0. `entry` and `pivot` are the
+    /// entries of this row and of `own` there. `false` if a number would be above `limit`: then nothing is known of the row.
     fn reduce(&mut self, own: &WideRow, next: &[usize], entry: i64, pivot: i64, limit: u64) -> bool
         requires row { IsUsable (length own.now.numbers) limit self.old }
         requires own { IsUsable (length own.now.numbers) limit own.now }
@@ -162,9 +162,8 @@ impl WideRow {
         }
     }
 
-    /// The row, which has this entry at the column, after a step in which another row leaves, whose entry there is the pivot; false
-    /// where a number would be larger than the limit, and then nothing is known of the row. Next has the next places where the
-    /// leaving row isn't 0.
+    /// Updates the row in a step in which `own` leaves, whose entry at the entering column is `pivot`; this row's entry there is `entry`.
+    /// `next` has the next places where `own` isn't 0. `false` if a number would be above `limit`: then nothing is known of the row.
     #[inline(never)]
     pub fn update(
         &mut self,
@@ -192,7 +191,7 @@ impl WideRow {
         true
     }
 
-    /// The leaving row after a step: it is divided by its entry at the column, over the least denominator.
+    /// The leaving row after a step: divided by `pivot`, its entry at the entering column, and put over its least denominator.
     pub fn divided_by(self, pivot: i64) -> WideRow
         requires pivot { pos 1 ≤ℤ pivot }
         requires short { AreShort self.numbers }
@@ -208,7 +207,7 @@ impl WideRow {
     }
 }
 
-/// Whether a denominator is large. A gcd of a whole row is dear, so that a row gets its least one only there.
+/// Whether a denominator is large. The least one takes a gcd over the whole row, and so is found only then.
 fn is_large(bottom: u64) -> bool {
     bottom > 1 << 16
 }

@@ -27,7 +27,7 @@ Answers question files in the field's own notation (docs/guide/ask.md); - is sta
 --latex      for LaTeX; with --document as a whole document
 --copy       a file with a head of copies, which a file that begins with `copy` is without this word
 --sharing    a sharing file, which a file that begins with `secret` is without this word
---best       least factors
+--best       least factors, of a file with a head of copies too
 --outer      outer bounds in the rates that `eliminate` leaves
 --per RATE   with --outer, corner points per unit of this rate
 --proofs     with --outer, below each row its proof, and below each corner or ray a point that is there
@@ -89,6 +89,8 @@ class Words:
             self.telling.append(word)
         elif word in ("--latex", "--document", "--needs", "--if", "--copies", "--code", "--made", "--proofs"):
             self.options.add(word)
+        elif {self.mode, word} in ({"copy", "--best"}, {"best", "--copy"}):
+            self.mode = "best"  # (which reads a head too)
         elif word.startswith("--") and word[2:] in MODES and self.mode in ("", word[2:]):
             self.mode = word[2:]
         elif word in SETTINGS and self.files:
@@ -168,7 +170,7 @@ class Asker:
         from .stated import signature
 
         head, *asked = cut(text)
-        texts = [head] if mode == "sharing" else [head + one if mode == "copy" else one for one in asked]
+        texts = [head] if mode == "sharing" else [head + one for one in asked]
         signed = "" if self.is_signed else signature(self.prover, self.docs, self.words.settings)
         self.is_signed = True
         return put(signed + typeset(told, texts, mode))

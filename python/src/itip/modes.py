@@ -32,7 +32,7 @@ class Shown(NamedTuple):
 
 
 def asked(mode: str, file: str, number: int) -> Asked:
-    """A question by its number, from 1, of a file that the program has answered. In mode `copy` it can have the copies."""
+    """A question by its number, from 1, of a file that the program has answered. It can have the copies of the file's head."""
     head, *questions = cut(file)
     if mode == "sharing":
         from .sharing import read_sharing
@@ -40,8 +40,8 @@ def asked(mode: str, file: str, number: int) -> Asked:
         who, asks = read_sharing(head)
         lines = ["vars " + ", ".join((who.secret, *who.parties)), *(f"given {part.text()}" for part in who.given())]
         return Asked(parse("\n".join([*lines, re.sub("^best ", "prove ", asks)]) + "\n"), file)
-    text = questions[number - 1]
-    return Asked(copied(parse(text), read_copies(head)) if mode == "copy" else parse(text), head + text)
+    text, copies = questions[number - 1], read_copies(head)
+    return Asked(copied(parse(text), copies) if copies else parse(text), head + text)
 
 
 def heading(mode: str, file: str) -> list[str]:
@@ -101,11 +101,11 @@ def undecided(value: Mapping[str, Any]) -> str:
 
 def of_report(line: str) -> tuple[str, list[str]]:
     """What the line of a report says of factors, and the lines of a yes and a no that show it, empty where no question holds their numbers;
-    for a sharing file by the question that it makes. Of `undecided` and `misfit` nothing is shown."""
+    with copies by the question with them, for a sharing file by the one that it makes. Of `undecided` and `misfit` nothing is shown."""
     if is_misfit(line):
         return misfit(line), []
     value = decoded(line)
-    file, mode = (value["sharing"], "sharing") if "sharing" in value else (value.get("question", ""), "best")
+    file, mode = (value["sharing"], "sharing") if "sharing" in value else (value.get("copies", "") + value.get("question", ""), "best")
     said, parts = shown(line, asked(mode, file, 1).made)
     return said, [part.report for part in parts]
 

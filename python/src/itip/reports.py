@@ -51,7 +51,7 @@ def batches(questions: Sequence[str]) -> Iterator[list[str]]:
 
 
 def cut(text: str) -> list[str]:
-    """The head of a file, which is empty but in mode `copy`, and its questions as reports have them: without comments, and without
+    """The head of a file, which is empty but in modes `copy` and `best`, and its questions as reports have them: without comments, and without
     blanks at the ends of lines.
 
     >>> cut("copy R of A over 0\\nvars A # one\\n\\n prove H(A) >= 0\\nvars B\\nprove H(B) >= 0")

@@ -1,7 +1,6 @@
 use Rattle.std.proofs.Common.{◌≡◌, ◌∙◌, ◌<◌, ◌↔◌, ℕ, ℤ, pos, All, sym, subst}
 use Rattle.it_space.specs.declared.spaces.Space.{Space}
 use Rattle.it_space.specs.Answers.{answer_view}
-use Rattle.it_space.specs.Problems.{problem_view}
 use Rattle.it_syntax.specs.Meaning.{Holds}
 use Rattle.it_question.specs.Questions.{question_body}
 use Rattle.it_demand.specs.SystemForms.{AreAtLeastZero}
@@ -23,19 +22,19 @@ pub project-requires-clause-system : goal.project-requires-clause-system
 project-requires-clause-system c = record {
   system = c.in_ok-system.ensures.limits;
   givens = c.requires.givens.limits;
-  space = c.in_ok-system.ensures.space ∙ sym (space_of_names (question_body c.args.question.now) c.args.rates.now (problem_view c.args.givens.now) c.requires.eliminates c.requires.givens);
-  few_givens = few_constraints (question_body c.args.question.now) c.args.rates.now (problem_view c.args.givens.now) c.requires.eliminates c.requires.givens c.requires.question;
+  space = c.in_ok-system.ensures.space ∙ sym (space_of_names (question_body c.args.question.now) c.args.rates.now c.args.givens.now c.requires.eliminates c.requires.givens);
+  few_givens = few_constraints (question_body c.args.question.now) c.args.rates.now c.args.givens.now c.requires.eliminates c.requires.givens c.requires.question;
 }
 
 pub project-requires-clause-sets : goal.project-requires-clause-sets
 project-requires-clause-sets c =
-    constraints_of_sets (question_body c.args.question.now) c.args.rates.now (problem_view c.args.givens.now) c.requires.eliminates c.requires.givens c.requires.question
+    constraints_of_sets (question_body c.args.question.now) c.args.rates.now c.args.givens.now c.requires.eliminates c.requires.givens c.requires.question
 
 pub returns : goal.returns
 returns c =
     let q = question_body c.args.question.now in
     let rates = c.args.rates.now in
-    let givens = problem_view c.args.givens.now in
+    let givens = c.args.givens.now in
     let rows = c.in_ok-system.system.rows.items in
     let end = projected_view c.in_ok-end.end in
     let same = space_of_names q rates givens c.requires.eliminates c.requires.givens in

@@ -1,5 +1,4 @@
 use Rattle.std.proofs.Common.{ℕ, List, ap, subst}
-use Rattle.it_space.specs.Problems.{problem_view}
 use Rattle.it_question.specs.Questions.{question_body, verb_view}
 use Rattle.it_bounds.specs.Replies.{reply_view}
 use Rattle.it_bounds.specs.RowReplies.{IsReplyByRows}
@@ -10,14 +9,14 @@ use Rattle.it_bounds.proofs.replying.reply_under.Goals as goal
 
 pub returns-in_ok-bound-in-Eliminate-clause-right : goal.returns-in_ok-bound-in-Eliminate-clause-right
 returns-in_ok-bound-in-Eliminate-clause-right c =
-    let p = problem_view c.args.problem.now in
+    let p = c.args.problem.now in
     let reply = c.in_ok-bound-in-Eliminate.bound in
     right_bound (question_body c.args.question.now) p c.requires.problem c.args.limits c.in-Eliminate.rates.items c.requires.question c.requires.few_rows (ap verb_view c.in-Eliminate.is) (reply_view reply)
     (subst (λ (gone : List ℕ). IsReplyByRows c.args.limits p gone (reply_view reply)) c.as_slice.ensures.value c.in_ok-bound-in-Eliminate.ensures)
 
 pub returns-in_ok-bound-in-Eliminate-clause-printable : goal.returns-in_ok-bound-in-Eliminate-clause-printable
 returns-in_ok-bound-in-Eliminate-clause-printable c =
-    let p = problem_view c.args.problem.now in
+    let p = c.args.problem.now in
     let reply = c.in_ok-bound-in-Eliminate.bound in
     reply_printable (question_body c.args.question.now) p c.requires.problem c.args.limits c.in-Eliminate.rates.items c.requires.question c.requires.few_rows (ap verb_view c.in-Eliminate.is) reply
     (subst (λ (gone : List ℕ). IsReplyByRows c.args.limits p gone (reply_view reply)) c.as_slice.ensures.value c.in_ok-bound-in-Eliminate.ensures)
@@ -26,5 +25,5 @@ pub returns-in_ok-bound-in-Eliminate-clause-told : goal.returns-in_ok-bound-in-E
 returns-in_ok-bound-in-Eliminate-clause-told c =
     let reply = c.in_ok-bound-in-Eliminate.bound in
     told_reply (question_body c.args.question.now) _ c.in-Eliminate.rates.items c.requires.question (ap verb_view c.in-Eliminate.is) reply
-    (reply_printable (question_body c.args.question.now) (problem_view c.args.problem.now) c.requires.problem c.args.limits c.in-Eliminate.rates.items c.requires.question c.requires.few_rows (ap verb_view c.in-Eliminate.is) reply
-    (subst (λ (gone : List ℕ). IsReplyByRows c.args.limits (problem_view c.args.problem.now) gone (reply_view reply)) c.as_slice.ensures.value c.in_ok-bound-in-Eliminate.ensures))
+    (reply_printable (question_body c.args.question.now) c.args.problem.now c.requires.problem c.args.limits c.in-Eliminate.rates.items c.requires.question c.requires.few_rows (ap verb_view c.in-Eliminate.is) reply
+    (subst (λ (gone : List ℕ). IsReplyByRows c.args.limits c.args.problem.now gone (reply_view reply)) c.as_slice.ensures.value c.in_ok-bound-in-Eliminate.ensures))

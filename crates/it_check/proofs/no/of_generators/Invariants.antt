@@ -1,4 +1,3 @@
-use Rattle.it_space.specs.Problems.{problem_view}
 use Rattle.std.proofs.Common.{◌≡◌, drop, length}
 use Rattle.it_space.specs.Rows.{point_of}
 use Rattle.it_polymatroid.specs.Elementals.{elementals}
@@ -7,5 +6,5 @@ use Rattle.it_check.specs.Verdicts.{of_generators}
 use Rattle.it_check.proofs.no.of_generators.Given as goal
 
 abbrev pub invariant-loop-index : goal.invariant-loop-index
-invariant-loop-index l = of_generators (length (elementals l.problem.space.variables)) l.index (drop l.index (generators (problem_view l.problem))) (point_of l.point)
-    ≡ of_generators (length (elementals l.problem.space.variables)) 0 (generators (problem_view l.problem)) (point_of l.point)
+invariant-loop-index l = of_generators (length (elementals l.problem.space.variables)) l.index (drop l.index (generators l.problem)) (point_of l.point)
+    ≡ of_generators (length (elementals l.problem.space.variables)) 0 (generators l.problem) (point_of l.point)

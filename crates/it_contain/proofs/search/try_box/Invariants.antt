@@ -1,5 +1,4 @@
 use Rattle.std.proofs.Common.{◌≡◌, ◌+◌, ◌<◌, [], map, drop, get_or, vec_len}
-use Rattle.it_space.specs.Problems.{problem_view}
 use Rattle.it_contain.specs.Search.{pair_goal}
 use Rattle.it_contain.specs.SearchSteps.{IsPast, AreOutcomes}
 use Rattle.it_contain.proofs.search.try_box.Given as goal
@@ -11,5 +10,5 @@ invariant-loop-count g l = record {
       (get_or (map (λ b. (goal.Proposer-dyn g (b.vtable, b.value)).pending b.value) l.boxes.items) l.i []) l.count;
   plans : map (λ b. (goal.Proposer-dyn g (b.vtable, b.value)).plan b.value) l.boxes.items ≡ map (λ b. (goal.Proposer-dyn g (b.vtable, b.value)).plan b.value) l.initial.boxes.items;
   later : drop (l.i + 1) (map (λ b. (goal.Proposer-dyn g (b.vtable, b.value)).pending b.value) l.boxes.items) ≡ drop (l.i + 1) (map (λ b. (goal.Proposer-dyn g (b.vtable, b.value)).pending b.value) l.initial.boxes.items);
-  outcomes : AreOutcomes (problem_view l.goal.pair.now.first) l.goal.effort l.outcomes;
+  outcomes : AreOutcomes l.goal.pair.now.first l.goal.effort l.outcomes;
 }

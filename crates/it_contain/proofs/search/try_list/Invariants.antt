@@ -1,5 +1,4 @@
 use Rattle.std.proofs.Common.{◌≡◌, ◌≤◌, map, drop}
-use Rattle.it_space.specs.Problems.{problem_view}
 use Rattle.it_contain.specs.Search.{pair_goal}
 use Rattle.it_contain.specs.SearchSteps.{IsPast, AreOutcomes}
 use Rattle.it_contain.proofs.search.try_list.Given as goal
@@ -10,5 +9,5 @@ invariant-loop-candidate g l = record {
   passed : IsPast (pair_goal l.goal.pair.now l.goal.effort) l.first (drop l.candidate-index l.first) l.count;
   plans : map (λ b. (goal.Proposer-dyn g (b.vtable, b.value)).plan b.value) l.boxes.items ≡ map (λ b. (goal.Proposer-dyn g (b.vtable, b.value)).plan b.value) l.initial.boxes.items;
   pending : map (λ b. (goal.Proposer-dyn g (b.vtable, b.value)).pending b.value) l.boxes.items ≡ map (λ b. (goal.Proposer-dyn g (b.vtable, b.value)).pending b.value) l.initial.boxes.items;
-  outcomes : AreOutcomes (problem_view l.goal.pair.now.first) l.goal.effort l.outcomes;
+  outcomes : AreOutcomes l.goal.pair.now.first l.goal.effort l.outcomes;
 }

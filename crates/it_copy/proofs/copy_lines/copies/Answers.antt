@@ -14,7 +14,7 @@ use Rattle.it_copy.specs.CopyForms.{copy, more_copies}
 use Rattle.it_copy.specs.CopyLines.{CopyView, AreNamed, copy_view, most_copies}
 use Rattle.it_copy.proofs.copy_lines.copies.Goals as goal
 
--- against the word of a copy after these
+-- the flag of the word of a copy after these
 abbrev copy_flag : List CopyView → Option Code
 copy_flag cs = limit_flag (most_copies - length cs)
 

@@ -5,7 +5,7 @@ use Rattle.it_copy.specs.CopyForms.{more_copies}
 use Rattle.it_copy.specs.CopyLines.{AreNamed, copy_view, most_copies}
 use Rattle.it_copy.proofs.copy_lines.copies.Given as goal
 
--- what is still read is the whole
+-- reading on from here gives what the whole reading gives
 abbrev pub invariant-loop-after : goal.invariant-loop-after
 invariant-loop-after l = (read (more_copies (map copy_view l.found.items)) (letters_left l.cursor) ≡ read (more_copies []) (letters_left l.initial.cursor)) × AreNamed l.found.items × (length l.found.items ≤ most_copies)
 

@@ -1,7 +1,6 @@
-use Rattle.it_space.specs.Problems.{problem_view}
 use Rattle.it_question.specs.Questions.{question_body}
 use Rattle.it_copy.proofs.SizeLemmas.{size_told}
 use Rattle.it_copy.proofs.extending.has_large_table.Goals as goal
 
 pub returns : goal.returns
-returns c = size_told (question_body c.args.question.now) (problem_view c.in_ok-problem.problem) c.in_ok-problem.ensures.poses c.in_ok-large.large c.in_ok-large.ensures
+returns c = size_told (question_body c.args.question.now) c.in_ok-problem.problem c.in_ok-problem.ensures.poses c.in_ok-large.large c.in_ok-large.ensures

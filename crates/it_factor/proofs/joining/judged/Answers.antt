@@ -1,5 +1,4 @@
 use Rattle.std.proofs.Common.{◌≡◌, rules, pos, sym, subst, length}
-use Rattle.it_space.specs.Problems.{problem_view}
 use Rattle.it_space.specs.Rows.{Terms, IsOver, point_of, value}
 use Rattle.it_space.specs.Spaces.{size_of}
 use Rattle.it_elemental.specs.Generators.{generators}
@@ -17,7 +16,7 @@ check_no-requires-clause-target c =
 
 pub returns-in-Valid : goal.returns-in-Valid
 returns-in-Valid c =
-    let q = problem_view c.args.problem.now in
+    let q = c.args.problem.now in
     let zero : value c.args.left.now (point_of c.args.point) ≡ pos 0 = search rules in
     never_is_right q c.args.left.now c.args.right.now c.args.point c.requires.sides.problem c.requires.sides.right c.requires.complete
     (subst (λ (row : Terms). Valid ≡ no_verdict (length (elementals q.space.variables)) (generators q) row (point_of c.args.point)) c.requires.turned c.in-Valid.ensures) zero

@@ -1,6 +1,5 @@
 use Rattle.std.proofs.Common.{rules, pos, sym, subst}
 use Rattle.it_space.specs.Answers.{certificate_view}
-use Rattle.it_space.specs.Problems.{problem_view}
 use Rattle.it_space.specs.Rows.{Terms, IsOver}
 use Rattle.it_space.specs.Spaces.{size_of}
 use Rattle.it_check.specs.Meaning.{CertifiesRow}
@@ -10,14 +9,14 @@ use Rattle.it_factor.specs.QuickSteps.{IsQuickBest}
 use Rattle.it_factor.proofs.QuickLemmas.{answer_is_right}
 use Rattle.it_factor.proofs.quick.by_row.Goals as goal
 
-pub settle-requires-clause-target : goal.settle-requires-clause-target
-settle-requires-clause-target c =
+pub settle-requires : goal.settle-requires
+settle-requires c =
     let size = size_of c.args.problem.now.space in
-    subst (IsOver size) (sym c.requires.row) (row_over size c.args.trial.factor.num (pos c.args.trial.factor.den) c.args.left.now c.args.right.now)
+    record { target = subst (IsOver size) (sym c.requires.row) (row_over size c.args.trial.factor.num (pos c.args.trial.factor.den) c.args.left.now c.args.right.now) }
 
 pub returns-in-Some-Yes : goal.returns-in-Some-Yes
 returns-in-Some-Yes c =
-    let q = problem_view c.args.problem.now in
+    let q = c.args.problem.now in
     let w = certificate_view c.in-Some-Yes.proof in
     let settled : IsSettled q c.args.row.now (Yes w) = search rules in
     subst (IsQuickBest q c.args.left.now c.args.right.now) (sym c.answer.ensures)

@@ -1,6 +1,5 @@
 use Rattle.std.proofs.Common.{rules, sym, subst}
 use Rattle.it_space.specs.Answers.{certificate_view}
-use Rattle.it_space.specs.Problems.{problem_view}
 use Rattle.it_space.specs.Rows.{Terms, IsOver}
 use Rattle.it_space.specs.Spaces.{size_of}
 use Rattle.it_check.specs.Meaning.{CertifiesRow}
@@ -9,14 +8,14 @@ use Rattle.it_best.proofs.JudgeSteps.{turned_certifies}
 use Rattle.it_best.proofs.RowLemmas.{negated_up}
 use Rattle.it_factor.proofs.quick.first.Goals as goal
 
-pub settle-requires-clause-target : goal.settle-requires-clause-target
-settle-requires-clause-target c =
+pub settle-requires : goal.settle-requires
+settle-requires c =
     let size = size_of c.args.problem.now.space in
-    subst (IsOver size) (sym c.in_ok-row.ensures) (negated_up size c.args.left.now c.requires.sides.left)
+    record { target = subst (IsOver size) (sym c.in_ok-row.ensures) (negated_up size c.args.left.now c.requires.sides.left) }
 
 pub returns-in-Some-Yes : goal.returns-in-Some-Yes
 returns-in-Some-Yes c =
-    let q = problem_view c.args.problem.now in
+    let q = c.args.problem.now in
     let w = certificate_view c.in-Some-Yes.below in
     let settled : IsSettled q c.in_ok-row.row (Yes w) = search rules in
     turned_certifies q c.args.left.now w (subst (λ (row : Terms). CertifiesRow q row w) c.in_ok-row.ensures settled.0.0)

@@ -1,6 +1,5 @@
-use Rattle.it_space.specs.Problems.{problem_view}
 use Rattle.it_factor.specs.QuickSteps.{IsStep}
 use Rattle.it_factor.proofs.quick.quick_factor.Given as goal
 
 abbrev pub invariant-loop : goal.invariant-loop
-invariant-loop l = IsStep (problem_view l.problem) l.left l.right l.step
+invariant-loop l = IsStep l.problem l.left l.right l.step

@@ -1,5 +1,4 @@
 use Rattle.std.proofs.Common.{length, refl, ap}
-use Rattle.it_space.specs.Problems.{problem_view}
 use Rattle.it_syntax.specs.Meaning.{relation_view}
 use Rattle.it_question.specs.Questions.{question_body, verb_view}
 use Rattle.it_run.proofs.AnswerLemmas.{if_ok}
@@ -15,7 +14,7 @@ use Rattle.it_factor.proofs.replying.reply_under.Goals as goal
 pub returns-in-Prove-clause-right : goal.returns-in-Prove-clause-right
 returns-in-Prove-clause-right c =
     let q = question_body c.args.question.now in
-    let p = problem_view c.args.problem.now in
+    let p = c.args.problem.now in
     let r = relation_view c.in-Prove.relation in
     if_ok c.relation_reply.result (λ x. IsReplyByRows p c.args.effort (at_least r.sign r) (reply_view x)) (λ x. IsRightReply c.args.effort q (reply_view x)) c.relation_reply.ensures
     (λ x by_rows. right_reply q p c.requires.problem c.args.effort r (reply_view x) (ap verb_view c.in-Prove.is) by_rows)
@@ -23,9 +22,9 @@ returns-in-Prove-clause-right c =
 pub returns-in-Prove-clause-printable : goal.returns-in-Prove-clause-printable
 returns-in-Prove-clause-printable c =
     let q = question_body c.args.question.now in
-    let p = problem_view c.args.problem.now in
+    let p = c.args.problem.now in
     let r = relation_view c.in-Prove.relation in
-    let m = length c.args.problem.now.constraints.items in
+    let m = length c.args.problem.now.constraints in
     if_ok c.relation_reply.result (λ x. IsReplyByRows p c.args.effort (at_least r.sign r) (reply_view x)) (IsPrintable q m) c.relation_reply.ensures
     (λ x by_rows. reply_printable q m (constraint_count q p c.requires.problem) c.args.effort r x c.requires.limits (ap verb_view c.in-Prove.is)
     (right_reply q p c.requires.problem c.args.effort r (reply_view x) (ap verb_view c.in-Prove.is) by_rows))

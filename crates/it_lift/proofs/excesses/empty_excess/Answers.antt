@@ -1,4 +1,3 @@
-use Rattle.it_space.specs.Problems.{problem_view}
 use Rattle.std.proofs.Common.{rules, ◌≡◌, ◌^◌, ◌<◌, ℕ, List, nat_eq, FitsSigned, to_z, to_z-of_z, sym, ap, ap₂, subst, ◌∙◌}
 use Rattle.std.proofs.lemmas.Nat.{pow_pos}
 use Rattle.it_space.specs.Answers.{CertificateView, certificate_view}
@@ -24,9 +23,9 @@ returns-in_err-total-clause-wide c =
     let ds : List Dependence = c.args.dependences.now.list in
     let m : ℕ = c.loop-number.number in
     let target : Form = value c.args.target.now in
-    let g : Generators = generators_of (problem_view c.args.problem.now) in
+    let g : Generators = generators_of c.args.problem.now in
     let w : CertificateView = certificate_view c.args.collapsed.now in
-    let below : m < 2 ^ n = number_below m c.args.problem.now.space.variables n c.loop-number-test.true c.requires.problem.space.few (ap (λ s. s.variables) c.requires.space) in
+    let below : m < 2 ^ n = number_below m c.space.result.variables n c.loop-number-test.true (rw c.space.ensures.value c.facts.ensures.space.few) (ap (λ s. s.variables) (c.requires.space ∙ sym c.space.ensures.value)) in
     let left_fits : FitsSigned w128 c.in_ok-left.left = search rules in
     let wide = simp to_z-of_z at c.in_err-total.ensures in
     let test : nat_eq (closure n ds m) (closure n ds 0) ≡ c.eq.result =
@@ -41,9 +40,9 @@ loop-number-preserved c =
     let ds : List Dependence = c.args.dependences.now.list in
     let m : ℕ = c.loop-number.number in
     let target : Form = value c.args.target.now in
-    let g : Generators = generators_of (problem_view c.args.problem.now) in
+    let g : Generators = generators_of c.args.problem.now in
     let w : CertificateView = certificate_view c.args.collapsed.now in
-    let below : m < 2 ^ n = number_below m c.args.problem.now.space.variables n c.loop-number-test.true c.requires.problem.space.few (ap (λ s. s.variables) c.requires.space) in
+    let below : m < 2 ^ n = number_below m c.space.result.variables n c.loop-number-test.true (rw c.space.ensures.value c.facts.ensures.space.few) (ap (λ s. s.variables) (c.requires.space ∙ sym c.space.ensures.value)) in
     let left_fits : FitsSigned w128 c.in_ok-left.left = search rules in
     let sum_fits : FitsSigned w128 c.in_ok-total.total = search rules in
     let step = simp to_z-of_z at c.in_ok-total.ensures in

@@ -1,4 +1,3 @@
-use Rattle.it_space.specs.Problems.{problem_view}
 use Rattle.std.proofs.Common.{rules, ◌≡◌, ◌*ℤ◌, ℤ, FitsSigned, to_z-of_z, sym, ap, subst, ◌∙◌}
 use Rattle.it_number.specs.Limit.{IsWithin}
 use Rattle.it_space.specs.Rows.{coefficient, value, one_at}
@@ -27,4 +26,4 @@ returns c =
     let rest = simp to_z-of_z at c.left_of.ensures in
     let is : c.in_ok-whole.whole ≡ c.args.collapsed.now.scale *ℤ value c.args.target.now (one_at c.args.set) = first.1 ∙ ap (λ x. c.args.collapsed.now.scale *ℤ x) at in
     excess_is c.left_of.result c.in_ok-whole.whole (c.args.collapsed.now.scale *ℤ value c.args.target.now (one_at c.args.set)) c.as_slice.result.now c.args.collapsed.now.weights.items
-    (λ i. (generators_of (problem_view c.args.problem.now)).form i (one_at c.args.set)) is (subst (λ (x : ℤ). IsWithin (c.args.collapsed.now.scale *ℤ x)) at first.0) c.as_slice.ensures.value rest
+    (λ i. (generators_of c.args.problem.now).form i (one_at c.args.set)) is (subst (λ (x : ℤ). IsWithin (c.args.collapsed.now.scale *ℤ x)) at first.0) c.as_slice.ensures.value rest

@@ -1,4 +1,3 @@
-use Rattle.it_space.specs.Problems.{problem_view}
 use Rattle.std.proofs.Common.{rules, ℕ, ℤ, List, FitsSigned, to_z-of_z, subst}
 use Rattle.it_space.specs.Answers.{certificate_view}
 use Rattle.it_space.specs.Rows.{value}
@@ -17,11 +16,11 @@ pub returns-in_err-add_moves-clause-wide : goal.returns-in_err-add_moves-clause-
 returns-in_err-add_moves-clause-wide c =
     let n : ℕ = c.args.dependences.now.space.variables in
     let ds : List Dependence = c.args.dependences.now.list in
-    let e : ℕ → ℤ = excess (certificate_view c.args.collapsed.now) (value c.args.target.now) (generators_of (problem_view c.args.problem.now)) in
+    let e : ℕ → ℤ = excess (certificate_view c.args.collapsed.now) (value c.args.target.now) (generators_of c.args.problem.now) in
     let f : FitsSigned w128 c.in_ok-empty.empty = search rules in
     let is = first_found n ds e c.empty.result c.in_ok-empty.empty c.empty.ensures c.in_ok-empty.ensures.value in
     let wide = simp to_z-of_z at c.in_err-add_moves.ensures.wide in
-    let stops = where_fault wide (λ w. first-stops (moves_of n ds e) n c.args.sums.now (EmptyFits n ds (value c.args.target.now) (generators_of (problem_view c.args.problem.now)) (certificate_view c.args.collapsed.now))
+    let stops = where_fault wide (λ w. first-stops (moves_of n ds e) n c.args.sums.now (EmptyFits n ds (value c.args.target.now) (generators_of c.args.problem.now) (certificate_view c.args.collapsed.now))
     (subst (λ (ms : List (ℕ × ℤ)). ¬ (WeightSumsFit (number_at c.args.sums.now) ms)) is w)) in
     search (rules, stops)
 
@@ -29,11 +28,11 @@ pub returns-in_err-add_others-clause-wide : goal.returns-in_err-add_others-claus
 returns-in_err-add_others-clause-wide c =
     let n : ℕ = c.args.dependences.now.space.variables in
     let ds : List Dependence = c.args.dependences.now.list in
-    let e : ℕ → ℤ = excess (certificate_view c.args.collapsed.now) (value c.args.target.now) (generators_of (problem_view c.args.problem.now)) in
+    let e : ℕ → ℤ = excess (certificate_view c.args.collapsed.now) (value c.args.target.now) (generators_of c.args.problem.now) in
     let f : FitsSigned w128 c.in_ok-empty.empty = search rules in
     let is = first_found n ds e c.empty.result c.in_ok-empty.empty c.empty.ensures c.in_ok-empty.ensures.value in
     let added = simp to_z-of_z at c.in_ok-add_moves.ensures.added in
-    let stops = where_fault c.in_err-add_others.ensures.wide (later-stops (moves_of n ds e) n c.args.sums.now c.add_moves.new.sums (EmptyFits n ds (value c.args.target.now) (generators_of (problem_view c.args.problem.now)) (certificate_view c.args.collapsed.now))
+    let stops = where_fault c.in_err-add_others.ensures.wide (later-stops (moves_of n ds e) n c.args.sums.now c.add_moves.new.sums (EmptyFits n ds (value c.args.target.now) (generators_of c.args.problem.now) (certificate_view c.args.collapsed.now))
     (subst (AreWeightsAdded c.args.sums.now c.add_moves.new.sums) is added)) in
     search (rules, stops)
 
@@ -41,7 +40,7 @@ pub returns-clause-added : goal.returns-clause-added
 returns-clause-added c =
     let n : ℕ = c.args.dependences.now.space.variables in
     let ds : List Dependence = c.args.dependences.now.list in
-    let e : ℕ → ℤ = excess (certificate_view c.args.collapsed.now) (value c.args.target.now) (generators_of (problem_view c.args.problem.now)) in
+    let e : ℕ → ℤ = excess (certificate_view c.args.collapsed.now) (value c.args.target.now) (generators_of c.args.problem.now) in
     let f : FitsSigned w128 c.in_ok-empty.empty = search rules in
     let is = first_found n ds e c.empty.result c.in_ok-empty.empty c.empty.ensures c.in_ok-empty.ensures.value in
     let added = simp to_z-of_z at c.in_ok-add_moves.ensures.added in

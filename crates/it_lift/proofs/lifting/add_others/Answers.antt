@@ -1,5 +1,4 @@
-use Rattle.it_space.specs.Problems.{problem_view}
-use Rattle.std.proofs.Common.{rules, ◌^◌, ◌<◌, ◌≤◌, ℕ, ℤ, List, FitsSigned, to_z-of_z, ap, subst, arith}
+use Rattle.std.proofs.Common.{◌∙◌, sym, rules, ◌^◌, ◌<◌, ◌≤◌, ℕ, ℤ, List, FitsSigned, to_z-of_z, ap, subst, arith}
 use Rattle.it_space.specs.Answers.{certificate_view}
 use Rattle.it_space.specs.Rows.{value}
 use Rattle.it_closure.specs.declared.dependences.Dependence.{Dependence}
@@ -17,15 +16,15 @@ use Rattle.it_space.proofs.MixLemmas.{where_fault}
 pub add_moves-requires-clause-within : goal.add_moves-requires-clause-within
 add_moves-requires-clause-within c =
     let f : FitsSigned w128 c.in_ok-left.left = search rules in
-    rw (to_z-of_z f, c.in_ok-left.ensures.1) (excess_within (certificate_view c.args.collapsed.now) (value c.args.target.now) (generators_of (problem_view c.args.problem.now)) c.from_number-set.result c.in_ok-left.ensures.0)
+    rw (to_z-of_z f, c.in_ok-left.ensures.1) (excess_within (certificate_view c.args.collapsed.now) (value c.args.target.now) (generators_of c.args.problem.now) c.from_number-set.result c.in_ok-left.ensures.0)
 
 pub returns-in_err-add_moves-clause-wide : goal.returns-in_err-add_moves-clause-wide
 returns-in_err-add_moves-clause-wide c =
     let n : ℕ = c.args.dependences.now.space.variables in
     let ds : List Dependence = c.args.dependences.now.list in
     let m : ℕ = c.loop-number.number in
-    let e : ℕ → ℤ = excess (certificate_view c.args.collapsed.now) (value c.args.target.now) (generators_of (problem_view c.args.problem.now)) in
-    let below : m < 2 ^ n = number_below m c.args.problem.now.space.variables n c.loop-number-test.true c.requires.problem.space.few (ap (λ s. s.variables) c.requires.space) in
+    let e : ℕ → ℤ = excess (certificate_view c.args.collapsed.now) (value c.args.target.now) (generators_of c.args.problem.now) in
+    let below : m < 2 ^ n = number_below m c.space.result.variables n c.loop-number-test.true (rw c.space.ensures.value c.facts.ensures.space.few) (ap (λ s. s.variables) (c.requires.space ∙ sym c.space.ensures.value)) in
     let f : FitsSigned w128 c.in_ok-left.left = search rules in
     let from : 1 ≤ m = omega arith in
     let is = moves_found n ds e m c.from_number-set.result c.in_ok-left.left from c.from_number-set.ensures c.in_ok-left.ensures.1 in
@@ -38,7 +37,7 @@ loop-number-preserved c =
     let n : ℕ = c.args.dependences.now.space.variables in
     let ds : List Dependence = c.args.dependences.now.list in
     let m : ℕ = c.loop-number.number in
-    let e : ℕ → ℤ = excess (certificate_view c.args.collapsed.now) (value c.args.target.now) (generators_of (problem_view c.args.problem.now)) in
+    let e : ℕ → ℤ = excess (certificate_view c.args.collapsed.now) (value c.args.target.now) (generators_of c.args.problem.now) in
     let f : FitsSigned w128 c.in_ok-left.left = search rules in
     let from : 1 ≤ m = omega arith in
     let is = moves_found n ds e m c.from_number-set.result c.in_ok-left.left from c.from_number-set.ensures c.in_ok-left.ensures.1 in

@@ -1,4 +1,3 @@
-use Rattle.it_space.specs.Problems.{problem_view}
 use Rattle.std.proofs.Common.{◌-◌}
 use Rattle.std.specs.List.{flat_map}
 use Rattle.it_space.specs.Answers.{certificate_view}
@@ -10,4 +9,4 @@ use Rattle.it_lift.specs.Sums.{AreWeightsAdded}
 use Rattle.it_lift.proofs.lifting.add_others.Given as goal
 
 abbrev pub invariant-loop-number : goal.invariant-loop-number
-invariant-loop-number l = AreWeightsAdded l.initial.sums l.sums (flat_map (moves_of l.dependences.space.variables l.dependences.list (excess (certificate_view l.collapsed) (value l.target) (generators_of (problem_view l.problem)))) (span 1 (l.number - 1)))
+invariant-loop-number l = AreWeightsAdded l.initial.sums l.sums (flat_map (moves_of l.dependences.space.variables l.dependences.list (excess (certificate_view l.collapsed) (value l.target) (generators_of l.problem))) (span 1 (l.number - 1)))

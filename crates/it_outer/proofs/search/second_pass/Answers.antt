@@ -9,12 +9,12 @@ use Rattle.it_space.specs.Rows.{Terms}
 use Rattle.it_outer.proofs.search.second_pass.Goals as goal
 
 pub extreme_rays-requires : goal.extreme_rays-requires
-extreme_rays-requires c = record {
+extreme_rays-requires c = rw c.space.ensures.value (record {
   space = c.requires.frame.search.problem.space;
   kept = rw c.as_slice.ensures.value c.requires.frame.places;
   rows = rw c.as_slice-2.ensures.value c.requires.rows;
   rays = rw c.as_slice-3.ensures.value c.requires.rays;
-}
+})
 
 pub pass-requires-clause-rays : goal.pass-requires-clause-rays
 pass-requires-clause-rays c =

@@ -1,4 +1,3 @@
-use Rattle.it_space.specs.Problems.{problem_view}
 use Rattle.std.proofs.Common.{◌≡◌, ◌^◌, ◌∙◌, ap, arith, length}
 use Rattle.it_elemental.specs.Generators.{generators}
 use Rattle.it_columns.specs.Columns.{columns}
@@ -14,13 +13,13 @@ scale_is c = c.in_ok-scale.ensures.value.1 ∙ ap scale_of (c.as_slice.ensures.v
 
 pub terms-requires-clause-columns : goal.terms-requires-clause-columns
 terms-requires-clause-columns c =
-    let n = length (columns (generators (problem_view c.args.problem.now))) in
-    columns_below (2 ^ 32) n 0 c.args.weights.now (omega (arith, few_columns (generators (problem_view c.args.problem.now)), few_generators (problem_view c.args.problem.now) c.requires.problem)) c.requires.ordered
+    let n = length (columns (generators c.args.problem.now)) in
+    columns_below (2 ^ 32) n 0 c.args.weights.now (omega (arith, few_columns (generators c.args.problem.now), few_generators c.args.problem.now c.facts.ensures)) c.requires.ordered
 
 pub new-row-requires : goal.new-row-requires
 new-row-requires c =
-    terms_canonical (length (columns (generators (problem_view c.args.problem.now)))) c.in_ok-scale.scale c.args.weights.now (scale_is (goal.at.new-row-requires c).In_ok-scale) c.requires.ordered c.in_ok-terms.field-0.items c.in_ok-terms.ensures.value c.in_ok-terms.ensures.fits
+    terms_canonical (length (columns (generators c.args.problem.now))) c.in_ok-scale.scale c.args.weights.now (scale_is (goal.at.new-row-requires c).In_ok-scale) c.requires.ordered c.in_ok-terms.field-0.items c.in_ok-terms.ensures.value c.in_ok-terms.ensures.fits
 
-pub generator_weights-requires-clause-positive : goal.generator_weights-requires-clause-positive
-generator_weights-requires-clause-positive c =
-    terms_positive (length (columns (generators (problem_view c.args.problem.now)))) c.in_ok-scale.scale c.args.weights.now (scale_is (goal.at.generator_weights-requires-clause-positive c).In_ok-scale) c.requires.ordered c.new-row.result (c.new-row.ensures ∙ c.in_ok-terms.ensures.value)
+pub generator_weights-requires : goal.generator_weights-requires
+generator_weights-requires c =
+    record { positive = terms_positive (length (columns (generators c.args.problem.now))) c.in_ok-scale.scale c.args.weights.now (scale_is (goal.at.generator_weights-requires c).In_ok-scale) c.requires.ordered c.new-row.result (c.new-row.ensures ∙ c.in_ok-terms.ensures.value) }

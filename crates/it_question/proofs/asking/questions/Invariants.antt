@@ -5,7 +5,7 @@ use Rattle.it_question.specs.Cursors.{letters_left}
 use Rattle.it_question.specs.QuestionForms.{more_questions}
 use Rattle.it_question.proofs.asking.questions.Given as goal
 
--- what is still read is the whole
+-- reading on from here gives what the whole reading gives
 abbrev pub invariant-loop-after : goal.invariant-loop-after
 invariant-loop-after l = read (more_questions (map body_view l.found.items)) (letters_left l.cursor) ≡ read (more_questions []) (letters_left l.initial.cursor)
 

@@ -5,7 +5,7 @@ use Rattle.it_question.specs.Cursors.{letters_left}
 use Rattle.it_question.specs.QuestionForms as forms
 use Rattle.it_question.proofs.rates.more_rates.Given as goal
 
--- what is still read is the whole
+-- reading on from here gives what the whole reading gives
 abbrev pub invariant-loop-cursor : goal.invariant-loop-cursor
 invariant-loop-cursor l = read (forms.more_once (index_of l.names.rates) l.found.items) (letters_left l.cursor) ≡ read (forms.more_once (index_of l.names.rates) l.fn.first.items) (letters_left l.initial.cursor)
 

@@ -6,7 +6,7 @@ use Rattle.it_question.specs.QuestionForms.{more_parts}
 use Rattle.it_question.specs.TrySets.{auxiliary_env}
 use Rattle.it_question.proofs.tries.parts.Given as goal
 
--- what is still read is the whole
+-- reading on from here gives what the whole reading gives
 abbrev pub invariant-loop-cursor : goal.invariant-loop-cursor
 invariant-loop-cursor l =
     let aux = auxiliary_env l.regions.question.now l.regions.second.now in

@@ -6,7 +6,7 @@ use Rattle.it_question.specs.QuestionForms.{more_tries}
 use Rattle.it_question.specs.TrySets.{auxiliary_env, unnamed_sets}
 use Rattle.it_question.proofs.tries.tries.Given as goal
 
--- what is still read is the whole
+-- reading on from here gives what the whole reading gives
 abbrev pub invariant-loop-after : goal.invariant-loop-after
 invariant-loop-after l =
     let aux = auxiliary_env l.regions.question.now l.regions.second.now in

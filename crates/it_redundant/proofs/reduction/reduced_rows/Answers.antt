@@ -1,7 +1,6 @@
 use Rattle.std.proofs.Common.{◌≡◌, ◌<◌, ◌≤◌, ◌+◌, ◌-◌, ◌∷◌, ◌++◌, ◌∙◌, List, ap, sym, subst, arith, rules, length, map, take, drop}
 use Rattle.std.proofs.lemmas.List.{drop_all, length-drop, take_all}
 use Rattle.it_space.proofs.ListLemmas.{drop_item}
-use Rattle.it_space.specs.Problems.{problem_view}
 use Rattle.it_space.specs.Rows.{IsOver, Terms}
 use Rattle.it_space.specs.Spaces.{size_of}
 use Rattle.it_prove.specs.ProofViews.{EndsWith}
@@ -21,11 +20,11 @@ visit-requires-clause-problem c =
     let row = c.index-rows-i.result in
     let below : i < length rows = search rules in
     let rest : take (length rows - (i + 1)) (drop (i + 1) rows) ≡ drop (i + 1) rows = take_all _ _ (simp length-drop (omega arith)) in
-    c.loop-i.invariant.problem ∙ ap (λ (xs : List Terms). with_rows (problem_view c.args.givens.now) (map (λ k. k.0) c.loop-i.reduced.kept.items ++ xs)) (drop_item rows i row below c.index-rows-i.is ∙ ap (λ (xs : List Terms). row ∷ xs) (sym rest))
+    c.loop-i.invariant.problem ∙ ap (λ (xs : List Terms). with_rows c.args.givens.now (map (λ k. k.0) c.loop-i.reduced.kept.items ++ xs)) (drop_item rows i row below c.index-rows-i.is ∙ ap (λ (xs : List Terms). row ∷ xs) (sym rest))
 
 pub loop-i-preserved : goal.loop-i-preserved
 loop-i-preserved c =
-    let q = problem_view c.args.givens.now in
+    let q = c.args.givens.now in
     let size = size_of c.args.givens.now.space in
     let rows = c.args.rows.now in
     let i = c.loop-i.i in
@@ -43,4 +42,4 @@ loop-i-preserved c =
 pub returns : goal.returns
 returns c =
     let all : length c.args.rows.now ≤ c.loop-i.i = search rules in
-    under_way_end (problem_view c.args.givens.now) c.args.effort (size_of c.args.givens.now.space) c.args.rows.now (kept_view c.loop-i.reduced) (dropped_view c.loop-i.reduced) c.loop-i.i (drop_all c.loop-i.i c.args.rows.now all) c.loop-i.invariant.under_way
+    under_way_end c.args.givens.now c.args.effort (size_of c.args.givens.now.space) c.args.rows.now (kept_view c.loop-i.reduced) (dropped_view c.loop-i.reduced) c.loop-i.i (drop_all c.loop-i.i c.args.rows.now all) c.loop-i.invariant.under_way

@@ -1,5 +1,4 @@
 use Rattle.std.proofs.Common.{◌≡◌, ◌++◌, drop, map}
-use Rattle.it_space.specs.Problems.{problem_view}
 use Rattle.it_space.specs.Spaces.{size_of}
 use Rattle.it_prove.specs.ClosedProblems.{IsClosedProblem}
 use Rattle.it_eliminate.specs.RowLines.{with_rows}
@@ -9,7 +8,7 @@ use Rattle.it_redundant.proofs.reduction.reduced_rows.Given as goal
 
 abbrev pub invariant-loop-i : goal.invariant-loop-i
 invariant-loop-i l = record {
-  under_way : IsUnderWay (problem_view l.givens) l.effort (size_of l.givens.space) l.rows (kept_view l.reduced) (dropped_view l.reduced) l.i;
-  closed : IsClosedProblem (problem_view l.givens) l.closed;
-  problem : problem_view l.problem ≡ with_rows (problem_view l.givens) (map (λ k. k.0) l.reduced.kept.items ++ drop l.i l.rows);
+  under_way : IsUnderWay l.givens l.effort (size_of l.givens.space) l.rows (kept_view l.reduced) (dropped_view l.reduced) l.i;
+  closed : IsClosedProblem l.givens l.closed;
+  problem : l.problem ≡ with_rows l.givens (map (λ k. k.0) l.reduced.kept.items ++ drop l.i l.rows);
 }

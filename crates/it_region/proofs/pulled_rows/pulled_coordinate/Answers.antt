@@ -18,4 +18,4 @@ returns-else-coordinate-count-clause-value c =
     let n : ℕ = c.args.pair.now.first.space.variables in
     let m : ℕ = c.args.pair.now.space.variables in
     let above : 2 ^ m ≤ c.args.coordinate = omega (arith, c.if-coordinate-count.false, shift_is_power m 4294967296 c.requires.pair.space.few (lit< tt)) in
-    ap₂ (λ (x y : ℕ). x + (c.args.coordinate - y)) (shift_is_power n 18446744073709551616 c.requires.pair.problem.space.few (lit< tt)) (shift_is_power m 4294967296 c.requires.pair.space.few (lit< tt)) ∙ sym (coordinate_above_sets n m c.args.sets.now c.args.coordinate above)
+    rw c.space.ensures.value (ap₂ (λ (x y : ℕ). x + (c.args.coordinate - y)) (shift_is_power n 18446744073709551616 c.requires.pair.problem.space.few (lit< tt)) (shift_is_power m 4294967296 c.requires.pair.space.few (lit< tt)) ∙ sym (coordinate_above_sets n m c.args.sets.now c.args.coordinate above))

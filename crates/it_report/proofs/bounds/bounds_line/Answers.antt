@@ -1,6 +1,5 @@
 use Rattle.std.proofs.Common.{◌≡◌, length, All, false, true, rules, refl, sym, ap, subst, ◌∙◌}
 use Rattle.it_space.specs.declared.spaces.Space.{Space}
-use Rattle.it_space.specs.Problems.{problem_view}
 use Rattle.it_space.specs.Spaces.{size_of}
 use Rattle.it_check.specs.declared.verdicts.Verdict.TheVariants.{Valid}
 use Rattle.it_spans.specs.Spans.{StepView, step_views}
@@ -26,7 +25,7 @@ pub returns-then-not-is_valid : goal.returns-then-not-is_valid
 returns-then-not-is_valid c =
     let q = question_body c.args.question.now in
     let b = bounds_view c.args.bounds.now in
-    let p = problem_view c.in_ok-problem.problem in
+    let p = c.in_ok-problem.problem in
     let v = c.parts_verdict-verdict.result in
     let invalid : is_valid v ≡ false = search rules in
     let verdict : bounds_verdict q b ≡ v = sym (c.parts_verdict-verdict.ensures.verdict ∙ ap (λ x. parts_verdict x b) (one_problem (under_all_lines q) p c.in_ok-problem.ensures)) in
@@ -36,7 +35,7 @@ pub returns : goal.returns
 returns c =
     let q = question_body c.args.question.now in
     let b = bounds_view c.args.bounds.now in
-    let p = problem_view c.in_ok-problem.problem in
+    let p = c.in_ok-problem.problem in
     let v = c.parts_verdict-verdict.result in
     let valid : is_valid v ≡ true = search rules in
     let verdict : bounds_verdict q b ≡ Valid = sym (c.parts_verdict-verdict.ensures.verdict ∙ ap (λ x. parts_verdict x b) (one_problem (under_all_lines q) p c.in_ok-problem.ensures)) ∙ only_valid v valid in

@@ -1,7 +1,6 @@
 use Rattle.std.proofs.Common.{◌≡◌, map, rules, sym, ap, subst, Some}
 use Rattle.it_space.specs.Answers.{certificate_view}
 use Rattle.it_space.specs.Answers.AnswerView.{Contained}
-use Rattle.it_space.specs.Problems.{problem_view}
 use Rattle.it_question.specs.Questions.{question_body}
 use Rattle.it_report.specs.Judging.{answer_verdict}
 use Rattle.it_report.proofs.JudgingLemmas.{verdict_is_told, has_verdict, contained_is_about_regions, few_parts, pair_problem, candidate_fits, obligation_rows_are}
@@ -23,7 +22,7 @@ pub returns : goal.returns
 returns c =
     let q = question_body c.args.question.now in
     let pair = c.in_ok-pair.pair in
-    let p = problem_view pair.first in
+    let p = pair.first in
     let ws = map certificate_view c.args.proofs.now in
     let parts = c.args.parts.now in
     let a = Contained parts ws in

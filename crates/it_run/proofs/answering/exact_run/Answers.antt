@@ -9,7 +9,7 @@ use Rattle.it_run.proofs.AnswerLemmas.{by_weights, by_point, holds_start, read_r
 use Rattle.it_run.proofs.answering.exact_run.Goals as goal
 use Rattle.it_run.proofs.answering.exact_run.Goals.{In_ok-run}
 
--- the run's clauses where its ending is known
+-- the run's contract where its ending is known
 run_reaches : (c : In_ok-run) (e : RunEnd) → c.in_ok-run.field-0 ≡ e → ReachesBy (height c.args.start) c.args.start.generator_columns c.args.budget (table c.args.start) (run_end_view e (table c.run.new.tableau))
 run_reaches c e q = subst (λ (x : RunEnd). ReachesBy (height c.args.start) c.args.start.generator_columns c.args.budget (table c.args.start) (run_end_view x (table c.run.new.tableau))) q c.in_ok-run.ensures.end
 

@@ -8,6 +8,6 @@ invariant-steps l = record {
   way : IsRunUnderWay l.fn.tableau l.tableau l.number;
 }
 
--- each step lowers how many are left
+-- each step lowers the number of steps that are left
 abbrev pub decreases-steps : goal.decreases-steps
 decreases-steps l = steps_left_to l.tableau

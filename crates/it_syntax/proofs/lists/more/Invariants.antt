@@ -5,7 +5,7 @@ use Rattle.it_syntax.specs.LineForms as forms
 use Rattle.it_syntax.specs.Scopes.{env_of}
 use Rattle.it_syntax.proofs.lists.more.Given as goal
 
--- from the set so far the same is read as from the first
+-- reading on from here gives what the whole reading gives
 abbrev pub invariant-loop-rest : goal.invariant-loop-rest
 invariant-loop-rest l = read (forms.more_names (env_of l.names) l.set) (letters_left l.rest) ≡ read (forms.more_names (env_of l.names) l.fn.first) (letters_left l.initial.rest)
 

@@ -5,7 +5,7 @@ use Rattle.it_syntax.specs.LineForms as forms
 use Rattle.it_syntax.specs.Scopes.{env_of}
 use Rattle.it_syntax.proofs.members.more_members.Given as goal
 
--- from the sets so far the same is read as from the first ones
+-- reading on from here gives what the whole reading gives
 abbrev pub invariant-loop-divider : goal.invariant-loop-divider
 invariant-loop-divider l = read (forms.more_members l.divider (env_of l.names) l.found.items) (letters_left l.rest) ≡ read (forms.more_members l.divider (env_of l.names) l.fn.first.items) (letters_left l.initial.rest)
 

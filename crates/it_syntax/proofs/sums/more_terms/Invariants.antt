@@ -7,8 +7,8 @@ use Rattle.it_syntax.specs.Meaning.{multiple_from}
 use Rattle.it_syntax.specs.Scopes.{scope_of}
 use Rattle.it_syntax.proofs.sums.more_terms.Given as goal
 
--- for each m that gave the first term's multiple: from the terms so far the same is read as from the first, and their
--- denominators have this multiple
+-- for each m with which the first term's denominator has the multiple `multiple`: reading on from here gives what the whole reading
+-- gives, and the terms so far have the multiple `so_far` with m
 abbrev pub invariant-loop-negative : goal.invariant-loop-negative
 invariant-loop-negative l = (1 ≤ l.so_far) × ((m : ℕ) → l.fn.multiple ≡ lcm m l.fn.first.denominator →
     (read (forms.more_terms l.fn.most m (scope_of l.names l.rates) l.found.items) (letters_left l.rest) ≡ read (forms.more_terms l.fn.most m (scope_of l.names l.rates) (l.fn.first ∷ [])) (letters_left l.initial.rest)) × (l.so_far ≡ multiple_from m l.found.items))

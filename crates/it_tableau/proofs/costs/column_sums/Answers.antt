@@ -8,7 +8,7 @@ use Rattle.it_tableau.proofs.SumSteps.{row_is_summed, row_climbs, row_is_refused
 use Rattle.it_tableau.proofs.Zeros.{any_err}
 use Rattle.it_tableau.proofs.costs.column_sums.Goals as goal
 
--- the terms of a row of so many columns
+-- the terms of a row of width columns
 with_width : (rows : List (List Rational)) (width i : ℕ) (terms : RowTerms) → AreEven rows (width + 1) → i < length rows
     → ListsEntries (entry_at (row_at rows i)) (length (row_at rows i) - 1) terms → ListsEntries (entry_at (row_at rows i)) width terms
 with_width rows width i terms even h lists =

@@ -1,5 +1,4 @@
 use Rattle.std.proofs.Common.{ℕ, length, ap, subst, sym, ◌∙◌}
-use Rattle.it_space.specs.Problems.{problem_view}
 use Rattle.it_question.specs.Questions.{question_body}
 use Rattle.it_canon.specs.QuestionDemands.{question_origins}
 use Rattle.it_print.specs.Lines.{IsPrintable, origins_of}
@@ -9,17 +8,17 @@ use Rattle.it_tell.proofs.lines.answered_text.Goals as goal
 pub head_line-requires-clause-printable : goal.head_line-requires-clause-printable
 head_line-requires-clause-printable c =
     let q = question_body c.args.question.now in
-    let p = problem_view c.in_ok-problem.problem in
-    subst (λ (n : ℕ). IsPrintable q n c.args.answer.now) (sym (ap length c.as_slice-constraints.ensures.value ∙ few_constraints q p.space p.constraints c.in_ok-problem.ensures.poses.constraints)) c.requires.printable
+    let p = c.in_ok-problem.problem in
+    subst (λ (n : ℕ). IsPrintable q n c.args.answer.now) (sym (ap length c.constraints-constraints.ensures.value ∙ few_constraints q p.space p.constraints c.in_ok-problem.ensures.poses.constraints)) c.requires.printable
 
 pub write_details-requires-clause-origins : goal.write_details-requires-clause-origins
 write_details-requires-clause-origins c =
     let q = question_body c.args.question.now in
-    let p = problem_view c.in_ok-problem.problem in
-    ap origins_of c.as_slice-constraints.ensures.value ∙ origins_same (question_origins q) p.constraints c.in_ok-problem.ensures.poses.constraints.placed
+    let p = c.in_ok-problem.problem in
+    ap origins_of c.constraints-constraints.ensures.value ∙ origins_same (question_origins q) p.constraints c.in_ok-problem.ensures.poses.constraints.placed
 
 pub write_details-requires-clause-printable : goal.write_details-requires-clause-printable
 write_details-requires-clause-printable c =
     let q = question_body c.args.question.now in
-    let p = problem_view c.in_ok-problem.problem in
-    subst (λ (n : ℕ). IsPrintable q n c.args.answer.now) (sym (ap length c.as_slice-constraints.ensures.value ∙ few_constraints q p.space p.constraints c.in_ok-problem.ensures.poses.constraints)) c.requires.printable
+    let p = c.in_ok-problem.problem in
+    subst (λ (n : ℕ). IsPrintable q n c.args.answer.now) (sym (ap length c.constraints-constraints.ensures.value ∙ few_constraints q p.space p.constraints c.in_ok-problem.ensures.poses.constraints)) c.requires.printable

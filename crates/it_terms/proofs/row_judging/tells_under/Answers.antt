@@ -10,7 +10,7 @@ use Rattle.it_terms.proofs.row_judging.tells_under.Goals as goal
 pub returns : goal.returns
 returns c =
     let v = c.args.names.now in
-    let g = forms_of (map of_constraint c.args.problem.now.constraints.items) in
+    let g = forms_of (map of_constraint c.args.problem.now.constraints) in
     let lines = c.args.lines.now in
     let r = relation_view c.in-Some.relation in
     let functions = c.in-Some-2.functions in

@@ -2,8 +2,11 @@ use Rattle.std.proofs.Common.{List, ℕ, ◌+◌, ◌∷◌, [], map, take, subs
 use Rattle.std.proofs.lemmas.List.{map-append}
 use Rattle.it_syntax.specs.declared.types.Term.{Term}
 use Rattle.it_terms.specs.ProofSteps.{AreStepTexts}
-use Rattle.it_terms.proofs.StepLemmas.{one_step_more}
+use Rattle.it_terms.proofs.StepLemmas.{no_step, one_step_more}
 use Rattle.it_terms.proofs.steps.step_texts.Goals as goal
+
+pub loop-i-init : goal.loop-i-init
+loop-i-init c = rw c.in_ok-sum.ensures.items (rw c.new-lines.ensures.items (no_step c.args.names.now c.args.first.now))
 
 pub loop-i-preserved : goal.loop-i-preserved
 loop-i-preserved c =

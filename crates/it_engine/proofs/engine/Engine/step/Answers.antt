@@ -18,15 +18,15 @@ returns-in_default c = (
   λ p t s. stuck_here p t c.args.columns.now c.args.limit c.args.self.now.rows c.args.self.now.basis s c.in_default.ensures.none,
 )
 
--- the rows that are lent
+-- the rows that are borrowed
 rows_are_lent : (c : After-index-columns-column) → c.as_mut_slice.result.now ≡ c.args.self.now.rows
 rows_are_lent c = c.as_mut_slice.ensures.value ∙ ap (λ (e : EngineView). e.rows) c.self.view_is
 
--- the basic columns that are lent
+-- the basic columns that are borrowed
 basis_is_lent : (c : After-index-columns-column) → c.as_slice.result.now ≡ c.args.self.now.basis
 basis_is_lent c = c.as_slice.ensures.value ∙ ap (λ (e : EngineView). e.basis) c.self.view_is
 
--- the column that enters
+-- the entering column
 column_is : (c : After-index-columns-column) → c.index-columns-column.result ≡ slice_index_or c.args.columns.now c.in-Some.column []
 column_is c = item_by_default c.args.columns.now c.in-Some.column c.index-columns-column.result [] (search rules) c.index-columns-column.is
 

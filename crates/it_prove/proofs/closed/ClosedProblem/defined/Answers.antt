@@ -1,6 +1,5 @@
-use Rattle.it_space.specs.Problems.{problem_view}
 use Rattle.it_prove.proofs.ProofLemmas.{wide_start}
 use Rattle.it_prove.proofs.closed.ClosedProblem.defined.Goals as goal
 
 pub returns-in-Err-Wide-clause-ends : goal.returns-in-Err-Wide-clause-ends
-returns-in-Err-Wide-clause-ends c = wide_start (problem_view c.args.problem.now) c.args.target.now c.args.pivots (c.in-Err-Wide.ensures.wide c.in-Err-Wide.field-0-is)
+returns-in-Err-Wide-clause-ends c = wide_start c.args.problem.now c.args.target.now c.args.pivots (c.in-Err-Wide.ensures.wide c.in-Err-Wide.field-0-is)

@@ -13,7 +13,7 @@ use Rattle.it_tableau.proofs.ViewLemmas.{pivot_sound, pivot_is_shown, pivot_numb
 use Rattle.it_tableau.proofs.tableau.Tableau.pivot.Goals as goal
 use Rattle.it_tableau.proofs.tableau.Tableau.pivot.Goals.{After-as_mut_slice, After-pivot_rows}
 
--- the rows that are lent
+-- the rows that are borrowed
 abbrev Old : After-as_mut_slice → List (List Rational)
 Old c = c.self.inside.rows.items
 
