@@ -13,7 +13,8 @@ use Rattle.it_check.proofs.Truth.{valid_yes_is, valid_no_is}
 use Rattle.it_prove.specs.ProofViews.{Yes, No, IsSettled}
 
 module _ (q : ProblemView) (target : Terms) (k : IsProblem q) (u : IsOver (size_of q.space) target) where
-  pub settled_yes : (w : CertificateView) → IsCanonical w.weights → IsWithin w.scale → Valid ≡ yes_verdict (generators q) (size_of q.space) target w → IsSettled q target (Yes w)
+  pub settled_yes : (w : CertificateView) → IsCanonical w.weights → IsWithin w.scale
+      → Valid ≡ yes_verdict (generators q) (size_of q.space) target w → IsSettled q target (Yes w)
   settled_yes w canonical within e = ((valid_yes_is q target w k u).0 (sym e), canonical, within)
 
   pub settled_no : (values : List ℤ) → length values ≡ size_of q.space → All IsWithin values

@@ -5,5 +5,7 @@ use Rattle.it_cli.proofs.ReplyLemmas.{Replied}
 use Rattle.it_cli.proofs.factoring.reply_all.Given as goal
 
 abbrev pub invariant-loop-i : goal.invariant-loop-i
-invariant-loop-i g l = ((replies : List (best_mode l.report l.effort).Reply) × Replied (best_mode l.report l.effort) (g.K.Sink.taken l.initial.sink) (g.K.Sink.taken l.sink) (map question_view l.questions) l.i replies)
+invariant-loop-i g l = ((replies : List (best_mode l.report l.effort).Reply)
+    × Replied (best_mode l.report l.effort) (g.K.Sink.taken l.initial.sink) (g.K.Sink.taken l.sink)
+    (map question_view l.questions) l.i replies)
     × (g.K.Sink.faults l.sink ≡ g.K.Sink.faults l.initial.sink)

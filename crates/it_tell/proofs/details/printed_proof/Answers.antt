@@ -9,4 +9,5 @@ returns c =
     let q = question_body c.args.question.now in
     let proof = c.in-Some.proof in
     let printed : ArePrinted q (value c.args.row.now) proof.text.items proof.whole.items proof.by.items = rw c.in-Some.is at c.in_ok-proof.ensures in
-    styled_may_be_printed (λ t. t.items) q c.args.options.style (value c.args.row.now) proof.text.items proof.whole.items proof.by.items c.in_ok-text.text printed c.in_ok-text.ensures
+    styled_may_be_printed (λ t. t.items) q c.args.options.style (value c.args.row.now) proof.text.items proof.whole.items proof.by.items
+        c.in_ok-text.text printed c.in_ok-text.ensures
