@@ -67,8 +67,12 @@ module _ (p : ProblemView) (f : Form) (t : Terms) (row : IsRowOf p.space f t) (e
     pub answers_first : (proof : Proof) (answer : AnswerView) → answer ≡ answer_after_one (proof_view proof)
         → ((c : _) → proof ≡ proofs.Yes c → ⊥) → IsRightProof p t (proof_view proof)
         → EndsWith p t effort (proof_view proof) → AnswersForms p (f ∷ g ∷ []) answer effort
-    answers_first proof answer is n r e = record { rows = t ∷ u ∷ []; are = (row, (other, tt)); answered = subst
-        (AnswersRows p effort (t ∷ u ∷ [])) (sym is) (not_proven proof n r e) }
+    answers_first proof answer is n r e = record {
+      rows = t ∷ u ∷ [];
+      are = (row, (other, tt));
+      answered = subst
+          (AnswersRows p effort (t ∷ u ∷ [])) (sym is) (not_proven proof n r e);
+    }
 
     after_two : (w : CertificateView) (o : ProofView) → IsRightProof p t (Yes w) → EndsWith p t effort (Yes w) → IsRightProof p u o
         → EndsWith p u effort o → AnswersRows p effort (t ∷ u ∷ []) (answer_after_two w o)
@@ -79,8 +83,12 @@ module _ (p : ProblemView) (f : Form) (t : Terms) (row : IsRowOf p.space f t) (e
     pub answers_two : (w : CertificateView) (o : ProofView) (answer : AnswerView) → answer ≡ answer_after_two w o → IsRightProof p t (Yes w)
         → EndsWith p t effort (Yes w) → IsRightProof p u o
         → EndsWith p u effort o → AnswersForms p (f ∷ g ∷ []) answer effort
-    answers_two w o answer is r e s d = record { rows = t ∷ u ∷ []; are = (row, (other, tt)); answered = subst
-        (AnswersRows p effort (t ∷ u ∷ [])) (sym is) (after_two w o r e s d) }
+    answers_two w o answer is r e s d = record {
+      rows = t ∷ u ∷ [];
+      are = (row, (other, tt));
+      answered = subst
+          (AnswersRows p effort (t ∷ u ∷ [])) (sym is) (after_two w o r e s d);
+    }
 
 -- ---- the row of a form's negation
 
@@ -145,7 +153,7 @@ module _ (q : BodyView) (p : ProblemView) (e : p.space ≡ space_of (problem_nam
       → ((x : ℕ → ℤ) → x 0 ≡ pos 0 → value t x ≡ f x) → CertifiesRow p t w → CertifiesForm q f w
   show_certificate f t w up same c = to_question_space (λ s. Certifies (all_demands s.variables (demanded q)) f w)
       (by_forms (all_demands p.space.variables (demanded q)) (generators p) (generators_speak p.space (demanded q) p.constraints st.stated)
-          (size_of p.space + 1) (value t) f same w c (rows_add_up p t w k up c))
+      (size_of p.space + 1) (value t) f same w c (rows_add_up p t w k up c))
 
   show_point : (f : Form) (t : Terms) (values : List ℤ) → IsRowOf p.space f t → RefutesRow p t values → IsCounterexample q f values
   show_point f t values r c = record {
@@ -188,12 +196,12 @@ module _ (q : BodyView) (p : ProblemView) (e : p.space ≡ space_of (problem_nam
       → IsRightAnswer budgets plans q (record { answer = answer; found = [] })
   answers_relation budgets plans r answer is a =
       let shown = shown_targets q r answer (to_question_space (λ s. ShowsTargets q (targets s.variables r) answer)
-          (show_targets (targets p.space.variables r) a.rows answer a.are a.answered.shows)) in
+      (show_targets (targets p.space.variables r) a.rows answer a.are a.answered.shows)) in
       let rows : a.rows ≡ map (terms_in q) (targets (variable_count q) r) =
       rows_are_terms_of_forms p.space (targets p.space.variables r) a.rows a.are
-          ∙ ap (λ (s : Space). map (terms_of_form (size_of s)) (targets s.variables r)) e in
+      ∙ ap (λ (s : Space). map (terms_of_form (size_of s)) (targets s.variables r)) e in
       let due : IsDueRelation budgets.effort q r answer =
       subst (λ (x : ProblemView). IsDueByRuns x budgets.effort (map (terms_in q) (targets (variable_count q) r)) answer)
-          (one_problem q p (record { space = e; limits = k; constraints = st }))
+      (one_problem q p (record { space = e; limits = k; constraints = st }))
       (subst (λ (ts : List Terms). IsDueByRuns p budgets.effort ts answer) rows a.answered.due) in
       right_by_verb budgets plans q (Prove r) (record { answer = answer; found = [] }) is shown (due, refl)

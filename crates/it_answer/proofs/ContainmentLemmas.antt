@@ -68,8 +68,12 @@ module _ (q : BodyView) (a b : RegionView) (tries : List (List ℕ)) (p : Pair) 
   fits_text c f = record { places = f.complete; count = f.count ∙ o.parts; within = subst (λ (n : ℕ). All (λ s. s < 2 ^ n) (candidate_parts c)) n_is f.within }
 
   fits_pair : (c : Candidate) → FitsRegions a b c → FitsPair p c
-  fits_pair c f = record { complete = f.places; count = f.count
-      ∙ sym o.parts; within = subst (λ (n : ℕ). All (λ s. s < 2 ^ n) (candidate_parts c)) (sym n_is) f.within }
+  fits_pair c f = record {
+    complete = f.places;
+    count = f.count
+        ∙ sym o.parts;
+    within = subst (λ (n : ℕ). All (λ s. s < 2 ^ n) (candidate_parts c)) (sym n_is) f.within;
+  }
 
   by_text : (effort : Effort) (c : Candidate) (ws : List CertificateView) → IsProofOf (pair_goal p effort) c ws → IsProofOf (containment_goal q a b effort) c ws
   by_text effort c ws g = record {
@@ -107,9 +111,9 @@ module _ (q : BodyView) (a b : RegionView) (tries : List (List ℕ)) (p : Pair) 
     constraints_met : AreMet h p.first.constraints
     constraints_met =
         let lines : AreTrueAt (length a.names.variables) h (problem_lines q) = subst
-            (λ (own : OwnLinesView). AreTrueAt (length a.names.variables) h own) (sym (ap (lines_under q.lines) is)) inside.lines_hold in
+        (λ (own : OwnLinesView). AreTrueAt (length a.names.variables) h own) (sym (ap (lines_under q.lines) is)) inside.lines_hold in
         (question_met q p.first.space p.first.constraints first_is o.first h inside.polymatroid.empty).1
-            (subst (λ (n : ℕ). AreTrueAt n h (problem_lines q)) (sym n_is) lines)
+        (subst (λ (n : ℕ). AreTrueAt n h (problem_lines q)) (sym n_is) lines)
 
     rows_hold : (effort : Effort) (fs : List Form) (ts : List Terms) (ws : List CertificateView) → ArePulledRows p.first.space fs ts
         → AreProofsOf p.first effort ts ws → AreAtLeastZero h ts
@@ -119,7 +123,7 @@ module _ (q : BodyView) (a b : RegionView) (tries : List (List ℕ)) (p : Pair) 
     rows_hold effort (f ∷ fs) (t ∷ ts) [] r c = absurd c
     rows_hold effort (f ∷ fs) (t ∷ ts) (w ∷ ws) r c = All-cons (λ (row : Terms). pos 0 ≤ℤ value row h) t ts
         (yes_is_true p.first t w l.problem r.0.coordinates (ends_are_right p.first t effort (Yes w) l.problem r.0.coordinates c.0).0 h
-            (subst (λ (n : ℕ). IsPolymatroid n h) (sym n_is) inside.polymatroid) constraints_met) (rows_hold effort fs ts ws r.1 c.1)
+        (subst (λ (n : ℕ). IsPolymatroid n h) (sym n_is) inside.polymatroid) constraints_met) (rows_hold effort fs ts ws r.1 c.1)
 
   proofs_show_containment : (effort : Effort) (c : Candidate) (ws : List CertificateView) → IsProofOf (pair_goal p effort) c ws
       → ShowsContained q a b (candidate_parts c) ws
@@ -162,8 +166,14 @@ module _ (q : BodyView) (a b : RegionView) (tries : List (List ℕ)) (p : Pair) 
             proofs = by_text budgets.effort c (proof_views w) proofs;
           },
         )
-    right_search (Open t) e = (tt, (open_by_other (pair_goal p budgets.effort) (containment_goal q a b budgets.effort)
-        (by_text budgets.effort) (unproved_text budgets.effort) budgets.tries plan t e.0, refl))
+    right_search (Open t) e = (
+      tt,
+      (
+        open_by_other (pair_goal p budgets.effort) (containment_goal q a b budgets.effort)
+            (by_text budgets.effort) (unproved_text budgets.effort) budgets.tries plan t e.0,
+        refl,
+      ),
+    )
 
     learned_search : (end : Contained) → SearchEnds (pair_goal p budgets.effort) budgets.tries plan plans end plans_after
         → plans_after ≡ map (plan_after_all (found_of end)) plans
@@ -176,7 +186,7 @@ module _ (q : BodyView) (a b : RegionView) (tries : List (List ℕ)) (p : Pair) 
     question_is_answered end first answer first_are answer_is e =
         let ends : SearchEnds (pair_goal p budgets.effort) budgets.tries plan plans end plans_after =
         subst (λ (cs : List Candidate). SearchEnds (pair_goal p budgets.effort) budgets.tries cs plans end plans_after)
-            (ap₂ (λ cs s. plan_of cs plans s) first_are shape_is) e in
+        (ap₂ (λ cs s. plan_of cs plans s) first_are shape_is) e in
         let right = right_search end ends in (
           subst (λ (x : AnswerView). IsRightAnswer budgets plans q (record { answer = x; found = found_of end })) (sym answer_is)
               (right_by_verb budgets plans q (Contain a b tries) (record { answer = answer_of_search end; found = found_of end }) is right.0 right.1),

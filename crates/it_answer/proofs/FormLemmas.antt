@@ -59,7 +59,7 @@ unfolding all_demands generator_list
 generators_speak s ds cs h = zip-append Speaks (map (demand_of_elemental s.variables) (elementals s.variables)) ds
     (map (of_elemental s.variables) (elementals s.variables)) (map of_constraint cs)
     (zip-maps Speaks (demand_of_elemental s.variables) (of_elemental s.variables) (elementals s.variables)
-        (λ e. record { kind = refl; same = λ p z. value-row s.variables e p z }))
+    (λ e. record { kind = refl; same = λ p z. value-row s.variables e p z }))
     (zip-map (States s) Speaks of_constraint (λ d c t. record { kind = t.kind; same = t.row.same }) ds cs h)
 
 module _ (ds : List Demand) (gs : List Generator) (z : AllZip Speaks ds gs) where
@@ -92,8 +92,11 @@ module _ (ds : List Demand) (gs : List Generator) (z : AllZip Speaks ds gs) wher
         record {
           scale_from_one = c.scale_from_one;
           allowed = All-weaker (IsAllowedWeight ds) (IsAllowed (forms_of gs))
-              (λ x a. (listed_here x a, λ e. a.1 (sym (speaks_at x.0 (listed_here x a)).kind
-              ∙ inequality_unless_equation (generator_at gs x.0).kind e))) w.weights c.allowed;
+              (λ x a. (
+                listed_here x a,
+                λ e. a.1 (sym (speaks_at x.0 (listed_here x a)).kind
+                    ∙ inequality_unless_equation (generator_at gs x.0).kind e),
+              )) w.weights c.allowed;
           adds_up = λ k h l. ap (λ x. w.scale *ℤ x) (same (one_at k) (one_at-zero k h)) ∙ c.adds_up (one_at k) (one_at-zero k h)
               ∙ sym (weighted_same (one_at k) (one_at-zero k h) w.weights (every_of (λ (x : ℕ × ℤ). x.0 < length gs) w.weights
               (All-weaker (IsAllowedWeight ds) (λ (x : ℕ × ℤ). x.0 < length gs) listed_here w.weights c.allowed)));
@@ -107,4 +110,4 @@ rows_add_up q target w k u c p e =
     let gs = generators q in
     let rows : All (λ g. IsOver size g.row) gs = all_of (λ g. IsOver size g.row) gs (rows_of_space q.space.variables size q.constraints (omega arith) k.rows) in
     adds_up_everywhere (size + 1) (forms_of gs) (value target) w (λ i l. value_linear size (generator_at gs i).row
-        (rows i (record { kind = Inequality; row = [] }) l)) (value_linear size target u) c p e
+    (rows i (record { kind = Inequality; row = [] }) l)) (value_linear size target u) c p e

@@ -31,7 +31,7 @@ module _ (q : BodyView) (rates : List ℕ) (givens : ProblemView) (is : q.verb �
   lines_stated = subst (λ (s : Space). AreStated givens.space (question_origins q)
       (line_demands s.variables given_lines) givens.constraints) (sym space_of_names)
       (subst (λ (verb : VerbView). AreStated givens.space (question_origins q)
-          (line_demands (length (names_under q.names verb).variables) (lines_under q.lines verb)) givens.constraints) is own.constraints)
+      (line_demands (length (names_under q.names verb).variables) (lines_under q.lines verb)) givens.constraints) is own.constraints)
 
   pub givens_stated : AreStated givens.space (question_origins q) (flat_map (demands givens.space.variables) q.lines.givens) givens.constraints
   givens_stated = subst (λ (ds : List Demand). AreStated givens.space (question_origins q) ds givens.constraints)
@@ -52,8 +52,13 @@ module _ (q : BodyView) (rates : List ℕ) (givens : ProblemView) (is : q.verb �
     pub few_constraints : length givens.constraints ≤ 65535
     few_constraints =
         let wanted = flat_map (demands givens.space.variables) q.lines.givens in
-        omega (arith, zip-length (States givens.space) wanted givens.constraints givens_stated.stated, givens-few givens.space.variables
-            q.lines.givens are_givens, limits.lines.few_givens)
+        omega (
+          arith,
+          zip-length (States givens.space) wanted givens.constraints givens_stated.stated,
+          givens-few givens.space.variables
+              q.lines.givens are_givens,
+          limits.lines.few_givens,
+        )
 
     pub constraints_of_sets : SpeakOfSets givens
     constraints_of_sets = given_sets givens.space (question_origins q) q.lines.givens givens.constraints are_givens givens_stated

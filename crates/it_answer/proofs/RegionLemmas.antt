@@ -136,9 +136,9 @@ module _ (q : BodyView) (rates : List ℕ) (givens : ProblemView) (rows : List T
       let b = stands_between kept before after row e in
       let others : kept_rows b.kept_before ++ kept_rows b.kept_after ≡ region_rows before ++ region_rows after =
       ap₂ (λ (xs ys : List Terms). xs ++ ys) (sym (rows_again b.kept_before) ∙ ap region_rows (sym b.before_is))
-          (sym (rows_again b.kept_after) ∙ ap region_rows (sym b.after_is)) in
+      (sym (rows_again b.kept_after) ∙ ap region_rows (sym b.after_is)) in
       row_does_not_follow (kept_rows b.kept_before ++ kept_rows b.kept_after) (region_rows before ++ region_rows after) row b.values others
-          (need b.kept_before b.kept_after (row, Needed b.values) b.is)
+      (need b.kept_before b.kept_after (row, Needed b.values) b.is)
 
   region_shown : (kept : List (Terms × NeedView)) → IsReducedRegion givens rates rows kept → IsExactRegion q rates (marked_rows kept)
   region_shown kept x = record {

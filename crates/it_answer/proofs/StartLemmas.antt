@@ -43,8 +43,8 @@ module _ (q : BodyView) (k : IsQuestion q) (small : QuestionHasSmallNumbers q) (
   by_verb (Prove r) about d =
       let is = question_poses q k small in
       not_before_start (problem_of q) budgets.effort (targets (variable_count q) r)
-          (map (terms_in q) (targets (variable_count q) r)) is.limits (small_constraints q (problem_of q) is)
-          (relation_rows q k small r about) d.0
+      (map (terms_in q) (targets (variable_count q) r)) is.limits (small_constraints q (problem_of q) is)
+      (relation_rows q k small r about) d.0
   by_verb (Eliminate rates) about d = not_width 0 d.0.end d.0.is
   by_verb (Contain first second tries) about d = d
 

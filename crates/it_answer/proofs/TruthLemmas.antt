@@ -58,7 +58,7 @@ module _ (q : BodyView) (m : ℕ → ℤ) (together : AreTrueTogether q m) where
       let n : ℕ = variable_count q in
       every-append (IsSatisfied m) (map (demand_of_elemental n) (elementals n)) (question_demands q)
       (every-map (IsSatisfied m) (demand_of_elemental n) (elementals n) (every_of (λ e. pos 0 ≤ℤ elemental_value n m e) (elementals n)
-          ((elementals_generate n m together.0.empty).1 together.0)))
+      ((elementals_generate n m together.0.empty).1 together.0)))
       (every_of (IsSatisfied m) (question_demands q) lines_satisfied)
 
   satisfied_at : (i : ℕ) → IsSatisfied m (demand_at ds i)
@@ -70,7 +70,7 @@ module _ (q : BodyView) (m : ℕ → ℤ) (together : AreTrueTogether q m) where
       (weighted_least (generators_by ds) (λ i. (demand_at ds i).form m) (λ i l. at_least (demand_at ds i).kind ((demand_at ds i).form m) (satisfied_at i))
       (λ i l e. is_zero (demand_at ds i).kind ((demand_at ds i).form m) (satisfied_at i) e) w.weights
       (All-weaker (IsAllowedWeight ds) (IsAllowed (generators_by ds)) (λ x a.
-          (a.0, λ e. a.1 (inequality_unless_equation (demand_at ds x.0).kind e))) w.weights c.allowed)))
+      (a.0, λ e. a.1 (inequality_unless_equation (demand_at ds x.0).kind e))) w.weights c.allowed)))
 
   all_valid : (fs : List Form) (ws : List CertificateView) → CertifyAll q fs ws → All (λ f. pos 0 ≤ℤ f m) fs
   all_valid [] [] c = All-nil (λ (f : Form). pos 0 ≤ℤ f m)
@@ -95,14 +95,18 @@ module _ (q : BodyView) (r : RelationView) where
   violates : (fs : List Form) (is_back : Bool) (values : List ℤ) → Refutes q fs is_back values
       → AreTrueTogether q (point_of values) × (All (λ (f : Form). pos 0 ≤ℤ f (point_of values)) fs → ⊥)
   violates [] is_back values c = absurd c
-  violates (f ∷ fs) false values c =
-      ((c.polymatroid, c.lines_hold), λ all. not_at_least_zero (f (point_of values)) c.violated
-          (All-head (λ (f : Form). pos 0 ≤ℤ f (point_of values)) f fs all))
+  violates (f ∷ fs) false values c = (
+    (c.polymatroid, c.lines_hold),
+    λ all. not_at_least_zero (f (point_of values)) c.violated
+        (All-head (λ (f : Form). pos 0 ≤ℤ f (point_of values)) f fs all),
+  )
   violates (f ∷ []) true values c = absurd c
-  violates (f ∷ g ∷ fs) true values c =
-      ((c.1.polymatroid, c.1.lines_hold), λ all. not_at_least_zero (g (point_of values)) c.1.violated
-          (All-head (λ (f : Form). pos 0 ≤ℤ f (point_of values)) g fs (All-tail (λ (f : Form). pos 0 ≤ℤ f (point_of values)) f
-          (g ∷ fs) all)))
+  violates (f ∷ g ∷ fs) true values c = (
+    (c.1.polymatroid, c.1.lines_hold),
+    λ all. not_at_least_zero (g (point_of values)) c.1.violated
+        (All-head (λ (f : Form). pos 0 ≤ℤ f (point_of values)) g fs (All-tail (λ (f : Form). pos 0 ≤ℤ f (point_of values)) f
+        (g ∷ fs) all)),
+  )
 
   no_is_true : (is_back : Bool) (values : List ℤ) → Refutes q (targets (variable_count q) r) is_back values
       → AreTrueTogether q (point_of values) × ¬ (Holds (variable_count q) (point_of values) r)

@@ -159,7 +159,7 @@ module _ (q : BodyView) (a b : RegionView) (effort : Effort) (defined : effort.q
       let c : x.candidate ≡ y.candidate = one_first proves decides tries plan x.candidate y.candidate x.first y.first in
       let proof : IsProofOf proves y.candidate ws = subst (λ (d : Candidate). IsProofOf proves d ws) c x.proofs in
       let same_proofs : ws ≡ vs = one_yes (problem_of q) effort defined (map (terms_in q)
-          (obligations q a b (take y.candidate.count y.candidate.parts))) ws vs proof.proofs y.proofs.proofs in
+      (obligations q a b (take y.candidate.count y.candidate.parts))) ws vs proof.proofs y.proofs.proofs in
       let same_parts : parts ≡ others = x.parts_are ∙ ap (λ (d : Candidate). take d.count d.parts) c ∙ sym y.parts_are in
       let same_found : xs ≡ ys = x.found_is ∙ ap (λ d. d ∷ []) c ∙ sym y.found_is in
       ap₂ (λ zs cs. reply_of (answer_views.Contained zs ws) cs) same_parts same_found ∙ ap (λ us. reply_of (answer_views.Contained others us) ys) same_proofs

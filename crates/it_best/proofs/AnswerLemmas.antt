@@ -51,19 +51,19 @@ met_by_slack : (hs : List Rational) (k : Kind) (row : Terms) (s : Rational) → 
     → Meets k (value row (point_of (scaled_point hs)))
 met_by_slack hs Inequality row s e i = least_scaled (scale_of hs) (point_of (scaled_point hs)) (rational_map hs) (scale_pos hs) row
     (every_all (λ (t : ℕ × ℤ). integer (point_of (scaled_point hs) t.0) ≡ times (integer (pos (scale_of hs))) (rational_map hs t.0)) row
-        (λ t. whole_value (scale_of hs) hs (denominators_divide hs) t.0))
+    (λ t. whole_value (scale_of hs) hs (denominators_divide hs) t.0))
     (ap is_at_least_zero e ∙ i)
 met_by_slack hs Equation row s e i = whole_same (value row (point_of (scaled_point hs))) (pos 0)
     (whole_row hs row ∙ ap (times (integer (pos (scale_of hs)))) (e ∙ ap minus i)
-        ∙ ring ring_ℚ (integer (pos (scale_of hs)) ∷ []) (S.times (v 0) (S.minus nil)) nil refl)
+    ∙ ring ring_ℚ (integer (pos (scale_of hs)) ∷ []) (S.times (v 0) (S.minus nil)) nil refl)
 
 module _ (q : ProblemView) (left right : Terms) (k : IsProblem q) (l : IsOver (size_of q.space) left) (r : IsOver (size_of q.space) right)
     (ws : List (ℕ × Rational))
     (s : SumsUp rationals (length (span 1 (right_equation (size_of q.space) (generators q))))
-        (length (columns (third_phase q.space.variables (size_of q.space) (generators q) left right)))
+    (length (columns (third_phase q.space.variables (size_of q.space) (generators q) left right)))
     (feasibility_problem (span 1 (right_equation (size_of q.space) (generators q)))
-        (columns (third_phase q.space.variables (size_of q.space) (generators q) left right))
-        (third_target (size_of q.space) (generators q) right)) ws) where
+    (columns (third_phase q.space.variables (size_of q.space) (generators q) left right))
+    (third_target (size_of q.space) (generators q) right)) ws) where
   abbrev gs : List Generator
   gs = generators q
 
@@ -83,7 +83,7 @@ module _ (q : ProblemView) (left right : Terms) (k : IsProblem q) (l : IsOver (s
   all_met = every_of (λ g. Meets g.kind (value g.row p)) gs (λ j d h. subst (λ (g : Generator). Meets g.kind (value g.row p))
       (get_or_default gs j (record { kind = Inequality; row = [] }) d h)
       (met_by_slack hs (generator_at gs j).kind (generator_at gs j).row _ (phases.generator_value_is q left right k l r ws s j h)
-          (phases.generator_slack q left right k l r ws s j h)))
+      (phases.generator_slack q left right k l r ws s j h)))
 
   pub third_meets : IsPoint (ground_of q) (scaled_point hs)
   third_meets = let both = listed_met q.space.variables q.constraints p refl all_met in
@@ -103,7 +103,7 @@ module _ (q : ProblemView) (left right : Terms) (k : IsProblem q) (l : IsOver (s
   pub sides_equal : pos x.den *ℤ value right p ≡ x.num *ℤ value left p
   sides_equal = whole_same (pos x.den *ℤ value right p) (x.num *ℤ value left p)
       (whole_times (pos x.den) (value right p) ∙ ap (times (integer (pos x.den)))
-          (whole_row hs right ∙ ap (times (integer (pos big))) (phases.right_value_is q left right k l r ws s))
+      (whole_row hs right ∙ ap (times (integer (pos big))) (phases.right_value_is q left right k l r ws s))
       ∙ ring ring_ℚ (integer (pos x.den) ∷ integer (pos big) ∷ x ∷ []) (S.times (v 0) (S.times (v 1) (v 2))) (S.times (S.times (v 0) (v 2)) (v 1)) refl
       ∙ ap₂ times (times_den x) (ap integer (sym left_is)) ∙ sym (whole_times x.num (value left p)))
 
@@ -135,18 +135,24 @@ never_right q left right qs k l r s =
     let gs = generators q in
     let size = size_of q.space in
     let rows = rows_of_space q.space.variables size q.constraints (omega arith) k.rows in
-    let up : Every (λ u. IsOver size u.row) (first_phase gs left) = (l, every-map (λ (u : Generator). IsOver size u.row) counterweight gs
-        (every-same (λ g. IsOver size g.row) (λ g. IsOver size (negated_terms g.row)) gs
-        (λ g u. Rattle.it_best.proofs.RowLemmas.negated_up size g.row u) rows)) in
+    let up : Every (λ u. IsOver size u.row) (first_phase gs left) = (
+      l,
+      every-map (λ (u : Generator). IsOver size u.row) counterweight gs
+          (every-same (λ g. IsOver size g.row) (λ g. IsOver size (negated_terms g.row)) gs
+          (λ g u. Rattle.it_best.proofs.RowLemmas.negated_up size g.row u) rows),
+    ) in
     let met = unknowns_met size (first_phase gs left) right qs up r s in
     let turned : Every (λ g. Meets g.kind (value g.row (point_of (map neg_ℤ (scaled_point qs))))) gs =
     every-same (λ g. Meets g.kind (value (negated_terms g.row) (point_of (scaled_point qs))))
-        (λ g. Meets g.kind (value g.row (point_of (map neg_ℤ (scaled_point qs))))) gs
+    (λ g. Meets g.kind (value g.row (point_of (map neg_ℤ (scaled_point qs))))) gs
     (λ g m. subst (Meets g.kind) (value-negated_terms g.row (point_of (scaled_point qs)) ∙ sym (value_at_turned g.row (scaled_point qs))) m)
     (every_mapped (λ (u : Generator). Meets u.kind (value u.row (point_of (scaled_point qs)))) counterweight gs met.1) in
     let both = listed_met q.space.variables q.constraints (point_of (map neg_ℤ (scaled_point qs))) refl turned in record {
-      point = record { complete = length-map (scaled_point qs) neg_ℤ ∙ length-map qs (scaled_number (scale_of qs)) ∙ s.complete
-          ∙ Rattle.it_polymatroid.proofs.Spans.length-span 1 size; holds = both };
+      point = record {
+        complete = length-map (scaled_point qs) neg_ℤ ∙ length-map qs (scaled_number (scale_of qs)) ∙ s.complete
+            ∙ Rattle.it_polymatroid.proofs.Spans.length-span 1 size;
+        holds = both;
+      };
       zero = value_at_turned left (scaled_point qs) ∙ ap neg_ℤ met.0;
       above = subst (λ (z : ℤ). pos 1 ≤ℤ z) (sym (value_at_turned right (scaled_point qs)))
           (above_zero (value right (point_of (scaled_point qs))) (target_below size (first_phase gs left) right qs up r s));

@@ -74,8 +74,11 @@ terms_allowed l i all [] (x ∷ xs) e b h a = absurd (omega (arith, e))
 terms_allowed l i all (g ∷ gs) (x ∷ xs) e b h a =
     let here : generator_at all i ≡ g = ap (generator_at all) (same i) ∙ h zero (omega arith) in
     every-append (IsAllowed (forms_of all)) (single_term i (scaled_number l x)) (terms_from (i + 1) (map (scaled_number l) xs))
-    (every_single_term (IsAllowed (forms_of all)) i (scaled_number l x) (omega (arith, b), λ f. scaled_least l x
-        (a.0 (inequality g.kind (sym (ap (λ (u : Generator). is_equation u.kind) here) ∙ f)))))
+    (every_single_term (IsAllowed (forms_of all)) i (scaled_number l x) (
+      omega (arith, b),
+      λ f. scaled_least l x
+          (a.0 (inequality g.kind (sym (ap (λ (u : Generator). is_equation u.kind) here) ∙ f))),
+    ))
     (terms_allowed l (i + 1) all gs xs (omega (arith, e)) (omega (arith, b)) (λ k m. ap (generator_at all) (next i k) ∙ h (suc k) (omega arith)) a.1)
   where
     same : (i : ℕ) → i ≡ i + zero
@@ -98,7 +101,7 @@ certifies_form size gs form k xs e a s = record {
   scale_from_one = scale_some (scale_of (multiples (pos k) xs)) (scale_pos (multiples (pos k) xs));
   allowed = all_of (IsAllowed (forms_of gs)) (terms_from 0 (scaled_point (multiples (pos k) xs)))
       (terms_allowed (scale_of (multiples (pos k) xs)) 0 gs gs (multiples (pos k) xs) length_is (omega arith)
-          (λ j l. ap (generator_at gs) (zero_plus j)) (multiples_signed k xs gs a));
+      (λ j l. ap (generator_at gs) (zero_plus j)) (multiples_signed k xs gs a));
   adds_up = λ c h l. certificate_sum c gs (multiples (pos k) xs) (form (one_at c)) length_is (s c (omega arith) (omega arith))
       ∙ sym (weighted_is gs (terms_from 0 (scaled_point (multiples (pos k) xs))) c);
 }
@@ -150,7 +153,7 @@ form_is_least q form w k linear c p h m =
     let none : Generator = record { kind = Inequality; row = [] } in
     let rows : All (λ g. IsOver size g.row) gs = all_of (λ g. IsOver size g.row) gs (rows_of_space q.space.variables size q.constraints (omega arith) k.rows) in
     let met : All (λ g. Meets g.kind (value g.row p)) gs = all_of (λ g. Meets g.kind (value g.row p)) gs
-        (met_listed q.space.variables q.constraints p h.empty h m) in
+    (met_listed q.space.variables q.constraints p h.empty h m) in
     certificates_prove (size + 1) (forms_of gs) form w (λ i l. value_linear size (generator_at gs i).row (rows i none l)) linear c p h.empty
     (λ i l. at_least (generator_at gs i).kind (value (generator_at gs i).row p) (met i none l))
     (λ i l e. is_zero (generator_at gs i).kind (value (generator_at gs i).row p) (met i none l) e)
@@ -160,13 +163,13 @@ pub linear-factor : (size : ℕ) (left right : Terms) (num den : ℤ) → IsOver
     → IsLinear (size + 1) (λ p. num *ℤ value left p -ℤ den *ℤ value right p)
 linear-factor size left right num den l r =
     linear-sub (size + 1) (λ p. num *ℤ value left p) (λ p. den *ℤ value right p)
-        (linear-scale (size + 1) num (value left) (value_linear size left l))
-        (linear-scale (size + 1) den (value right) (value_linear size right r))
+    (linear-scale (size + 1) num (value left) (value_linear size left l))
+    (linear-scale (size + 1) den (value right) (value_linear size right r))
 
 pub linear-neg : (size : ℕ) (left : Terms) → IsOver size left → IsLinear (size + 1) (λ p. neg_ℤ (value left p))
 linear-neg size left l =
     linear_same (size + 1) (λ p. neg_ℤ (pos 1) *ℤ value left p) (λ p. neg_ℤ (value left p)) (λ p e. by_minus_one (value left p))
-        (linear-scale (size + 1) (neg_ℤ (pos 1)) (value left) (value_linear size left l))
+    (linear-scale (size + 1) (neg_ℤ (pos 1)) (value left) (value_linear size left l))
   where
     by_minus_one : (x : ℤ) → neg_ℤ (pos 1) *ℤ x ≡ neg_ℤ x
     by_minus_one x = omega (arith, ints)

@@ -100,10 +100,10 @@ module _ (q : ProblemView) (left right : Terms) (k : IsProblem q) (l : IsOver (s
       let t_up : IsOver (right_equation size gs) (third_target size gs right) = third_target_up size gs right r in
       no_third_point q left right k l r (point_of (scaled_point ps)) refl
       (unknowns_met (right_equation size gs) (third q left right) (third_target size gs right) ps up t_up c)
-          (target_below (right_equation size gs) (third q left right) (third_target size gs right) ps up t_up c)
+      (target_below (right_equation size gs) (third q left right) (third_target size gs right) ps up t_up c)
       (slice_index_or (numbers (first q left right) ws) 0 (integer (pos 0))).num
-          (pos (slice_index_or (numbers (first q left right) ws) 0 (integer (pos 0))).den) one.from_one
-          (factor_holds q left right _ _ _ k l r one)
+      (pos (slice_index_or (numbers (first q left right) ws) 0 (integer (pos 0))).den) one.from_one
+      (factor_holds q left right _ _ _ k l r one)
       (point_of (scaled_point qs)) refl two.0.0 two.0.1 two.1
 
   -- ---- the answers are right
@@ -174,14 +174,14 @@ module _ (q : ProblemView) (left right : Terms) where
   second_once budget ws (Weights below) o p a b = or_scale_once (UnboundedFits q left right ws below) (unbounded_view q left right ws below) o p a b
   second_once budget ws (Point qs) o p a b = third_once b.0 o p
       (subst (λ (e : End). ThirdFollows q left right e o) (phase_once (right_equation (size_of q.space) (generators q)) (third q left right)
-          (third_target (size_of q.space) (generators q) right) budget a.0 b.0 a.1 b.1) a.2) b.2
+      (third_target (size_of q.space) (generators q) right) budget a.0 b.0 a.1 b.1) a.2) b.2
   second_once budget ws (Pivots j) o p a b = a ∙ sym b
   second_once budget ws (Width j) o p a b = a ∙ sym b
 
   first_once : (budget : Option ℕ) (e : End) (o p : BestView) → FirstFollows q left right budget e o → FirstFollows q left right budget e p → o ≡ p
   first_once budget (Weights ws) o p a b = second_once budget ws b.0 o p
       (subst (λ (e : End). SecondFollows q left right budget ws e o) (phase_once (size_of q.space) (generators q)
-          (negated_terms left) budget a.0 b.0 a.1 b.1) a.2) b.2
+      (negated_terms left) budget a.0 b.0 a.1 b.1) a.2) b.2
   first_once budget (Point qs) o p a b = or_scale_once (NeverFits q left right qs) (Never (map neg_ℤ (scaled_point qs))) o p a b
   first_once budget (Pivots j) o p a b = a ∙ sym b
   first_once budget (Width j) o p a b = a ∙ sym b
@@ -192,7 +192,7 @@ one_best q left right budget o p (inl a) (inr b) = absurd (b.0 a.0)
 one_best q left right budget o p (inr a) (inl b) = absurd (a.0 b.0)
 one_best q left right budget o p (inr a) (inr b) = first_once q left right budget b.1.0 o p
     (subst (λ (e : End). FirstFollows q left right budget e o) (phase_once q left right (size_of q.space)
-        (first q left right) right budget a.1.0 b.1.0 a.1.1 b.1.1) a.1.2) b.1.2
+    (first q left right) right budget a.1.0 b.1.0 a.1.1 b.1.1) a.1.2) b.1.2
 
 -- ---- without a budget
 

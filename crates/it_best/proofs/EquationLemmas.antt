@@ -161,28 +161,28 @@ module _ (size : ℕ) (gs : List Generator) (left right : Terms) (c : ℕ) where
   pub coordinate_at_low : (d : ℕ) → d ≤ size → coefficient (coordinate_row size gs left right c) d ≡ pos 0
   coordinate_at_low d l = at_sum d ∙ all_three _ _ _ (pos 0) (pos 0) (pos 0) (terms_apart (size + 1) gs c d (λ j m q. omega (arith, q)))
       (single_apart (left_equation size gs) (coefficient left c) d (λ q. omega (arith, q)))
-          (single_apart (right_equation size gs) (coefficient right c) d (λ q. omega (arith, q)))
+      (single_apart (right_equation size gs) (coefficient right c) d (λ q. omega (arith, q)))
 
   pub coordinate_at_generator : (j : ℕ) → j < length gs → coefficient (coordinate_row size gs left right c) (size + 1 + j)
       ≡ coefficient (generator_at gs j).row c
   coordinate_at_generator j l = at_sum (size + 1 + j)
       ∙ all_three _ _ _ (coefficient (generator_at gs j).row c) (pos 0) (pos 0) (terms_at (size + 1) gs c j l)
       (single_apart (left_equation size gs) (coefficient left c) (size + 1 + j) (λ q. omega (arith, q)))
-          (single_apart (right_equation size gs) (coefficient right c) (size + 1 + j) (λ q. omega (arith, q)))
+      (single_apart (right_equation size gs) (coefficient right c) (size + 1 + j) (λ q. omega (arith, q)))
       ∙ +ℤ_idr (coefficient (generator_at gs j).row c)
 
   pub coordinate_at_left : coefficient (coordinate_row size gs left right c) (left_equation size gs) ≡ coefficient left c
   coordinate_at_left = at_sum (left_equation size gs)
       ∙ all_three _ _ _ (pos 0) (coefficient left c) (pos 0) (terms_apart (size + 1) gs c (left_equation size gs) (λ j m q. omega (arith, m, q)))
       (single_at (left_equation size gs) (coefficient left c)) (single_apart (right_equation size gs) (coefficient right c)
-          (left_equation size gs) (λ q. omega (arith, q)))
+      (left_equation size gs) (λ q. omega (arith, q)))
       ∙ +ℤ_idl (coefficient left c +ℤ pos 0) ∙ +ℤ_idr (coefficient left c)
 
   pub coordinate_at_right : coefficient (coordinate_row size gs left right c) (right_equation size gs) ≡ coefficient right c
   coordinate_at_right = at_sum (right_equation size gs)
       ∙ all_three _ _ _ (pos 0) (pos 0) (coefficient right c) (terms_apart (size + 1) gs c (right_equation size gs) (λ j m q. omega (arith, m, q)))
       (single_apart (left_equation size gs) (coefficient left c) (right_equation size gs) (λ q. omega (arith, q)))
-          (single_at (right_equation size gs) (coefficient right c))
+      (single_at (right_equation size gs) (coefficient right c))
       ∙ +ℤ_idl (pos 0 +ℤ coefficient right c) ∙ +ℤ_idl (coefficient right c)
 
   pub coordinate_by : (n : ℕ) (d : ℕ) → coefficient (coordinate_unknown n size gs left right c).row d ≡ coefficient (coordinate_row size gs left right c) d
@@ -253,7 +253,7 @@ slack_sum e (g ∷ gs) ss (suc j) a l = by_kind (λ ys b. slack_sum (e + 1) gs y
     by_kind r Inequality [] a = slack_zero (generator_at gs j).kind
     by_kind r Inequality (s ∷ ss) a = subst (IsSlack (generator_at gs j).kind)
         (sym (ap (λ y. plus (times s (integer (y +ℤ pos 0))) (number_sum (e + suc j) ss (slacks (e + 1) gs)))
-            (ap (λ b. cond b (neg_ℤ (pos 1)) (pos 0)) (ne_eqb e (e + suc j) (λ q. omega (arith, q))))
+        (ap (λ b. cond b (neg_ℤ (pos 1)) (pos 0)) (ne_eqb e (e + suc j) (λ q. omega (arith, q))))
         ∙ ap (λ y. plus y (number_sum (e + suc j) ss (slacks (e + 1) gs))) (times_null s) ∙ null_plus (number_sum (e + suc j) ss (slacks (e + 1) gs))))
         (rest_slack r ss a.1)
 

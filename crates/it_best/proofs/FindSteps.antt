@@ -111,8 +111,13 @@ module _ (q : ProblemView) (left right : Terms) (k : IsProblem q) (l : IsOver (s
   ns = numbers (third q left right) ws
 
   pub third_long : (xs : List Rational) → xs ≡ ns → length (generators q) + size_of q.space < length xs
-  third_long xs e = omega (arith, ap length e, numbers_length (third q left right) ws, third_length q.space.variables (size_of q.space)
-      (generators q) left right)
+  third_long xs e = omega (
+    arith,
+    ap length e,
+    numbers_length (third q left right) ws,
+    third_length q.space.variables (size_of q.space)
+        (generators q) left right,
+  )
 
   pub third_factor_is : (x : Rational) (xs : List Rational) → x ≡ slice_index_or ns 0 (integer (pos 0))
       → xs ≡ take (length (generators q)) (drop 1 ns)
@@ -120,7 +125,7 @@ module _ (q : ProblemView) (left right : Terms) (k : IsProblem q) (l : IsOver (s
   third_factor_is x xs e f = subst₂ (λ (x : Rational) (xs : List Rational). IsFactor (ground_of q) (value left) (value right) x.num
       (pos x.den) (weights_certificate (pos x.den) xs))
       (sym (e ∙ phases.factor_is q left right k l r ws)) (sym (f ∙ phases.weights_are q left right k l r ws))
-          (phases.third_factor_right q left right k l r ws s)
+      (phases.third_factor_right q left right k l r ws s)
 
   pub third_values_length : (vs : List Rational) → vs ≡ take (size_of q.space) (drop (length (generators q)) (drop 1 ns)) → length vs ≡ size_of q.space
   third_values_length vs e = ap length (e ∙ phases.values_are q left right k l r ws) ∙ phases.hs_length q left right k l r ws
@@ -168,8 +173,12 @@ pub by_end : {E : Type 0} (m n : ℕ) (us vs : List Generator) (target : Terms) 
     → PhaseEnds m us target budget (end_of_answer solved) → IfOk o (λ b. Follows (end_of_answer solved) (best_view b))
     → IfOk o (λ b. (e : RunEndView (List (ℕ × Rational)) (List Rational)) × PhaseEnds n vs target budget e × Follows e (best_view b))
 by_end m n us vs target budget solved (Err e) Follows a b p f = tt
-by_end m n us vs target budget solved (Ok o) Follows a b p f = (end_of_answer solved, ends_so m n us vs target target budget
-    (end_of_answer solved) a b refl p, f)
+by_end m n us vs target budget solved (Ok o) Follows a b p f = (
+  end_of_answer solved,
+  ends_so m n us vs target target budget
+      (end_of_answer solved) a b refl p,
+  f,
+)
 
 pub right_result : {E : Type 0} (q : ProblemView) (left right : Terms) (budget : Option ℕ) (r : Result Best E) → IsProblem q
     → IsOver (size_of q.space) left → IsOver (size_of q.space) right

@@ -59,7 +59,7 @@ module _ (c : ℕ) where
       ∙ ring ring_ℚ (x ∷ integer (coefficient r c) ∷ []) (S.plus (S.times (v 0) (v 1)) nil) (S.times (v 0) (v 1)) refl
   total-one (suc i) j k x (r ∷ rs) h e =
       ap₂ (λ b y. plus (times (cond b x (integer (pos 0))) (integer (coefficient r c))) y) (ne_eqb k j (λ q. omega arith))
-          (total-one i (j + 1) k x rs (omega arith) (omega arith))
+      (total-one i (j + 1) k x rs (omega arith) (omega arith))
       ∙ ring ring_ℚ (integer (coefficient r c) ∷ times x (integer (coefficient (get_or rs i []) c)) ∷ []) (S.plus (S.times nil (v 0)) (v 1)) (v 1) refl
 
   -- a sum over weights is one over all columns
@@ -75,7 +75,7 @@ module _ (c : ℕ) where
   one_unknown Inequality r j cols f = refl
   one_unknown Equation r j cols f =
       ap₂ (λ x y. plus (times (f j) (integer (coefficient r c))) (plus (times (f (j + 1)) x) y))
-          (ap integer (coefficient-negated_terms c r) ∙ whole_minus (coefficient r c)) (ap (λ m. total m cols f) plus_two)
+      (ap integer (coefficient-negated_terms c r) ∙ whole_minus (coefficient r c)) (ap (λ m. total m cols f) plus_two)
       ∙ ring ring_ℚ (f j ∷ f (j + 1) ∷ integer (coefficient r c) ∷ total (j + 2) cols f ∷ [])
       (S.plus (S.times (v 0) (v 2)) (S.plus (S.times (v 1) (S.minus (v 2))) (v 3))) (S.plus (S.times (S.plus (v 0) (S.minus (v 1))) (v 2)) (v 3)) refl
     where
@@ -95,7 +95,7 @@ pub numbers_sum_up : (m : ℕ) (us : List Generator) (target : Terms) (ws : List
     → (c : ℕ) → 1 ≤ c → c ≤ m → number_sum c (numbers us ws) us ≡ integer (coefficient target c)
 numbers_sum_up m us target ws s c h l =
     sym (weights_total c (length (columns us)) 0 (columns us) ws refl s.ordered ∙ total_by_unknowns c us 0 (column_weight ws))
-        ∙ sums_up (span 1 m) (columns us) target ws s c (in_span m c h l)
+    ∙ sums_up (span 1 m) (columns us) target ws s c (in_span m c h l)
 
 -- ---- signs
 

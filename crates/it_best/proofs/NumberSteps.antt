@@ -122,9 +122,12 @@ module _ (us : List Unknown) (ws : List (ℕ × Rational)) (i column : ℕ) (u :
             (unknown_numbers (column + column_count u.kind) (drop (i + 1) (unknown_views us)) (column_weight ws))
             (numbers (unknown_views us) ws)
             (e ∙ ap (λ m. old ++ unknown_number m (column_weight ws) column ∷ []) k)
-                (ap (λ xs. old ++ unknown_numbers column xs (column_weight ws)) (sym next_unknown) ∙ a.same);
-        fits = (λ g. a.fits.0 (subst (λ xs. DifferencesFit column xs (column_weight ws)) (sym next_unknown) (here, g)), λ g.
-            (subst (λ xs. DifferencesFit column xs (column_weight ws)) next_unknown (a.fits.1 g)).1);
+            (ap (λ xs. old ++ unknown_numbers column xs (column_weight ws)) (sym next_unknown) ∙ a.same);
+        fits = (
+          λ g. a.fits.0 (subst (λ xs. DifferencesFit column xs (column_weight ws)) (sym next_unknown) (here, g)),
+          λ g.
+              (subst (λ xs. DifferencesFit column xs (column_weight ws)) next_unknown (a.fits.1 g)).1,
+        );
         few = omega (arith, a.few, few_columns u.kind);
       })
     where

@@ -44,7 +44,7 @@ take_all xs n e = ap (λ m. take m xs) (sym e) ∙ Rattle.std.proofs.lemmas.List
 
 module _ (q : ProblemView) (left right : Terms) (ws : List (ℕ × Rational))
     (s : SumsUp rationals (length (span 1 (size_of q.space))) (length (columns (first_phase (generators q) left)))
-        (feasibility_problem (span 1 (size_of q.space)) (columns (first_phase (generators q) left)) right) ws) where
+    (feasibility_problem (span 1 (size_of q.space)) (columns (first_phase (generators q) left)) right) ws) where
   abbrev first_rest : List Rational
   first_rest = unknown_numbers (0 + column_count Equation) (map counterweight (generators q)) (column_weight ws)
 
@@ -78,8 +78,8 @@ module _ (q : ProblemView) (left right : Terms) (ws : List (ℕ × Rational))
       (pos (slice_index_or ns 0 (integer (pos 0))).den) (weights_certificate (pos (slice_index_or ns 0 (integer (pos 0))).den)
       (take (length (generators q)) (drop 1 ns)))) (sym first_numbers)
       (subst (λ (xs : List Rational). IsFactor (ground_of q) (value left) (value right) (unknown_number Equation (column_weight ws) 0).num
-          (pos (unknown_number Equation (column_weight ws) 0).den) (weights_certificate
-          (pos (unknown_number Equation (column_weight ws) 0).den) xs))
+      (pos (unknown_number Equation (column_weight ws) 0).den) (weights_certificate
+      (pos (unknown_number Equation (column_weight ws) 0).den) xs))
       (sym (take_all first_rest (length (generators q)) rest_length))
       (factor_certified q left right (unknown_number Equation (column_weight ws) 0) first_rest rest_length first_signed first_sum))
 
@@ -170,10 +170,15 @@ module _ (q : ProblemView) (left right : Terms) (k : IsProblem q) (l : IsOver (s
         let one = are_numbers-append rest weights_of_gs (values_of_gs ++ slacks (size + 1) gs) rest_signed in
         let a : AreNumbers xs weights_of_gs = subst (λ n. AreNumbers (take n rest) weights_of_gs) count_weights one.0 in
         let b : AreNumbers (drop (length gs) rest) (values_of_gs ++ slacks (size + 1) gs) = subst
-            (λ n. AreNumbers (drop n rest) (values_of_gs ++ slacks (size + 1) gs)) count_weights one.1 in
-        let two = are_numbers-append (drop (length gs) rest) values_of_gs (slacks (size + 1) gs) b in
-        (a, (subst (λ n. AreNumbers (take n (drop (length gs) rest)) values_of_gs) count_values two.0, subst
-            (λ n. AreNumbers (drop n (drop (length gs) rest)) (slacks (size + 1) gs)) count_values two.1))
+        (λ n. AreNumbers (drop n rest) (values_of_gs ++ slacks (size + 1) gs)) count_weights one.1 in
+        let two = are_numbers-append (drop (length gs) rest) values_of_gs (slacks (size + 1) gs) b in (
+          a,
+          (
+            subst (λ n. AreNumbers (take n (drop (length gs) rest)) values_of_gs) count_values two.0,
+            subst
+                (λ n. AreNumbers (drop n (drop (length gs) rest)) (slacks (size + 1) gs)) count_values two.1,
+          ),
+        )
 
     -- the sum of each equation, piece by piece
     equation_sum : (e : ℕ) → 1 ≤ e → e ≤ right_equation size gs
@@ -212,14 +217,14 @@ module _ (q : ProblemView) (left right : Terms) (k : IsProblem q) (l : IsOver (s
     weights_beyond : (e : ℕ) → size < e → number_sum e xs weights_of_gs ≡ integer (pos 0)
     weights_beyond e h = number_sum-none e xs weights_of_gs (every-map (λ (u : Generator). coefficient u.row e ≡ pos 0) counterweight gs
         (every-same (λ g. IsOver size g.row) (λ g. coefficient (negated_terms g.row) e ≡ pos 0) gs
-            (λ g u. coefficient-negated_terms e g.row ∙ ap neg_ℤ (beyond g.row e u h))
-            (rows_of_space q.space.variables size q.constraints (omega arith) k.rows)))
+        (λ g u. coefficient-negated_terms e g.row ∙ ap neg_ℤ (beyond g.row e u h))
+        (rows_of_space q.space.variables size q.constraints (omega arith) k.rows)))
 
     values_low : (e : ℕ) → e ≤ size → number_sum e hs values_of_gs ≡ integer (pos 0)
     values_low e h = number_sum-none e hs values_of_gs (every-map (λ (u : Generator). coefficient u.row e ≡ pos 0)
         (coordinate_unknown q.space.variables size gs left right) (span 1 size)
         (every_all (λ c. coefficient (coordinate_unknown q.space.variables size gs left right c).row e ≡ pos 0) (span 1 size)
-            (λ c. coordinate_by size gs left right c q.space.variables e ∙ coordinate_at_low size gs left right c e h)))
+        (λ c. coordinate_by size gs left right c q.space.variables e ∙ coordinate_at_low size gs left right c e h)))
 
     slacks_none : (e : ℕ) → ((j : ℕ) → j < length gs → size + 1 + j ≡ e → ⊥) → number_sum e ss (slacks (size + 1) gs) ≡ integer (pos 0)
     slacks_none e n = number_sum-none e ss (slacks (size + 1) gs) (slacks_apart (size + 1) gs e n)
@@ -228,9 +233,9 @@ module _ (q : ProblemView) (left right : Terms) (k : IsProblem q) (l : IsOver (s
     sides_sum : (c : ℕ) → 1 ≤ c → c ≤ size → plus (times x (integer (coefficient left c))) (number_sum c xs weights_of_gs) ≡ integer (coefficient right c)
     sides_sum c h m =
         ap₂ (λ y z. plus (times x (integer y)) z) (sym (factor_at c ∙ with_end (coefficient left c) (coefficient left c) (pos 0)
-            (nat_eq (right_equation size gs) c) (neg_ℤ (pos 1)) refl (ne_eqb (right_equation size gs) c (λ e. omega (arith, e)))))
+        (nat_eq (right_equation size gs) c) (neg_ℤ (pos 1)) refl (ne_eqb (right_equation size gs) c (λ e. omega (arith, e)))))
         (sym (ap (plus (number_sum c xs weights_of_gs)) (ap₂ plus (values_low c m) (slacks_none c (λ j n e. omega (arith, e)))
-            ∙ null_plus (integer (pos 0))) ∙ plus_null (number_sum c xs weights_of_gs)))
+        ∙ null_plus (integer (pos 0))) ∙ plus_null (number_sum c xs weights_of_gs)))
         ∙ equation_sum c h (omega arith)
         ∙ ap integer (target_at c ∙ with_end (coefficient right c) (coefficient right c) (pos 0) (nat_eq (left_equation size gs) c)
         (pos 1) refl (ne_eqb (left_equation size gs) c (λ e. omega (arith, e))))
@@ -243,8 +248,8 @@ module _ (q : ProblemView) (left right : Terms) (k : IsProblem q) (l : IsOver (s
     high_sum e row h m u same =
         ap (plus (times x (integer (coefficient factor_row e))))
         (ap (λ y. plus y (number_sum e ss (slacks (size + 1) gs))) (sym
-            (values_equation e (coordinate_unknown q.space.variables size gs left right) row hs size hs_length u
-            (λ c a b. coordinate_by size gs left right c q.space.variables e ∙ same c a b)))
+        (values_equation e (coordinate_unknown q.space.variables size gs left right) row hs size hs_length u
+        (λ c a b. coordinate_by size gs left right c q.space.variables e ∙ same c a b)))
         ∙ sym (null_plus (plus (number_sum e hs values_of_gs) (number_sum e ss (slacks (size + 1) gs))))
         ∙ ap (λ y. plus y (plus (number_sum e hs values_of_gs) (number_sum e ss (slacks (size + 1) gs)))) (sym (weights_beyond e h)))
         ∙ equation_sum e (omega arith) m
@@ -258,10 +263,10 @@ module _ (q : ProblemView) (left right : Terms) (k : IsProblem q) (l : IsOver (s
         ≡ minus (number_sum (size + 1 + j) ss (slacks (size + 1) gs))
     generator_value_is j h = slack_of (rational_value (generator_at gs j).row (rational_map hs)) (number_sum (size + 1 + j) ss (slacks (size + 1) gs))
         (ap (λ y. plus (times x (integer y)) (plus (rational_value (generator_at gs j).row (rational_map hs))
-            (number_sum (size + 1 + j) ss (slacks (size + 1) gs))))
+        (number_sum (size + 1 + j) ss (slacks (size + 1) gs))))
         (sym (factor_at (size + 1 + j) ∙ with_end (coefficient left (size + 1 + j)) (pos 0) (pos 0)
-            (nat_eq (right_equation size gs) (size + 1 + j)) (neg_ℤ (pos 1)) (beyond left (size + 1 + j) l (omega arith))
-            (ne_eqb (right_equation size gs) (size + 1 + j) (λ e. omega (arith, e)))))
+        (nat_eq (right_equation size gs) (size + 1 + j)) (neg_ℤ (pos 1)) (beyond left (size + 1 + j) l (omega arith))
+        (ne_eqb (right_equation size gs) (size + 1 + j) (λ e. omega (arith, e)))))
         ∙ high_sum (size + 1 + j) (generator_at gs j).row (omega arith) (omega arith)
         (all_of (λ g. IsOver size g.row) gs (rows_of_space q.space.variables size q.constraints (omega arith) k.rows) j
         (record { kind = Inequality; row = [] }) h)
@@ -280,7 +285,7 @@ module _ (q : ProblemView) (left right : Terms) (k : IsProblem q) (l : IsOver (s
         ring ring_ℚ (rational_value left (rational_map hs) ∷ x ∷ []) (v 0) (S.plus (S.times (v 1) nil) (S.plus (v 0) nil)) refl
         ∙ ap₂ (λ y z. plus (times x (integer y)) (plus (rational_value left (rational_map hs)) z))
         (sym (factor_at e ∙ with_end (coefficient left e) (pos 0) (pos 0) (nat_eq (right_equation size gs) e) (neg_ℤ (pos 1))
-            (beyond left e l (omega arith)) (ne_eqb (right_equation size gs) e (λ f. omega (arith, f)))))
+        (beyond left e l (omega arith)) (ne_eqb (right_equation size gs) e (λ f. omega (arith, f)))))
         (sym (slacks_none e (λ j n f. omega (arith, n, f))))
         ∙ high_sum e left (omega arith) (omega arith) l (λ c a b. coordinate_at_left size gs left right c)
         ∙ ap integer (target_at e ∙ at_end (coefficient right e) (nat_eq (left_equation size gs) e) (pos 1) (beyond right e r (omega arith))
@@ -292,7 +297,7 @@ module _ (q : ProblemView) (left right : Terms) (k : IsProblem q) (l : IsOver (s
         let equation : plus (times x (integer (neg_ℤ (pos 1)))) (plus (rational_value right (rational_map hs)) (integer (pos 0))) ≡ integer (pos 0) =
         ap₂ (λ y z. plus (times x (integer y)) (plus (rational_value right (rational_map hs)) z))
         (sym (factor_at e ∙ at_end (coefficient left e) (nat_eq (right_equation size gs) e) (neg_ℤ (pos 1)) (beyond left e l (omega arith))
-            (eq-eqb (right_equation size gs) e refl)))
+        (eq-eqb (right_equation size gs) e refl)))
         (sym (slacks_none e (λ j n f. omega (arith, n, f))))
         ∙ high_sum e right (omega arith) (omega arith) r (λ c a b. coordinate_at_right size gs left right c)
         ∙ ap integer (target_at e ∙ with_end (coefficient right e) (pos 0) (pos 0) (nat_eq (left_equation size gs) e) (pos 1)

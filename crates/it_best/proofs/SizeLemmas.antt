@@ -105,9 +105,9 @@ size_is_counted q left right =
     let gs = generators q in
     let values = map (coordinate_unknown n size gs left right) (span 1 size) in
     let pieces : counted (map counterweight gs ++ (values ++ slacks (size + 1) gs))
-        ≡ counted (map counterweight gs) + (counted values + counted (slacks (size + 1) gs)) =
+    ≡ counted (map counterweight gs) + (counted values + counted (slacks (size + 1) gs)) =
     counted-append (map counterweight gs) (values ++ slacks (size + 1) gs)
-        ∙ ap (λ k. counted (map counterweight gs) + k) (counted-append values (slacks (size + 1) gs)) in
+    ∙ ap (λ k. counted (map counterweight gs) + k) (counted-append values (slacks (size + 1) gs)) in
     let all : length (columns (third q left right)) ≡ 2 + counted (map counterweight gs ++ (values ++ slacks (size + 1) gs))
-        = columns_counted (third q left right) in
+    = columns_counted (third q left right) in
     omega (arith, all, pieces, generators_counted (size + 1) gs, values_counted n size gs left right q.space.rates refl)

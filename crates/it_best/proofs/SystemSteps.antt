@@ -69,7 +69,7 @@ pub coordinate_done : (first c : ℕ) (rows : List Terms) (i : ℕ) (terms : Ter
     → terms ≡ coordinate_terms first gs c
 coordinate_done first c rows i terms h a gs e =
     piece_end terms (terms_of_rows (first + i) (drop i rows) c) (terms_of_rows first rows c)
-        (ap (λ rs. terms_of_rows (first + i) rs c) (drop_all i rows h)) a.same
+    (ap (λ rs. terms_of_rows (first + i) rs c) (drop_all i rows h)) a.same
     ∙ ap (λ rs. terms_of_rows first rs c) e ∙ rows_are_generators first gs c
 
 pub coordinate_within : (first c : ℕ) (rows : List Terms) (i : ℕ) (terms : Terms) → length rows ≤ i
@@ -85,8 +85,13 @@ coordinate_within first c rows i terms h a gs e j d l =
 pub ascends_more : (from e : ℕ) (x : ℤ) (row : Terms) → from ≤ e → All (λ t. t.0 < e) row → x ≢ pos 0 → IsWithin x → Ascends from row
     → Ascends from (row ++ (e, x) ∷ [])
 ascends_more from e x [] h a n w s = (h, n, w, tt)
-ascends_more from e x (t ∷ ts) h a n w s = (s.0, s.1, s.2, ascends_more (t.0 + 1) e x ts
-    (next t.0 (All-head (λ (t : ℕ × ℤ). t.0 < e) t ts a)) (All-tail (λ (t : ℕ × ℤ). t.0 < e) t ts a) n w s.3)
+ascends_more from e x (t ∷ ts) h a n w s = (
+  s.0,
+  s.1,
+  s.2,
+  ascends_more (t.0 + 1) e x ts
+      (next t.0 (All-head (λ (t : ℕ × ℤ). t.0 < e) t ts a)) (All-tail (λ (t : ℕ × ℤ). t.0 < e) t ts a) n w s.3,
+)
   where
     next : (c : ℕ) → c < e → c + 1 ≤ e
     next c h = omega arith
@@ -98,7 +103,7 @@ terms_ascend e [] c rest w s = ascends_lower e (e + 0) rest (omega arith) s
 terms_ascend e (g ∷ gs) c rest w s =
     subst (Ascends e) (sym (append_assoc (single_term e (coefficient g.row c)) (coordinate_terms (e + 1) gs c) rest))
     (ascends-single_term e e (coefficient g.row c) (coordinate_terms (e + 1) gs c ++ rest) (omega arith)
-        (All-head (λ (g : Generator). IsWithin (coefficient g.row c)) g gs w)
+    (All-head (λ (g : Generator). IsWithin (coefficient g.row c)) g gs w)
     (terms_ascend (e + 1) gs c rest (All-tail (λ (g : Generator). IsWithin (coefficient g.row c)) g gs w) (subst (λ n. Ascends n rest) (next e (length gs)) s)))
   where
     next : (e n : ℕ) → e + suc n ≡ e + 1 + n
@@ -110,7 +115,7 @@ row_ascends size gs left right c w l r =
     ascends_lower 0 (size + 1) (coordinate_row size gs left right c) (omega arith)
     (terms_ascend (size + 1) gs c (single_term (left_equation size gs) (coefficient left c) ++ single_term (right_equation size gs) (coefficient right c)) w
     (ascends-single_term (size + 1 + length gs) (left_equation size gs) (coefficient left c)
-        (single_term (right_equation size gs) (coefficient right c)) (omega arith) l
+    (single_term (right_equation size gs) (coefficient right c)) (omega arith) l
     (subst (Ascends (left_equation size gs + 1)) (Rattle.std.proofs.Common.append-nil (single_term (right_equation size gs) (coefficient right c)))
     (ascends-single_term (left_equation size gs + 1) (right_equation size gs) (coefficient right c) [] (omega arith) r tt))))
 
@@ -161,7 +166,7 @@ unfolding third_phase
 third_is n size gs left right row equation none one two three all e q z o a b d =
     let values = map (coordinate_unknown n size gs left right) (span 1 size) in
     d ∙ ap (λ us. us ++ slacks (size + 1) gs) (b ∙ ap (λ us. us ++ values)
-        (a ∙ ap (λ us. unknown_views us ++ map counterweight gs) (o ∙ ap (λ us. us ++ record { kind = Equation; row = row } ∷ []) z)))
+    (a ∙ ap (λ us. unknown_views us ++ map counterweight gs) (o ∙ ap (λ us. us ++ record { kind = Equation; row = row } ∷ []) z)))
     ∙ append_assoc (free_unknown row ∷ map counterweight gs) values (slacks (size + 1) gs)
     ∙ append_assoc (free_unknown row ∷ []) (map counterweight gs) (values ++ slacks (size + 1) gs)
     ∙ ap (λ ts. free_unknown ts ∷ (map counterweight gs ++ (values ++ slacks (size + 1) gs))) (e ∙ ap (λ m. left ++ (m, neg_ℤ (pos 1)) ∷ []) q)

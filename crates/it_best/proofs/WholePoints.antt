@@ -73,7 +73,7 @@ module _ (m : ℕ) (us : List Generator) (target : Terms) (qs : List Rational) (
       × (is_at_least_zero (rational_value target (rational_map qs)) ≡ false)
   apart = point_separates (span 1 m) (spans_apart m) (columns us) target qs (rational_map qs)
       (λ j l. all_of (λ (t : ℕ × ℤ). In (span 1 m) t.0) (get_or (columns us) j [])
-          (all_of (λ (r : Terms). Every (λ (t : ℕ × ℤ). In (span 1 m) t.0) r) (columns us) columns_in_span j [] l))
+      (all_of (λ (r : Terms). Every (λ (t : ℕ × ℤ). In (span 1 m) t.0) r) (columns us) columns_in_span j [] l))
       (all_of (λ (t : ℕ × ℤ). In (span 1 m) t.0) target (row_in_span m target t_up)) map_at s
 
   scaled_row : (row : Terms) → Every (λ (t : ℕ × ℤ). integer (point_of (scaled_point qs) t.0) ≡ times (integer (pos (scale_of qs))) (rational_map qs t.0)) row
@@ -84,7 +84,7 @@ module _ (m : ℕ) (us : List Generator) (target : Terms) (qs : List Rational) (
   unknowns_met = columns_met us (point_of (scaled_point qs)) (every_of (λ r. pos 0 ≤ℤ value r (point_of (scaled_point qs))) (columns us)
       (λ j d l. subst (λ r. pos 0 ≤ℤ value r (point_of (scaled_point qs))) (get_or_default (columns us) j [] d l)
       (least_scaled (scale_of qs) (point_of (scaled_point qs)) (rational_map qs) (scale_pos qs) (get_or (columns us) j [])
-          (scaled_row (get_or (columns us) j [])) (apart.0 j l))))
+      (scaled_row (get_or (columns us) j [])) (apart.0 j l))))
 
   pub target_below : value target (point_of (scaled_point qs)) ≤ℤ neg_ℤ (pos 1)
   target_below = below_scaled (scale_of qs) (point_of (scaled_point qs)) (rational_map qs) (scale_pos qs) target (scaled_row target) apart.1

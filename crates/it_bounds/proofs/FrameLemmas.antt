@@ -20,6 +20,6 @@ module _ (limits : Limits) (q : BodyView) (k : IsQuestion q) (few_rows : limits.
       → AreMade (hull_frame limits.rows q) limits.effort (first_rows (kept_rates q (gone_rates q.verb))) rays steps
   own_steps rays steps a =
       subst (λ (ks : List ℕ). AreMade (hull_frame limits.rows q) limits.effort (first_rows ks) rays steps)
-          (same_kept limits.rows q k few_rows gone_are s gone kept space asked stay)
+      (same_kept limits.rows q k few_rows gone_are s gone kept space asked stay)
       (subst (λ (f : Frame). AreMade f limits.effort (first_rows kept) rays steps)
-          (same_frame limits.rows q k few_rows gone_are s gone kept space asked stay) a)
+      (same_frame limits.rows q k few_rows gone_are s gone kept space asked stay) a)

@@ -63,7 +63,7 @@ pub rays_done : (k : ℕ) (v w : NamesView) (kept own : List ℕ) (rays : List (
     → out ++ flat_map (ray_line k v kept) (drop i rays) ≡ initial ++ flat_map (ray_line k v kept) rays → out ≡ initial ++ flat_map (ray_line k w own) rays
 rays_done k v w kept own rays i out initial same is l now =
     sym (append-nil out) ∙ ap (λ ps. out ++ flat_map (ray_line k v kept) ps) (sym (drop_all i rays l)) ∙ now
-        ∙ ap₂ (λ (x : NamesView) (cs : List ℕ). initial ++ flat_map (ray_line k x cs) rays) same is
+    ∙ ap₂ (λ (x : NamesView) (cs : List ℕ). initial ++ flat_map (ray_line k x cs) rays) same is
 
 -- ---- the lines of a bound
 
@@ -74,7 +74,7 @@ pub bounds_text : (q : BodyView) (constraints : List Constraint) (k : ℕ) (rows
 unfolding bounds_lines
 bounds_text q constraints k rows rs proofs ws rays ps e f g =
     ap (λ (xs : List (Mark × Terms)). count_line k (length xs) (length ps) ++ row_lines q constraints k xs ws
-        ++ flat_map (ray_line k (problem_names q) (told_rates q)) ps) e
+    ++ flat_map (ray_line k (problem_names q) (told_rates q)) ps) e
     ∙ ap (λ (xs : List Certificate). count_line k (length rows) (length ps) ++ row_lines q constraints k rows xs
     ++ flat_map (ray_line k (problem_names q) (told_rates q)) ps) f
     ∙ ap (λ (xs : List (List ℤ)). count_line k (length rows) (length xs) ++ row_lines q constraints k rows proofs

@@ -94,7 +94,7 @@ marked_are_needed givens kept n before after row e =
     let s = split_marked kept before after marks.Needed row e in
     let needs = needed_mark s.need s.mark_is in
     let separates = subst (λ (x : NeedView). IsNeeded givens (kept_rows s.first ++ kept_rows s.last) (row, x)) needs.1
-        (n s.first s.last (row, s.need) s.kept_is) in
+    (n s.first s.last (row, s.need) s.kept_is) in
     subst (λ (rs : List Terms). IsNeededBeside rs row)
     (ap₂ (λ (xs ys : List Terms). xs ++ ys) (sym (ap region_rows s.first_is ∙ rows_of_marked s.first)) (sym (ap region_rows s.last_is ∙ rows_of_marked s.last)))
     (record { rates = point_of needs.0; others_hold = separates.others_hold; violated = separates.violated })
@@ -106,8 +106,13 @@ marked_by_needs s effort rows kept dropped none red needed =
     let same : region_rows (marked_rows kept) ≡ rows = rows_of_marked kept ∙ all_stay (constants s) effort [] rows kept dropped none red in
     record {
       same = same;
-      ends = (kept, [], subst (λ (rs : List Terms). Reduces (constants s) effort [] rs kept []) (sym same)
-          (subst (λ (ds : List (Terms × CertificateView)). Reduces (constants s) effort [] rows kept ds) none red), refl);
+      ends = (
+        kept,
+        [],
+        subst (λ (rs : List Terms). Reduces (constants s) effort [] rs kept []) (sym same)
+            (subst (λ (ds : List (Terms × CertificateView)). Reduces (constants s) effort [] rows kept ds) none red),
+        refl,
+      );
       needed = marked_are_needed (constants s) kept needed;
     }
 
@@ -129,7 +134,7 @@ none_needed : (rows : List (Mark × Terms)) → All (λ row. row.0 ≡ marks.Uns
 none_needed rows u before after row e =
     let own : marks.Needed ≡ marks.Unsettled = All-head (λ (r : Mark × Terms). r.0 ≡ marks.Unsettled) (marks.Needed, row) after
     (all_back (λ (r : Mark × Terms). r.0 ≡ marks.Unsettled) before ((marks.Needed, row) ∷ after)
-        (subst (λ (rs : List (Mark × Terms)). All (λ r. r.0 ≡ marks.Unsettled) rs) e u)) in
+    (subst (λ (rs : List (Mark × Terms)). All (λ r. r.0 ≡ marks.Unsettled) rs) e u)) in
     absurd (cc)
 
 pub marked_unsettled : (s : Space) (effort : Effort) (rows : List Terms) (kept : List (Terms × NeedView))
@@ -138,8 +143,13 @@ pub marked_unsettled : (s : Space) (effort : Effort) (rows : List Terms) (kept :
 marked_unsettled s effort rows kept [] some red = absurd (some refl)
 marked_unsettled s effort rows kept (d ∷ dropped) some red = record {
   same = rows_unsettled rows;
-  ends = (kept, d ∷ dropped, subst (λ (rs : List Terms). Reduces (constants s) effort [] rs kept (d ∷ dropped))
-      (sym (rows_unsettled rows)) red, are_unsettled rows);
+  ends = (
+    kept,
+    d ∷ dropped,
+    subst (λ (rs : List Terms). Reduces (constants s) effort [] rs kept (d ∷ dropped))
+        (sym (rows_unsettled rows)) red,
+    are_unsettled rows,
+  );
   needed = none_needed (all_unsettled rows) (are_unsettled rows);
 }
 
@@ -156,8 +166,8 @@ same_unsettled ((m, r) ∷ xs) ((n, t) ∷ ys) e a b =
     let row_is : r ≡ t = cc in
     ap₂ (λ (z : Mark × Terms) (zs : List (Mark × Terms)). z ∷ zs) (ap₂ (λ (k : Mark) (w : Terms). (k, w)) (m_is ∙ sym n_is) row_is)
     (same_unsettled xs ys (let k : region_rows xs ≡ region_rows ys = cc in k)
-        (All-tail (λ (row : Mark × Terms). row.0 ≡ marks.Unsettled) (m, r) xs a)
-        (All-tail (λ (row : Mark × Terms). row.0 ≡ marks.Unsettled) (n, t) ys b))
+    (All-tail (λ (row : Mark × Terms). row.0 ≡ marks.Unsettled) (m, r) xs a)
+    (All-tail (λ (row : Mark × Terms). row.0 ≡ marks.Unsettled) (n, t) ys b))
 
 -- ---- what a reduction gives
 
@@ -185,7 +195,7 @@ module _ (s : Space) (effort : Effort) (q : ProblemView) (rows own : List Terms)
       → marked ≡ marked_rows (kept_view r) → AreMarked s effort rows marked
   marked_where_none needed none marked are = subst (λ (ms : List (Mark × Terms)). AreMarked s effort rows ms) (sym are)
       (marked_by_needs s effort rows (kept_view r) (dropped_view r) (no_items (dropped_view r) (length-map r.dropped.items _ ∙ none))
-          reduces_constants (subst (λ (p : ProblemView). AreNeeded p (kept_view r)) is needed))
+      reduces_constants (subst (λ (p : ProblemView). AreNeeded p (kept_view r)) is needed))
     where
       no_items : {A : Type 0} (xs : List A) → length xs ≡ 0 → xs ≡ []
       no_items [] e = refl

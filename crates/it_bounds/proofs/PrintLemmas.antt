@@ -73,8 +73,8 @@ rows_of_names : (v : NamesView) (rows : List (Mark × Terms)) → All (IsOver (s
 rows_of_names v rows over = All-weaker (λ (row : Mark × Terms). IsOver (size_of (space_of v)) row.1)
     (λ (row : Mark × Terms). IsRowOver v row.1) (λ row u. row_of_names v row.1 u) rows
     (all_of (λ (row : Mark × Terms). IsOver (size_of (space_of v)) row.1) rows
-        (every_mapped (IsOver (size_of (space_of v))) (λ row. row.1) rows (every_of (IsOver (size_of (space_of v)))
-        (region_rows rows) over)))
+    (every_mapped (IsOver (size_of (space_of v))) (λ row. row.1) rows (every_of (IsOver (size_of (space_of v)))
+    (region_rows rows) over)))
 
 -- ---- replies
 
@@ -93,7 +93,7 @@ module _ (q : BodyView) (p : ProblemView) (posed : IsProblemOf (under_all_lines 
       → IsCausePrintable (problem_names q) cause
   cause_printable (causes.Run row cause) e =
       let r = cause_over p gone limits posed.limits (rates_within q p posed limits gone k few_rows asked)
-          (eliminated_rates q gone k asked).some few_rows row cause e in
+      (eliminated_rates q gone k asked).some few_rows row cause e in
       (row_of_names (problem_names q) row (at_names (λ s. IsOver (size_of s) row) r.0), r.1)
   cause_printable causes.Rows e = tt
   cause_printable causes.Width e = tt
@@ -107,7 +107,7 @@ module _ (q : BodyView) (p : ProblemView) (posed : IsProblemOf (under_all_lines 
         (eliminated_rates q gone k asked).some few_rows (region_rows rows.items) _ _ b.ends).0),
     at_names (λ s. AreListed s.variables (length p.constraints) proofs.items)
         (all_of (λ (c : Certificate). All (λ w. w.0 < length (elementals p.space.variables) + length p.constraints) c.weights.items)
-            proofs.items (listed_all p (region_rows rows.items) proofs.items b.bounds.certified)),
+        proofs.items (listed_all p (region_rows rows.items) proofs.items b.bounds.certified)),
     All-weaker (IsRay p) (λ (values : List ℤ). length values ≡ size_of (space_of (problem_names q)))
         (λ values r. r.complete ∙ ap size_of own_space) rays.items b.bounds.attained,
   )

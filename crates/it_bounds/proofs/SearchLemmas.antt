@@ -121,7 +121,7 @@ kept_few : (givens : ProblemView) (effort : Effort) (before rows : List Terms) (
 kept_few givens effort before [] kept dropped (none, gone) = subst (λ (ks : List (Terms × NeedView)). length (kept_rows ks) ≤ 0) (sym none) (omega arith)
 kept_few givens effort before (row ∷ rows) kept dropped (o, k, d, ends, is, gone, rest) =
     subst (λ (ks : List (Terms × NeedView)). length (kept_rows ks) ≤ suc (length rows)) (sym is)
-        (by_outcome o (kept_few givens effort (before ++ kept_rows (kept_by row o)) rows k d rest))
+    (by_outcome o (kept_few givens effort (before ++ kept_rows (kept_by row o)) rows k d rest))
   where
     by_outcome : (o : ProofView) → length (kept_rows k) ≤ length rows → length (kept_rows (kept_by row o ++ k)) ≤ suc (length rows)
     by_outcome (proofs.Yes w) l = omega (arith, l)
@@ -186,7 +186,7 @@ module _ (p : ProblemView) (gone : List ℕ) (limits : Limits) (h : IsProblem p)
       → SearchEnds (search_without p gone limits) (Bounds rows ws rays) → All (IsOver (size_of p.space)) rows × (length rows ≤ 65535)
   bounds_over rows ws rays e =
       let f = bounds_few (search_without p gone limits) (without_is_search p gone limits h within some few_rows)
-          (few_rates_kept p.space gone h.space.few_rates) rows ws rays e in (f.over, f.few)
+      (few_rates_kept p.space gone h.space.few_rates) rows ws rays e in (f.over, f.few)
 
   pub cause_over : (row : Terms) (cause : Cause) → SearchEnds (search_without p gone limits) (Undecided (Run row cause))
       → IsOver (size_of p.space) row × IsOfRun cause

@@ -54,14 +54,14 @@ row_stays : (stayed : ℕ) (row : Terms) (rows : List Terms) (dropped : List (Te
 row_stays stayed row rows [] e = sym (none_numbered (stayed + 1) rows)
 row_stays stayed row rows (d ∷ dropped) e =
     ap (λ b. if b then record { row = stayed; proof = certificate_view d.1 } ∷ numbered_drops stayed rows (certified dropped)
-        else numbered_drops (stayed + 1) rows (certified (d ∷ dropped))) e
+    else numbered_drops (stayed + 1) rows (certified (d ∷ dropped))) e
 
 row_goes : (stayed : ℕ) (row : Terms) (rows : List Terms) (d : Terms × Certificate) (dropped : List (Terms × Certificate)) → is_same row d.0 ≡ true
     → numbered_drops stayed (row ∷ rows) (certified (d ∷ dropped)) ≡ record { row = stayed; proof = certificate_view d.1 }
     ∷ numbered_drops stayed rows (certified dropped)
 row_goes stayed row rows d dropped e =
     ap (λ b. if b then record { row = stayed; proof = certificate_view d.1 } ∷ numbered_drops stayed rows (certified dropped)
-        else numbered_drops (stayed + 1) rows (certified (d ∷ dropped))) e
+    else numbered_drops (stayed + 1) rows (certified (d ∷ dropped))) e
 
 -- where a row is the first of the dropped ones, there is one
 first_is_there : (row : Terms) (n : ℕ) (dropped : List (Terms × Certificate)) → goes_first row (drop n dropped) ≡ true → n < length dropped
@@ -121,7 +121,7 @@ module _ (rows : List Terms) (dropped : List (Terms × Certificate)) (i : ℕ) (
             (certified (drop (length (drops ++ gone ∷ [])) dropped)) ≡ numbered_drops 0 rows (certified dropped)
         rest_goes =
             ap₂ (λ (vs : List DropView) (k : ℕ). vs ++ numbered_drops ((i + 1) - k) (drop (i + 1) rows) (certified (drop k dropped)))
-                (map-append drop_view drops (gone ∷ [])) counted
+            (map-append drop_view drops (gone ∷ [])) counted
             ∙ ap (λ k. (map drop_view drops ++ drop_view gone ∷ []) ++ numbered_drops k (drop (i + 1) rows) (certified later))
             (let few = u.few in let k : (i + 1) - (length drops + 1) ≡ i - length drops = omega (arith, few) in k)
             ∙ append_assoc (map drop_view drops) (drop_view gone ∷ []) (numbered_drops (i - length drops) (drop (i + 1) rows) (certified later))
@@ -137,7 +137,7 @@ module _ (rows : List Terms) (dropped : List (Terms × Certificate)) (i : ℕ) (
           → goes_first row (drop n dropped) ≡ true → AreNumbered rows dropped (i + 1) more
       numbered_goes d proof more at_n same are e = subst (λ (ds : List RowDrop). AreNumbered rows dropped (i + 1) ds) (sym are)
           (goes_so d (record { row = i - n; proof = proof }) (subst (λ (k : ℕ). d ≡ get_or dropped k d) counts at_n)
-              (subst (λ (k : ℕ). goes_first row (drop k dropped) ≡ true) counts e)
+          (subst (λ (k : ℕ). goes_first row (drop k dropped) ≡ true) counts e)
           (ap₂ (λ (k : ℕ) (w : CertificateView). viewed (i - k) w) counts same))
         where
           viewed : ℕ → CertificateView → DropView
@@ -204,10 +204,10 @@ made_rows : (f : Frame) (effort : Effort) (rows : List Terms) (ray : List ℤ) (
     → IsMadeStep f effort rows ray (Some made) → AreHullRows f made.rows.items
 made_rows f effort rows ray made h a (Region next, ends, (kept, dropped, red, same)) = subst (λ (rs : List Terms). AreHullRows f rs)
     (sym (ap (λ (m : MadeStep). m.rows) is_made)) (record {
-  over = all_kept (constants f.space) effort (IsOver (size_of f.space)) [] next kept dropped red (few_next f h rows next ray a.over ends).over;
-  free = all_kept (constants f.space) effort (λ (row : Terms). coefficient row (2 ^ f.space.variables + f.spare) ≡ pos 0) [] next kept
-      dropped red (next_free (2 ^ f.space.variables) f.rows ray f.spare rows next ends);
-})
+      over = all_kept (constants f.space) effort (IsOver (size_of f.space)) [] next kept dropped red (few_next f h rows next ray a.over ends).over;
+      free = all_kept (constants f.space) effort (λ (row : Terms). coefficient row (2 ^ f.space.variables + f.spare) ≡ pos 0) [] next kept
+          dropped red (next_free (2 ^ f.space.variables) f.rows ray f.spare rows next ends);
+    })
   where
     is_made : made_view made ≡ record { step = record { ray = ray; drops = numbered_drops 0 next dropped }; rows = kept_rows kept }
     is_made = cc
@@ -217,13 +217,21 @@ made_rows f effort rows ray made h a (Wide rate, ends, same) = absurd (cc)
 -- where a ray leaves no rows there is no step
 pub none_by_rows : (f : Frame) (effort : Effort) (rows : List Terms) (ray : List ℤ) (e : Eliminated) (rate : ℕ) → e ≡ eliminated.Rows rate
     → RayEnds (2 ^ f.space.variables) f.rows ray f.spare rows (eliminated_view e) → IsMadeStep f effort rows ray None
-none_by_rows f effort rows ray e rate is ends = (Rows rate, subst (λ (x : Eliminated). RayEnds
-    (2 ^ f.space.variables) f.rows ray f.spare rows (eliminated_view x)) is ends, refl)
+none_by_rows f effort rows ray e rate is ends = (
+  Rows rate,
+  subst (λ (x : Eliminated). RayEnds
+      (2 ^ f.space.variables) f.rows ray f.spare rows (eliminated_view x)) is ends,
+  refl,
+)
 
 pub none_by_width : (f : Frame) (effort : Effort) (rows : List Terms) (ray : List ℤ) (e : Eliminated) (rate : ℕ) → e ≡ eliminated.Wide rate
     → RayEnds (2 ^ f.space.variables) f.rows ray f.spare rows (eliminated_view e) → IsMadeStep f effort rows ray None
-none_by_width f effort rows ray e rate is ends = (Wide rate, subst (λ (x : Eliminated). RayEnds
-    (2 ^ f.space.variables) f.rows ray f.spare rows (eliminated_view x)) is ends, refl)
+none_by_width f effort rows ray e rate is ends = (
+  Wide rate,
+  subst (λ (x : Eliminated). RayEnds
+      (2 ^ f.space.variables) f.rows ray f.spare rows (eliminated_view x)) is ends,
+  refl,
+)
 
 -- ---- the loop over rays
 

@@ -82,4 +82,4 @@ pub one_right_told : OneRightTold
 one_right_told report limits q a b defined h k =
     let same : b.reply ≡ a.reply = one_right_reply limits q b.reply a.reply defined k.reply h.reply in
     ap₂ told_of (sym same) (one_steps report limits q a.reply a.steps b.steps defined h.steps
-        (subst (λ (r : ReplyView). AreToldSteps report limits q r b.steps) same k.steps))
+    (subst (λ (r : ReplyView). AreToldSteps report limits q r b.steps) same k.steps))

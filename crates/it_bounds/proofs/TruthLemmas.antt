@@ -33,7 +33,7 @@ module _ (q : BodyView) (p : ProblemView) (posed : IsProblemOf (under_all_lines 
       → ShowsBounds q gone rows ws rays → AreExactBounds q gone (region_rows rows) rays
   exact_bounds gone rows ws rays s = hull_is_exact q p gone (region_rows rows) rays posed s.hull
       (all_of (λ (row : Terms). (x : ℕ → ℤ) → MeetsProblem p x → pos 0 ≤ℤ value row x) (region_rows rows)
-          (rows_hold (region_rows rows) ws s.certified)) s.attained
+      (rows_hold (region_rows rows) ws s.certified)) s.attained
 
   true_reply : (reply : ReplyView) → ShowsReply q reply → IsTrueReply q reply
   true_reply (Bounded rows ws rays) (gone, asked, s) = (gone, asked, exact_bounds gone rows ws rays s, s.needed)
@@ -44,4 +44,4 @@ module _ (q : BodyView) (p : ProblemView) (posed : IsProblemOf (under_all_lines 
 pub what_is_shown_is_true : WhatIsShownIsTrue
 what_is_shown_is_true = each_question (λ q. (reply : ReplyView) → ShowsReply q.body reply → IsTrueReply q.body reply)
     (λ q k small. true_reply q.body (problem_of (under_all_lines q.body))
-        (question_poses (under_all_lines q.body) (all_lines_question q.body k) (small.0, (tt, tt))))
+    (question_poses (under_all_lines q.body) (all_lines_question q.body k) (small.0, (tt, tt))))

@@ -27,9 +27,9 @@ one_marking : (s : Space) (effort : Effort) (xs ys : List (Mark × Terms)) → e
     → MarksEnd s effort xs → MarksEnd s effort ys → xs ≡ ys
 one_marking s effort xs ys defined same (kept, dropped, red, after) (others, gone, more, other_after) =
     let one = one_reduction (constants s) effort [] (region_rows xs) kept others dropped gone defined red
-        (subst (λ (rs : List Terms). Reduces (constants s) effort [] rs others gone) (sym same) more) in
+    (subst (λ (rs : List Terms). Reduces (constants s) effort [] rs others gone) (sym same) more) in
     by_dropped dropped after (subst (λ (ds : List (Terms × CertificateView)). MarkedAfter ys kept ds) (sym one.1)
-        (subst (λ (ks : List (Terms × NeedView)). MarkedAfter ys ks gone) (sym one.0) other_after))
+    (subst (λ (ks : List (Terms × NeedView)). MarkedAfter ys ks gone) (sym one.0) other_after))
   where
     by_dropped : (ds : List (Terms × CertificateView)) → MarkedAfter xs kept ds → MarkedAfter ys kept ds → xs ≡ ys
     by_dropped [] a b = a ∙ sym b
@@ -56,8 +56,8 @@ module _ (limits : Limits) (q : BodyView) (gone : List ℕ) (defined : limits.ef
       let same = same_rows (region_rows xs) (region_rows ys) ws vs ps qs (one_end _ _ e f) in
       let marked : xs ≡ ys = one_marking _ limits.effort xs ys defined same.0 m n in
       subst (λ (z : List (Mark × Terms)). Bounded xs ws ps ≡ Bounded z vs qs) marked
-          (subst (λ (z : List CertificateView). Bounded xs ws ps ≡ Bounded xs z qs) same.1
-          (ap (λ (z : List (List ℤ)). Bounded xs ws z) same.2))
+      (subst (λ (z : List CertificateView). Bounded xs ws ps ≡ Bounded xs z qs) same.1
+      (ap (λ (z : List (List ℤ)). Bounded xs ws z) same.2))
   one_bound (Bounded xs ws ps) (Undecided cause) (small, e, m) (other_small, f) = absurd (not_undecided (region_rows xs) ws ps cause (one_end _ _ e f))
   one_bound (Bounded xs ws ps) Size (small, e, m) large = absurd (large small)
   one_bound (Bounded xs ws ps) Other a b = absurd b

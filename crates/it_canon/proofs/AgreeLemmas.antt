@@ -17,16 +17,16 @@ module _ (common rates n m : ℕ) (p q : ℕ → ℤ) (h : AgreeOnCommon common 
   atom_same (Entropy of given) k = ap₂ (λ x y. x -ℤ y) (h.on_sets (bit_or of given) (or_lt common of given k.0 k.1)) (h.on_sets given k.1)
   atom_same (Mutual left right given) k = ap₂ (λ x y. x -ℤ y)
       (ap₂ (λ x y. x +ℤ y) (h.on_sets (bit_or left given) (or_lt common left given k.0 k.2))
-          (h.on_sets (bit_or right given) (or_lt common right given k.1 k.2)))
+      (h.on_sets (bit_or right given) (or_lt common right given k.1 k.2)))
       (ap₂ (λ x y. x +ℤ y) (h.on_sets (bit_or (bit_or left right) given) (or_lt common (bit_or left right) given
-          (or_lt common left right k.0 k.1) k.2)) (h.on_sets given k.2))
+      (or_lt common left right k.0 k.1) k.2)) (h.on_sets given k.2))
   atom_same (Rate r) k = h.on_rates r k
 
   side_same : (k : ℕ) (ts : List Term) → All (λ t. IsAtomOf common rates t.atom) ts → side_at m q k ts ≡ side_at n p k ts
   side_same k [] a = refl
   side_same k (t ∷ ts) a = ap₂ (λ x y. cond t.negative (neg_ℤ (pos (multiplicity k t))) (pos (multiplicity k t)) *ℤ x +ℤ y)
       (atom_same t.atom (All-head (λ (t : Term). IsAtomOf common rates t.atom) t ts a))
-          (side_same k ts (All-tail (λ (t : Term). IsAtomOf common rates t.atom) t ts a))
+      (side_same k ts (All-tail (λ (t : Term). IsAtomOf common rates t.atom) t ts a))
 
   pub holds_same : (r : RelationView) → IsRelationOf common rates r → Holds n p r → Holds m q r
   holds_same r k t = subst₂ (λ (x y : ℤ). Relates r.sign x y) (sym (side_same (common_denominator r) r.left k.left))
@@ -45,9 +45,9 @@ module _ (common rates n m : ℕ) (p q : ℕ → ℤ) (h : AgreeOnCommon common 
       let link : Atom = Mutual past next here in
       All-cons (λ link. atom_at m q link ≡ pos 0) link (links_from (bit_or past here) (next ∷ sets))
       (zero_same link (l, All-head (λ s. s < 2 ^ common) next sets after, here_lt)
-          (All-head (λ link. atom_at n p link ≡ pos 0) link (links_from (bit_or past here) (next ∷ sets)) t))
+      (All-head (λ link. atom_at n p link ≡ pos 0) link (links_from (bit_or past here) (next ∷ sets)) t))
       (links_same (bit_or past here) (next ∷ sets) (or_lt common past here l here_lt) after
-          (All-tail (λ link. atom_at n p link ≡ pos 0) link (links_from (bit_or past here) (next ∷ sets)) t))
+      (All-tail (λ link. atom_at n p link ≡ pos 0) link (links_from (bit_or past here) (next ∷ sets)) t))
 
   all_links_same : (sets : List ℕ) → All (λ s. s < 2 ^ common) sets → All (λ link. atom_at n p link ≡ pos 0) (links sets)
       → All (λ link. atom_at m q link ≡ pos 0) (links sets)

@@ -106,10 +106,10 @@ module _ (n m : ℕ) where
       let times : ℕ = multiplicity k t in
       let x : ℤ = cond t.negative (neg_ℤ (pos times)) (pos times) in
       form_same last_coordinate (4 * unsigned_abs x + length ts * 2 ^ 98) (length (t ∷ ts) * 2 ^ 98)
-          (λ p. x *ℤ atom_at n p t.atom +ℤ side_at n p k ts) (λ p. side_at n p k (t ∷ ts))
-          (omega (arith, signed-small t.negative times (times-small t.number k t.denominator b.0 l))) (λ p. refl)
+      (λ p. x *ℤ atom_at n p t.atom +ℤ side_at n p k ts) (λ p. side_at n p k (t ∷ ts))
+      (omega (arith, signed-small t.negative times (times-small t.number k t.denominator b.0 l))) (λ p. refl)
       (form-add last_coordinate (4 * unsigned_abs x) (length ts * 2 ^ 98) (λ p. x *ℤ atom_at n p t.atom) (λ p. side_at n p k ts)
-          (atom_up_to x t.atom a.0) (side_up_to k l ts a.1 b.1))
+      (atom_up_to x t.atom a.0) (side_up_to k l ts a.1 b.1))
 
   plus_negation : (x y : ℤ) → x +ℤ neg_ℤ y ≡ x -ℤ y
   plus_negation x y = omega (arith, ints)
@@ -118,12 +118,12 @@ module _ (n m : ℕ) where
   difference_up_to r h k =
       let both = common_denominator r in
       form_same last_coordinate (length r.left * 2 ^ 98 + length r.right * 2 ^ 98) (2 ^ 106)
-          (λ p. side_at n p both r.left +ℤ neg_ℤ (side_at n p both r.right)) (λ p. difference_at n p r) (omega (arith, h.few))
-          (λ p. plus_negation (side_at n p both r.left) (side_at n p both r.right))
+      (λ p. side_at n p both r.left +ℤ neg_ℤ (side_at n p both r.right)) (λ p. difference_at n p r) (omega (arith, h.few))
+      (λ p. plus_negation (side_at n p both r.left) (side_at n p both r.right))
       (form-add last_coordinate (length r.left * 2 ^ 98) (length r.right * 2 ^ 98) (λ p. side_at n p both r.left) (negation (λ p. side_at n p both r.right))
       (side_up_to both h.small_multiple r.left (every_of (λ (t : Term). IsAtomOf n m t.atom) r.left h.left) k.0)
       (form-negation last_coordinate (length r.right * 2 ^ 98) (λ p. side_at n p both r.right)
-          (side_up_to both h.small_multiple r.right (every_of (λ (t : Term). IsAtomOf n m t.atom) r.right h.right) k.1)))
+      (side_up_to both h.small_multiple r.right (every_of (λ (t : Term). IsAtomOf n m t.atom) r.right h.right) k.1)))
 
   -- each side alone
   pub sides_up_to : (r : RelationView) → IsRelationOf n m r → HasSmallNumbers r
@@ -180,7 +180,7 @@ module _ (n m : ℕ) where
       (λ p. atom_at n p (Entropy x given) +ℤ sum_of_conditionals n p xs given) (λ p. sum_of_conditionals n p (x ∷ xs) given) (omega arith)
       (λ p. refl)
       (form-add last_coordinate 4 (length xs * 4) (λ p. atom_at n p (Entropy x given)) (λ p. sum_of_conditionals n p xs given)
-          (once_up_to (Entropy x given) (a.0, h)) (sum_up_to xs given h a.1))
+      (once_up_to (Entropy x given) (a.0, h)) (sum_up_to xs given h a.1))
 
   independence_up_to : (members : List ℕ) (given : ℕ) → AreSetsOf n 2 16 members → given < 2 ^ n
       → IsFormUpTo last_coordinate (2 ^ 106) (independence_form n members given)
@@ -188,18 +188,21 @@ module _ (n m : ℕ) where
       let all = every_of (λ (s : ℕ). s < 2 ^ n) members h.within in
       let joint : Atom = Entropy (union_of members) given in
       form_same last_coordinate (length members * 4 + 4) (2 ^ 106) (λ p. sum_of_conditionals n p members given +ℤ neg_ℤ (atom_at n p joint))
-          (independence_form n members given) (omega (arith, h.few)) (λ p. plus_negation (sum_of_conditionals n p members given)
-          (atom_at n p joint))
+      (independence_form n members given) (omega (arith, h.few)) (λ p. plus_negation (sum_of_conditionals n p members given)
+      (atom_at n p joint))
       (form-add last_coordinate (length members * 4) 4 (λ p. sum_of_conditionals n p members given) (negation (λ p. atom_at n p joint))
-          (sum_up_to members given k all)
+      (sum_up_to members given k all)
       (form-negation last_coordinate 4 (λ p. atom_at n p joint) (once_up_to joint (union_below n members h.within, k))))
 
   given_up_to : (g : GivenView) → IsGivenOf n g → GivenHasSmallNumbers g → AreDemandsUpTo (demands n g)
   given_up_to (Relation r) h k = (relation_up_to r (more_rates n m r h) k, tt)
   given_up_to (Markov sets) h k = chain_up_to sets (every_of (λ (s : ℕ). s < 2 ^ n) sets h.within)
   given_up_to (Independent members given) h k = (independence_up_to members given h.0 h.1, tt)
-  given_up_to (Function value argument) h k = (form_same last_coordinate 4 (2 ^ 106) (λ p. atom_at n p (Entropy value argument))
-      (λ p. atom_at n p (Entropy value argument)) (omega arith) (λ p. refl) (once_up_to (Entropy value argument) h), tt)
+  given_up_to (Function value argument) h k = (
+    form_same last_coordinate 4 (2 ^ 106) (λ p. atom_at n p (Entropy value argument))
+        (λ p. atom_at n p (Entropy value argument)) (omega arith) (λ p. refl) (once_up_to (Entropy value argument) h),
+    tt,
+  )
 
   -- ---- lines
 

@@ -90,16 +90,18 @@ module _ (q : BodyView) (k : IsQuestion q) (small : QuestionHasSmallNumbers q) w
           let m = length first.names.rates in
           lines_up_to n m (lines_with q.lines first)
           (every-append (IsGivenOf n) q.lines.givens first.lines.givens (every_of (IsGivenOf n) q.lines.givens givens)
-              (every_of (IsGivenOf n) first.lines.givens over.0.lines.givens))
+          (every_of (IsGivenOf n) first.lines.givens over.0.lines.givens))
           (every-append (IsRelationOf n m) q.lines.rows first.lines.rows (every_of (IsRelationOf n m) q.lines.rows rows)
-              (every_of (IsRelationOf n m) first.lines.rows over.0.lines.rows))
-          (every-append GivenHasSmallNumbers q.lines.givens first.lines.givens small.0.0 counts.0.0, every-append HasSmallNumbers
-              q.lines.rows first.lines.rows small.0.1 counts.0.1)
+          (every_of (IsRelationOf n m) first.lines.rows over.0.lines.rows)) (
+            every-append GivenHasSmallNumbers q.lines.givens first.lines.givens small.0.0 counts.0.0,
+            every-append HasSmallNumbers
+                q.lines.rows first.lines.rows small.0.1 counts.0.1,
+          )
 
   pub question_poses : IsProblemOf q (problem_of q)
   question_poses =
       let cs = constraints_there own_space (space_is q k) (question_origins q) (question_demands q)
-          (origins_length (variable_count q) (problem_lines q)) problem_up_to in
+      (origins_length (variable_count q) (problem_lines q)) problem_up_to in
       let p : ProblemView = record { space = own_space; constraints = cs.0 } in
       let is : IsProblemOf q p = record { space = refl; limits = question_problem q p k refl cs.1; constraints = cs.1 } in
       subst (IsProblemOf q) (one_problem q p is) is
@@ -110,9 +112,9 @@ module _ (q : BodyView) (k : IsQuestion q) (small : QuestionHasSmallNumbers q) w
   relation_rows r about =
       let own : IsRelationOf (length q.names.variables) (length q.names.rates) r = subst (IsVerbOver q.names) about k.verb in
       let over : IsRelationOf own_space.variables own_space.rates r = subst
-          (λ (v : NamesView). IsRelationOf (length v.variables) (length v.rates) r) (sym (ap (names_under q.names) about)) own in
+      (λ (v : NamesView). IsRelationOf (length v.variables) (length v.rates) r) (sym (ap (names_under q.names) about)) own in
       let rows = rows_there own_space (space_is q k) (targets (variable_count q) r)
-          (targets_up_to own_space.variables own_space.rates r over (subst VerbHasSmallNumbers about small.1)) in
+      (targets_up_to own_space.variables own_space.rates r over (subst VerbHasSmallNumbers about small.1)) in
       subst (AreRowsOf own_space (targets (variable_count q) r)) (rows_are_terms_of_forms own_space (targets (variable_count q) r) rows.0 rows.1) rows.1
 
   -- the rows of its relation's sides
@@ -122,7 +124,7 @@ module _ (q : BodyView) (k : IsQuestion q) (small : QuestionHasSmallNumbers q) w
   side_rows r about =
       let own : IsRelationOf (length q.names.variables) (length q.names.rates) r = subst (IsVerbOver q.names) about k.verb in
       let over : IsRelationOf own_space.variables own_space.rates r = subst
-          (λ (v : NamesView). IsRelationOf (length v.variables) (length v.rates) r) (sym (ap (names_under q.names) about)) own in
+      (λ (v : NamesView). IsRelationOf (length v.variables) (length v.rates) r) (sym (ap (names_under q.names) about)) own in
       let up = sides_up_to own_space.variables own_space.rates r over (subst VerbHasSmallNumbers about small.1) in
       (row_of_form (left_form (variable_count q) r) up.0, row_of_form (right_form (variable_count q) r) up.1)
     where
@@ -140,7 +142,7 @@ module _ (q : BodyView) (k : IsQuestion q) (small : QuestionHasSmallNumbers q) w
   system_rows =
       let fs = system_forms (variable_count q) q.lines.rows in
       let rows = rows_there own_space (space_is q k) fs (system_up_to q.lines.rows
-          (every_of (IsRelationOf own_space.variables own_space.rates) q.lines.rows (shared_rows q own_space k refl)) small.0.1) in
+      (every_of (IsRelationOf own_space.variables own_space.rates) q.lines.rows (shared_rows q own_space k refl)) small.0.1) in
       subst (AreRowsOf own_space fs) (rows_are_terms_of_forms own_space fs rows.0 rows.1) rows.1
 
 -- ---- the questions of a file

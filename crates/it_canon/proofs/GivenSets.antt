@@ -67,14 +67,14 @@ atom_of_sets n (Entropy of given) k c h = ap₂ (λ x y. x -ℤ y) (at_set n c (
 atom_of_sets n (Mutual left right given) k c h = ap₂ (λ x y. x -ℤ y)
     (ap₂ (λ x y. x +ℤ y) (at_set n c (bit_or left given) h (or_lt n left given k.0 k.2)) (at_set n c (bit_or right given) h (or_lt n right given k.1 k.2)))
     (ap₂ (λ x y. x +ℤ y) (at_set n c (bit_or (bit_or left right) given) h
-        (or_lt n (bit_or left right) given (or_lt n left right k.0 k.1) k.2)) (at_set n c given h k.2))
+    (or_lt n (bit_or left right) given (or_lt n left right k.0 k.1) k.2)) (at_set n c given h k.2))
 atom_of_sets n (Rate r) k c h = absurd (omega (arith, k))
 
 side_of_sets : (n m : ℕ) (ts : List Term) → All (λ t. IsAtomOf n 0 t.atom) ts → IsOfSets n (λ p. side_at n p m ts)
 side_of_sets n m [] a c h = refl
 side_of_sets n m (t ∷ ts) a c h = ap₂ (λ x y. cond t.negative (neg_ℤ (pos (multiplicity m t))) (pos (multiplicity m t)) *ℤ x +ℤ y)
     (atom_of_sets n t.atom (All-head (λ (t : Term). IsAtomOf n 0 t.atom) t ts a) c h)
-        (side_of_sets n m ts (All-tail (λ (t : Term). IsAtomOf n 0 t.atom) t ts a) c h) ∙ omega (arith, ints)
+    (side_of_sets n m ts (All-tail (λ (t : Term). IsAtomOf n 0 t.atom) t ts a) c h) ∙ omega (arith, ints)
 
 relation_of_sets : (n : ℕ) (r : RelationView) → IsRelationOf n 0 r → IsOfSets n (form_of n r)
 relation_of_sets n r k c h = ap₂ (λ x y. signed_difference r.sign (x -ℤ y)) (side_of_sets n (common_denominator r) r.left k.left c h)
@@ -105,7 +105,7 @@ links_of_sets n past (here ∷ next ∷ sets) l a =
     let link : Atom = Mutual past next here in
     All-cons (λ (d : Demand). IsOfSets n d.form) (equation (λ p. atom_at n p link)) (equations n (links_from (bit_or past here) (next ∷ sets)))
     (atom_of_sets n link (l, All-head (λ s. s < 2 ^ n) next sets after, here_lt))
-        (links_of_sets n (bit_or past here) (next ∷ sets) (or_lt n past here l here_lt) after)
+    (links_of_sets n (bit_or past here) (next ∷ sets) (or_lt n past here l here_lt) after)
 
 one_of_sets : (n : ℕ) (d : Demand) → IsOfSets n d.form → All (λ e. IsOfSets n e.form) (d ∷ [])
 one_of_sets n d f = All-cons (λ (e : Demand). IsOfSets n e.form) d [] f (All-nil (λ (e : Demand). IsOfSets n e.form))

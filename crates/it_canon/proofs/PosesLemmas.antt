@@ -20,7 +20,7 @@ one_problem q p k =
     let ds = question_demands q in
     let places = question_origins q in
     let same : p.constraints ≡ map (constraint_of s) (zip places ds) = stated_are s places ds p.constraints
-        (subst (λ (t : Space). AreStated t places ds p.constraints) k.space k.constraints) in
+    (subst (λ (t : Space). AreStated t places ds p.constraints) k.space k.constraints) in
     ap₂ (λ (t : Space) (cs : List Constraint). let r : ProblemView = record { space = t; constraints = cs } in r) k.space same
 
 -- there is one for each form

@@ -72,7 +72,7 @@ value_linear : (size : ℕ) (ts : Terms) → Every (λ (t : ℕ × ℤ). t.0 ≤
 value_linear size [] e = linear_zero (size + 1)
 value_linear size (t ∷ ts) e =
     linear-add (size + 1) (λ p. t.1 *ℤ p t.0) (value ts) (linear-scale (size + 1) t.1 (λ p. p t.0)
-        (linear_at (size + 1) t.0 (omega (arith, e.0)))) (value_linear size ts e.1)
+    (linear_at (size + 1) t.0 (omega (arith, e.0)))) (value_linear size ts e.1)
 
 -- a coefficient is no greater than all together
 value-small : (ts : Terms) (c : ℕ) → unsigned_abs (value ts (one_at c)) ≤ row_mass ts

@@ -70,11 +70,11 @@ code_fits : (n : ℕ) (d : Data) (c : ReportedCodeView) → code_in n d ≡ Some
 unfolding code_in
 code_fits n d c is =
     let f = and_then_some (field_at d) (λ field. option_and_then (λ symbols. option_and_then
-        (λ variables. option_map (λ times. code_made field symbols variables times) (times_at d)) (variables_at (size field) symbols n d))
-        (symbols_at field d)) c is in
+    (λ variables. option_map (λ times. code_made field symbols variables times) (times_at d)) (variables_at (size field) symbols n d))
+    (symbols_at field d)) c is in
     let k = and_then_some (symbols_at f.0 d) (λ symbols. option_and_then
-        (λ variables. option_map (λ times. code_made f.0 symbols variables times) (times_at d)) (variables_at (size f.0) symbols n d)) c
-        f.1.1 in
+    (λ variables. option_map (λ times. code_made f.0 symbols variables times) (times_at d)) (variables_at (size f.0) symbols n d)) c
+    f.1.1 in
     let v = and_then_some (variables_at (size f.0) k.0 n d) (λ variables. option_map (λ times. code_made f.0 k.0 variables times) (times_at d)) c k.1.1 in
     let t = map_some (times_at d) (λ times. code_made f.0 k.0 v.0 times) c v.1.1 in
     subst (HasCodeShape n) {x = code_made f.0 k.0 v.0 t.0} t.1.1 (record {
@@ -95,7 +95,7 @@ no_is : (v : NamesView) (r : RelationView) (d : Data) (a : AnswerView) → no_at
 unfolding no_at
 no_is v r d a is =
     let h = then_ok (ok_or (point_at (size_of (space_of v)) d) keys.Point)
-        (λ values. and_then (ok_or (back_at (is_equation (kind_of r.sign)) d) keys.Side) (λ back. Ok (No back values))) a is in
+    (λ values. and_then (ok_or (back_at (is_equation (kind_of r.sign)) d) keys.Side) (λ back. Ok (No back values))) a is in
     let k = then_ok (ok_or (back_at (is_equation (kind_of r.sign)) d) keys.Side) (λ back. Ok (No back h.0)) a h.1.1 in
     subst IsNo (ok_same (No k.0 h.0) a k.1.1) tt
 

@@ -107,7 +107,7 @@ yes_fits : (v : NamesView) (r : RelationView) (d : Data) (a : AnswerView)
     → ok_or (option_map Yes (proofs_at (length (targets (length v.variables) r)) d)) keys.Proofs ≡ Ok a → HasVerbShape v (Prove r) a
 yes_fits v r d a is =
     let h = map_some (proofs_at (length (targets (length v.variables) r)) d) Yes a
-        (key_ok keys.Proofs (option_map Yes (proofs_at (length (targets (length v.variables) r)) d)) a is) in
+    (key_ok keys.Proofs (option_map Yes (proofs_at (length (targets (length v.variables) r)) d)) a is) in
     subst (HasVerbShape v (Prove r)) h.1.1 (proofs_fit (length (targets (length v.variables) r)) d h.0 h.1.0)
 
 back_only : (equality back : Bool) (text : List ℕ) → back_of equality text ≡ Some back → back ≡ true → equality ≡ true
@@ -128,12 +128,16 @@ unfolding no_at
 no_fits v r d a is =
     let size = size_of (space_of v) in
     let h = then_ok (ok_or (point_at (size_of (space_of v)) d) keys.Point)
-        (λ values. and_then (ok_or (back_at (is_equation (kind_of r.sign)) d) keys.Side) (λ back. Ok (No back values))) a is in
+    (λ values. and_then (ok_or (back_at (is_equation (kind_of r.sign)) d) keys.Side) (λ back. Ok (No back values))) a is in
     let k = then_ok (ok_or (back_at (is_equation (kind_of r.sign)) d) keys.Side) (λ back. Ok (No back h.0)) a h.1.1 in
     let p = key_ok keys.Point (point_at (size_of (space_of v)) d) h.0 h.1.0 in
     let b = key_ok keys.Side (back_at (is_equation (kind_of r.sign)) d) k.0 k.1.0 in
-    subst (HasVerbShape v (Prove r)) (ok_same (No k.0 h.0) a k.1.1) (point_length (size_of (space_of v)) d h.0 p, point_within
-        (size_of (space_of v)) d h.0 p, back_fits (is_equation (kind_of r.sign)) k.0 d b)
+    subst (HasVerbShape v (Prove r)) (ok_same (No k.0 h.0) a k.1.1) (
+      point_length (size_of (space_of v)) d h.0 p,
+      point_within
+          (size_of (space_of v)) d h.0 p,
+      back_fits (is_equation (kind_of r.sign)) k.0 d b,
+    )
 
 -- ---- undecided
 
@@ -152,7 +156,7 @@ found_in v text r is =
     let e : position_or_len (bytes_eq text) v.rates ≡ r = let s = h.1 in cc in
     let lt : position_or_len (bytes_eq text) v.rates < length v.rates = let t = h.0 in search (rules, t) in
     subst (λ i. get_or v.rates i [] ≡ text) e (sym ((bytes_eq-Decides text (get_or v.rates (position_or_len (bytes_eq text) v.rates) [])).0
-        (passes_at_first (bytes_eq text) v.rates [] lt)))
+    (passes_at_first (bytes_eq text) v.rates [] lt)))
 
 found_rate : (v : NamesView) (text : List ℕ) (r : ℕ) → index_of v.rates text ≡ Some r → IsFoundIn v r
 found_rate v text r is = ap (index_of v.rates) (found_in v text r is) ∙ is
@@ -256,9 +260,9 @@ bounds_sized : (size : ℕ) (d : Data) (b : BoundsView) → bounds_at size d ≡
 unfolding bounds_at
 bounds_sized size d b is =
     let h = then_ok (ok_or (unmarked_rows_at size d) keys.Rows) (λ rows. and_then (ok_or (proofs_at (length rows) d) keys.Proofs)
-        (λ proofs. and_then (ok_or (steps_at size d) keys.Rays) (λ steps. Ok (bounds_made rows proofs steps)))) b is in
+    (λ proofs. and_then (ok_or (steps_at size d) keys.Rays) (λ steps. Ok (bounds_made rows proofs steps)))) b is in
     let k = then_ok (ok_or (proofs_at (length h.0) d) keys.Proofs) (λ proofs. and_then (ok_or (steps_at size d) keys.Rays)
-        (λ steps. Ok (bounds_made h.0 proofs steps))) b h.1.1 in
+    (λ steps. Ok (bounds_made h.0 proofs steps))) b h.1.1 in
     let m = then_ok (ok_or (steps_at size d) keys.Rays) (λ steps. Ok (bounds_made h.0 k.0 steps)) b k.1.1 in
     subst (AreSized size) {x = bounds_made h.0 k.0 m.0} (ok_same (bounds_made h.0 k.0 m.0) b m.1.1) (
       rows_fit size d h.0 (key_ok keys.Rows (unmarked_rows_at size d) h.0 h.1.0),
@@ -299,13 +303,13 @@ contained_fits : (v : NamesView) (first second : RegionView) (tries : List (List
 unfolding contained_at
 contained_fits v first second tries d a is =
     let h = then_ok (ok_or (parts_at second.auxiliaries (length first.names.variables) d) keys.Parts)
-        (λ parts. and_then (ok_or (proofs_at (obligation_count second) d) keys.Proofs) (λ proofs. Ok (Contained parts proofs))) a is in
+    (λ parts. and_then (ok_or (proofs_at (obligation_count second) d) keys.Proofs) (λ proofs. Ok (Contained parts proofs))) a is in
     let k = then_ok (ok_or (proofs_at (obligation_count second) d) keys.Proofs) (λ proofs. Ok (Contained h.0 proofs)) a h.1.1 in
     let p = parts_fit second.auxiliaries (length first.names.variables) d h.0
-        (key_ok keys.Parts (parts_at second.auxiliaries (length first.names.variables) d) h.0 h.1.0) in
+    (key_ok keys.Parts (parts_at second.auxiliaries (length first.names.variables) d) h.0 h.1.0) in
     let w = proofs_fit (obligation_count second) d k.0 (key_ok keys.Proofs (proofs_at (obligation_count second) d) k.0 k.1.0) in
     subst (HasVerbShape v (Contain first second tries)) (ok_same (Contained h.0 k.0) a k.1.1)
-        (record { each = p.0; sets = p.1; obligations = w.0; numbers = w.1 })
+    (record { each = p.0; sets = p.1; obligations = w.0; numbers = w.1 })
 
 open_fits : (v : NamesView) (first second : RegionView) (tries : List (List ℕ)) (d : Data) (a : AnswerView) → ok_or (option_map Open (option_and_then count_at (get (codes "tried") d))) keys.Tried ≡ Ok a → HasVerbShape v (Contain first second tries) a
 open_fits v first second tries d a is =

@@ -75,9 +75,12 @@ module _ (d : Data) (told : false ≡ tells_misfit d) (outer : true ≡ tells_ou
   pub bounds_ok : (q : Question) (b : ReportedBounds) → GivesSource d (Ok q)
       → verb_bounds (question_view q).body.names (question_view q).body.verb d ≡ Ok (bounds_view b)
       → ReadsValue d (Ok (reported.Bounded q b))
-  bounds_ok q b gives by =
-      (Bounded gives.0 (bounds_view b), (gives.2, refl), bounds_as gives.0 (Ok (bounds_view b)) gives.1
-          (as_bounded gives.0 (question_view q) (Ok (bounds_view b)) gives.2 by))
+  bounds_ok q b gives by = (
+    Bounded gives.0 (bounds_view b),
+    (gives.2, refl),
+    bounds_as gives.0 (Ok (bounds_view b)) gives.1
+        (as_bounded gives.0 (question_view q) (Ok (bounds_view b)) gives.2 by),
+  )
 
   pub bounds_err : (q : Question) (f : ReportFault) → GivesSource d (Ok q)
       → GivesKeyed bounds_view (Err f) (verb_bounds (question_view q).body.names (question_view q).body.verb d) → ReadsValue d (Err f)
@@ -119,8 +122,12 @@ module _ (d : Data) (told : false ≡ tells_misfit d) (outer : false ≡ tells_o
 
       answer_as : (source : Source) (r : Result AnswerView Key) → IsSourceOf d source → answer_to source kind d ≡ r
           → ReadsAs d (and_then r (λ a. Ok (Answered source a)))
-      answer_as source r own by = record { own = Some source; source = own; is = by_answer (Some source) (Some kind) is
-          ∙ ap (λ z. and_then z (λ a. Ok (Answered source a))) by }
+      answer_as source r own by = record {
+        own = Some source;
+        source = own;
+        is = by_answer (Some source) (Some kind) is
+            ∙ ap (λ z. and_then z (λ a. Ok (Answered source a))) by;
+      }
 
       -- the answer to the question that is asked
       as_asked : (source : Source) (q : QuestionView) (r : Result AnswerView Key) → asked source ≡ q
@@ -130,9 +137,12 @@ module _ (d : Data) (told : false ≡ tells_misfit d) (outer : false ≡ tells_o
       pub answer_ok : (q : Question) (a : Answer) → GivesSource d (Ok q)
           → verb_answer (question_view q).body.names (question_view q).body.verb kind d ≡ Ok (answer_view a)
           → ReadsValue d (Ok (reported.Answered q a))
-      answer_ok q a gives by =
-          (Answered gives.0 (answer_view a), (gives.2, refl), answer_as gives.0 (Ok (answer_view a)) gives.1
-              (as_asked gives.0 (question_view q) (Ok (answer_view a)) gives.2 by))
+      answer_ok q a gives by = (
+        Answered gives.0 (answer_view a),
+        (gives.2, refl),
+        answer_as gives.0 (Ok (answer_view a)) gives.1
+            (as_asked gives.0 (question_view q) (Ok (answer_view a)) gives.2 by),
+      )
 
       pub answer_err : (q : Question) (f : ReportFault) → GivesSource d (Ok q)
           → GivesKeyed answer_view (Err f) (verb_answer (question_view q).body.names (question_view q).body.verb kind d)
@@ -235,8 +245,12 @@ module _ (d : Data) (told : false ≡ tells_misfit d) (outer : false ≡ tells_o
 
         pub origins_ok : (ws : Vec Certificate Global) → answer_origins (answer_view a) d ≡ Ok (map certificate_view ws.items)
             → ReadsValue d (Ok (reported.Derived q a ws))
-        origins_ok ws by = (Derived gives.0 (answer_view a) (map certificate_view ws.items), (gives.2, refl, refl), origins_as
-            (Ok (map certificate_view ws.items)) by)
+        origins_ok ws by = (
+          Derived gives.0 (answer_view a) (map certificate_view ws.items),
+          (gives.2, refl, refl),
+          origins_as
+              (Ok (map certificate_view ws.items)) by,
+        )
 
         pub origins_err : (f : ReportFault) → GivesKeyed (λ (v : Vec Certificate Global). map certificate_view v.items) (Err f)
             (answer_origins (answer_view a) d) → ReadsValue d (Err f)
@@ -255,8 +269,12 @@ module _ (d : Data) (told : false ≡ tells_misfit d) (outer : false ≡ tells_o
 
     best_as : (source : Source) (r : Result BestView Key) → IsSourceOf d source → best_to source kind d ≡ r
         → ReadsAs d (and_then r (λ b. Ok (Factored source b)))
-    best_as source r own by = record { own = Some source; source = own; is = by_kind (Some source) (Some kind) is
-        ∙ ap (λ z. and_then z (λ b. Ok (Factored source b))) by }
+    best_as source r own by = record {
+      own = Some source;
+      source = own;
+      is = by_kind (Some source) (Some kind) is
+          ∙ ap (λ z. and_then z (λ b. Ok (Factored source b))) by;
+    }
 
     -- what is found of the factors that the question asks for
     best_as_asked : (source : Source) (q : QuestionView) (r : Result BestView Key) → asked source ≡ q
@@ -266,9 +284,12 @@ module _ (d : Data) (told : false ≡ tells_misfit d) (outer : false ≡ tells_o
     pub best_ok : (q : Question) (b : Best) → GivesSource d (Ok q)
         → verb_best (question_view q).body.names (question_view q).body.verb kind d ≡ Ok (best_view b)
         → ReadsValue d (Ok (reported.Factored q b))
-    best_ok q b gives by =
-        (Factored gives.0 (best_view b), (gives.2, refl), best_as gives.0 (Ok (best_view b)) gives.1
-            (best_as_asked gives.0 (question_view q) (Ok (best_view b)) gives.2 by))
+    best_ok q b gives by = (
+      Factored gives.0 (best_view b),
+      (gives.2, refl),
+      best_as gives.0 (Ok (best_view b)) gives.1
+          (best_as_asked gives.0 (question_view q) (Ok (best_view b)) gives.2 by),
+    )
 
     pub best_err : (q : Question) (f : ReportFault) → GivesSource d (Ok q)
         → GivesKeyed best_view (Err f) (verb_best (question_view q).body.names (question_view q).body.verb kind d) → ReadsValue d (Err f)

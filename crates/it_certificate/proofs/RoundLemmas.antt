@@ -77,7 +77,7 @@ certificate_back : (c : CertificateView) → IsNumbered c → certificate_at (pr
 unfolding certificate_at proof_value
 certificate_back c p =
     ap (λ s. option_map certificate_of (option_zip s (all_of pair_at (items_of (map pair_value (filter is_nonzero_weight c.weights))))))
-        (number_back c.scale p.scale)
+    (number_back c.scale p.scale)
     ∙ ap (λ ws. option_map certificate_of (option_zip (Some c.scale) ws))
     (same_back IsNumberedAmount pair_at pair_value pair_back (filter is_nonzero_weight c.weights)
     (All-filter is_nonzero_weight IsNumberedAmount c.weights p.weights))
@@ -118,7 +118,7 @@ no_back : (text : List ℕ) (v : NamesView) (r : RelationView) (back : Bool) (vs
 unfolding no_at
 no_back text v r back vs fits =
     ap (λ o. and_then (ok_or o keys.Point) (λ values. and_then (ok_or
-        (back_at (is_equation (kind_of r.sign)) (answer_value text v (No back vs))) keys.Side) (λ b. Ok (No b values))))
+    (back_at (is_equation (kind_of r.sign)) (answer_value text v (No back vs))) keys.Side) (λ b. Ok (No b values))))
     (point_back text v (size_of (space_of v)) back vs fits.0 fits.1)
     ∙ ap (λ o. and_then (ok_or o keys.Side) (λ b. Ok (No b vs))) (side_back text v (is_equation (kind_of r.sign)) back vs fits.2)
 
@@ -155,7 +155,7 @@ undecided_back : (text : List ℕ) (v : NamesView) (c : Cause) → IsCauseFor v 
 unfolding undecided_at
 undecided_back text v c fits =
     ap (λ o. and_then (ok_or o keys.Cause) (λ kind. and_then (ok_or (cause_at v.rates kind (answer_value text v (Undecided c))) keys.At)
-        (λ cause. Ok (Undecided cause)))) (kind_back text v c)
+    (λ cause. Ok (Undecided cause)))) (kind_back text v c)
     ∙ ap (λ o. and_then (ok_or o keys.At) (λ cause. Ok (Undecided cause))) (cause_back text v c fits)
 
 -- ---- regions
@@ -171,7 +171,7 @@ row_test from low size (t ∷ ts) le asc up =
     let last : nat_le t.0 size ≡ true = let e = h.1 in search (rules, e) in
     true_both (nat_le from t.0 && (nat_le t.0 size && not (unsigned_abs t.1 == 0))) (is_row_between (t.0 + 1) size ts)
     (true_both (nat_le from t.0) (nat_le t.0 size && not (unsigned_abs t.1 == 0)) there
-        (true_both (nat_le t.0 size) (not (unsigned_abs t.1 == 0)) last (nonzero_passes t.1 asc.1)))
+    (true_both (nat_le t.0 size) (not (unsigned_abs t.1 == 0)) last (nonzero_passes t.1 asc.1)))
     (row_test (t.0 + 1) (t.0 + 1) size ts (omega arith) asc.3 (All-tail (λ t. (1 ≤ t.0) × (t.0 ≤ size)) t ts up))
 
 from_one : (size : ℕ) (ts : Terms) → Ascends 0 ts → IsOver size ts → Ascends 1 ts
@@ -219,10 +219,10 @@ unfolding contained_at parts_at proofs_at answer_value answer_members
 contained_back text v first second parts ws fits =
     let n = length first.names.variables in
     ap (λ o. and_then (ok_or o keys.Parts) (λ ss. and_then (ok_or
-        (option_and_then (of_length (obligation_count second)) (all_of certificate_at (items_of (map proof_value ws)))) keys.Proofs)
-        (λ ps. Ok (Contained ss ps))))
+    (option_and_then (of_length (obligation_count second)) (all_of certificate_at (items_of (map proof_value ws)))) keys.Proofs)
+    (λ ps. Ok (Contained ss ps))))
     (ap (option_and_then (of_length second.auxiliaries)) (same_back (λ s. (s < 2 ^ 32) × (s < 2 ^ length first.names.variables))
-        (set_at (length first.names.variables)) count_value (set_back (length first.names.variables)) parts fits.sets)
+    (set_at (length first.names.variables)) count_value (set_back (length first.names.variables)) parts fits.sets)
     ∙ of_length_is second.auxiliaries parts fits.each)
     ∙ ap (λ o. and_then (ok_or o keys.Proofs) (λ ps. Ok (Contained parts ps))) (certificates_back (obligation_count second) ws fits.obligations fits.numbers)
 

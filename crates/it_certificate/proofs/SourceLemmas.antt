@@ -117,7 +117,7 @@ module _ (d : Data) (no_sharing : is_some (get (codes "sharing") d) ≡ false) (
     here_asks : (q : QuestionView) (copies : List CopyView) → IsTextWithCopies d q copies → AsksOnly (head ++ text) q copies
     here_asks q copies h =
         subst (λ (t : List ℕ). AsksOnly t q copies) (ap₂ (λ (a b : List ℕ). a ++ b) (some_same h.head head (sym h.head_there ∙ sym head_is))
-            (some_same h.text text (sym h.text_there ∙ sym text_is))) h.asks
+        (some_same h.text text (sym h.text_there ∙ sym text_is))) h.asks
 
     none_asked : ((q : QuestionView) (copies : List CopyView) → AsksOnly (head ++ text) q copies → ⊥) → IsSourceAt d None
     none_asked none = unless_copied (λ q copies h. none q copies (here_asks q copies h))
@@ -225,7 +225,7 @@ by_copies bytes short (inl h) = by_questions h.1 refl
         let same = other p copies a in
         let first : p ≡ q = first_question p q (same.1 ∙ e) in
         none (subst (λ (z : QuestionView). IsExtension z.body h.0 (extended z.body h.0)) first
-            (subst (λ (cs : List CopyView). IsExtension p.body cs (extended p.body cs)) same.0 a.extension)))
+        (subst (λ (cs : List CopyView). IsExtension p.body cs (extended p.body cs)) same.0 a.extension)))
 
     by_questions : (qs : List QuestionView) → h.1 ≡ qs → ((q : QuestionView) × (copies : List CopyView) × AsksOnly bytes q copies)
         ⊎ ((q : QuestionView) (copies : List CopyView) → AsksOnly bytes q copies → ⊥)
@@ -314,7 +314,7 @@ one_source d (Copies p copies) (Text q) h k = absurd (text_or_none (get (codes "
 one_source d (Copies p copies) (Copies q others) h k =
     let e : k.head ++ k.text ≡ h.head ++ h.text = ap₂ (λ (a b : List ℕ). a ++ b) (one_text (get (codes "copies") d) h.head k.head h.head_there k.head_there) (one_text (get (codes "question") d) h.text k.text h.text_there k.text_there) in
     let same = copy_file_is_one (h.head ++ h.text) copies others (p ∷ []) (q ∷ []) h.asks.reads
-        (subst (λ (t : List ℕ). IsCopyFile t others (q ∷ [])) e k.asks.reads) in
+    (subst (λ (t : List ℕ). IsCopyFile t others (q ∷ [])) e k.asks.reads) in
     ap₂ Copies (first_question p q same.1) same.0
 one_source d (Copies p copies) (Sharing x) h k = absurd (text_or_none (get (codes "sharing") d) k.text h.no_sharing k.there)
 one_source d (Sharing x) (Text q) h k = absurd (text_or_none (get (codes "sharing") d) h.text k.no_sharing h.there)
@@ -370,16 +370,20 @@ module _ (copies : List CopyView) (qs : List Question) where
 
   pub extended_only : (q e : Question) → length qs ≡ 1 → q ≡ get_or qs 0 q → IsExtension (question_body q) copies (question_body e)
       → (question_view e).text ≡ [] → GivesExtended copies (map question_view qs) (Ok e)
-  extended_only q e one is x text =
-      (question_view q, only_one qs q one is, subst (IsExtension (question_body q) copies) x.is x, ap₂
-          (λ (body : BodyView) (text : List ℕ). record { body = body; text = text }) (sym x.is) (sym text))
+  extended_only q e one is x text = (
+    question_view q,
+    only_one qs q one is,
+    subst (IsExtension (question_body q) copies) x.is x,
+    ap₂
+        (λ (body : BodyView) (text : List ℕ). record { body = body; text = text }) (sym x.is) (sym text),
+  )
 
   none_only : (q : Question) (f : CopyFault) → length qs ≡ 1 → q ≡ get_or qs 0 q → (f ≡ copy_faults.Memory → ⊥)
       → IsMisfit (question_body q) copies f → GivesExtended copies (map question_view qs) (Err refusals.Shape)
   none_only q f one is told misfit = λ p e x.
       let same : p ≡ question_view q = first_question p (question_view q) (sym e ∙ only_one qs q one is) in
       extension_or_misfit (question_body q) (extended (question_body q) copies) copies f told
-          (subst (λ (z : QuestionView). IsExtension z.body copies (extended z.body copies)) same x) misfit
+      (subst (λ (z : QuestionView). IsExtension z.body copies (extended z.body copies)) same x) misfit
 
   by_fault : (q : Question) (f : CopyFault) → length qs ≡ 1 → q ≡ get_or qs 0 q → IsMisfit (question_body q) copies f
       → GivesExtended copies (map question_view qs) (Err (refusal_by f))

@@ -55,9 +55,9 @@ pub copied_questions_have_small_numbers : (bytes : List ℕ) (copies : List Copy
 copied_questions_have_small_numbers bytes copies qs asked =
     let small = lines_small 1 (split_lines bytes) asked.lines asked.cut in
     let all = always_said copy_file _ copy_file_has (λ p y. AreSmall p → Every QuestionHasSmallNumbers y.1) copy_file_small
-        (letters_of_lines asked.lines) asked.tree.0 (said copy_file copies_with_questions bytes (copies, qs) asked) small in
+    (letters_of_lines asked.lines) asked.tree.0 (said copy_file copies_with_questions bytes (copies, qs) asked) small in
     subst (λ (w : List CopyView × List QuestionView). Every (λ (q : QuestionView). QuestionHasSmallNumbers q.body) w.1) asked.says
-        (texts_apart (drop (length asked.tree.0.0) asked.lines) asked.tree.0.1 all)
+    (texts_apart (drop (length asked.tree.0.0) asked.lines) asked.tree.0.1 all)
 
 -- ---- with copies
 
@@ -84,8 +84,14 @@ equations_small v (c ∷ cs) = every-append GivenHasSmallNumbers (option_map_or 
     (equations_of (with_copy v c) cs) (placed_small v (placed v c)) (equations_small (with_copy v c) cs)
 
 pub extended_has_small_numbers : (q : BodyView) (cs : List CopyView) → QuestionHasSmallNumbers q → QuestionHasSmallNumbers (extended q cs)
-extended_has_small_numbers q cs small = ((every-append GivenHasSmallNumbers q.lines.givens (equations_of q.names cs) small.0.0
-    (equations_small q.names cs), small.0.1), small.1)
+extended_has_small_numbers q cs small = (
+  (
+    every-append GivenHasSmallNumbers q.lines.givens (equations_of q.names cs) small.0.0
+        (equations_small q.names cs),
+    small.0.1,
+  ),
+  small.1,
+)
 
 -- ---- the relation of a file
 
@@ -93,7 +99,7 @@ bound_small : (s : Scope) → Always (bound s) (λ p r. AreSmall p → HasSmallN
 unfolding bound Always
 bound_small s = always_weaker (sum most_terms 1 s) _ _
     (λ p left hl l e u. always_weaker (sum (most_terms - length left) (multiple_from 1 left) s) _ _
-        (λ q right hr small. (hl (front_small p _ small), hr (front_small q _ (rest_small (l ∷ []) _ (rest_small p _ small)))))
+    (λ q right hr small. (hl (front_small p _ small), hr (front_small q _ (rest_small (l ∷ []) _ (rest_small p _ small)))))
     (sum_small (most_terms - length left) (multiple_from 1 left) s)) (sum_small most_terms 1 s)
 
 bound_line_small : (v : NamesView) → Always (to_end (bound (scope_of v true))) (λ p r. AreSmall p → HasSmallNumbers r)
@@ -134,14 +140,14 @@ sharing_small =
     then_any (Take (word (codes "qualified"))) _ _ (λ m u. then_any (to_end (names (party_env all))) _ _ (λ r first.
     then_any (more_lists (party_env all) (first ∷ [])) _ _ (λ s lists. then_by (aim all) _ _ _ (aim_small all) (λ t asked h. then_any file_end _ _ (λ n u.
     give_is _ _ (λ small. h (front_small t _ (rest_small s _ (rest_small r _
-        (rest_small m _ (rest_small q _ (rest_small l _ (rest_small p _ (rest_small k _ small))))))))))))))))))
+    (rest_small m _ (rest_small q _ (rest_small l _ (rest_small p _ (rest_small k _ small))))))))))))))))))
 
 relation_of_file : (bytes : List ℕ) (x : SharingView) → IsSharingFile bytes x → HasSmallNumbers x.relation
 relation_of_file bytes x asked =
     let small = lines_small 1 (split_lines bytes) asked.lines asked.cut in
     subst (λ (y : SharingView). HasSmallNumbers y.relation) asked.says
     (always_said sharing _ sharing_has (λ p y. AreSmall p → HasSmallNumbers y.relation) sharing_small
-        (letters_of_lines asked.lines) asked.tree.0 (said sharing (λ lines y. y) bytes x asked) small)
+    (letters_of_lines asked.lines) asked.tree.0 (said sharing (λ lines y. y) bytes x asked) small)
 
 -- ---- the question that is made
 
@@ -171,12 +177,12 @@ pub source_limits : (d : Data) (source : Source) → IsSourceOf d source → IsQ
 source_limits d (Text q) h = All-head (λ (q : QuestionView). IsQuestion q.body) q [] (file_limits h.text (q ∷ []) h.reads)
 source_limits d (Copies q copies) h =
     extended_is_question q.body copies (All-head (λ (q : QuestionView). IsQuestion q.body) q []
-        (copied_questions_are_within (h.head ++ h.text) copies (q ∷ []) h.asks.reads)) h.asks.extension.made h.asks.extension.few
+    (copied_questions_are_within (h.head ++ h.text) copies (q ∷ []) h.asks.reads)) h.asks.extension.made h.asks.extension.few
 source_limits d (Sharing x) h = question_limited x (sharing_is_within h.text x h.makes.reads).0 h.makes.few
 
 pub source_numbers : (d : Data) (source : Source) → IsSourceOf d source → QuestionHasSmallNumbers (asked source).body
 source_numbers d (Text q) h = first_of (λ (q : QuestionView). QuestionHasSmallNumbers q.body) q (file_has_small_numbers h.text (q ∷ []) h.reads)
 source_numbers d (Copies q copies) h =
     extended_has_small_numbers q.body copies (first_of (λ (q : QuestionView). QuestionHasSmallNumbers q.body) q
-        (copied_questions_have_small_numbers (h.head ++ h.text) copies (q ∷ []) h.asks.reads))
+    (copied_questions_have_small_numbers (h.head ++ h.text) copies (q ∷ []) h.asks.reads))
 source_numbers d (Sharing x) h = made_question_has_small_numbers h.text x h.makes.reads

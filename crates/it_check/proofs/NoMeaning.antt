@@ -68,8 +68,11 @@ generator_none count i g p q = by_option (sum_within (pos 0) g.row p) (λ x e. s
   where
     by_option : (o : Option ℤ) → ((x : ℤ) → o ≡ Some x → ValueFits g.row p × (x ≡ pos 0 +ℤ value g.row p)) → of_value count i g.kind o ≡ None → IsRight p g
     by_option None f q = absurd (cc)
-    by_option (Some x) f q = ((f x refl).0, subst (Meets g.kind) ((f x refl).1 ∙ +ℤ_idl (value g.row p))
-        (meets_unless_violated g.kind x (test_is_false (violates g.kind x) q)))
+    by_option (Some x) f q = (
+      (f x refl).0,
+      subst (Meets g.kind) ((f x refl).1 ∙ +ℤ_idl (value g.row p))
+          (meets_unless_violated g.kind x (test_is_false (violates g.kind x) q)),
+    )
       where
         test_is_false : (b : Bool) → cond b (Some (violation count i x)) None ≡ None → b ≡ false
         test_is_false true q = absurd (cc)
@@ -121,8 +124,11 @@ target_none place row p q = by_option (sum_within (pos 0) row p) (λ x e. sum_to
     by_option : (o : Option ℤ) → ((x : ℤ) → o ≡ Some x → ValueFits row p × (x ≡ pos 0 +ℤ value row p)) → of_target place o ≡ None
         → ValueFits row p × (value row p ≤ℤ neg_ℤ (pos 1))
     by_option None f q = absurd (cc)
-    by_option (Some x) f q = ((f x refl).0, subst (λ (y : ℤ). y ≤ℤ neg_ℤ (pos 1)) ((f x refl).1 ∙ +ℤ_idl (value row p))
-        (at_most_minus_one x (test_is_true (lt_z x (pos 0)) q)))
+    by_option (Some x) f q = (
+      (f x refl).0,
+      subst (λ (y : ℤ). y ≤ℤ neg_ℤ (pos 1)) ((f x refl).1 ∙ +ℤ_idl (value row p))
+          (at_most_minus_one x (test_is_true (lt_z x (pos 0)) q)),
+    )
       where
         test_is_true : (b : Bool) → cond b None (Some (NotViolated x)) ≡ None → b ≡ true
         test_is_true true q = refl
@@ -166,7 +172,7 @@ unfolding generator_list
 met_listed n cs p z h m = every-append (λ (g : Generator). Meets g.kind (value g.row p)) (map (of_elemental n) (elementals n)) (map of_constraint cs)
     (every-map (λ (g : Generator). Meets g.kind (value g.row p)) (of_elemental n) (elementals n)
     (every-same (λ e. pos 0 ≤ℤ elemental_value n p e) (λ e. pos 0 ≤ℤ value (elemental_row n e) p) (elementals n)
-        (λ e k. subst (λ (x : ℤ). pos 0 ≤ℤ x) (sym (value-row n e p z)) k)
+    (λ e k. subst (λ (x : ℤ). pos 0 ≤ℤ x) (sym (value-row n e p z)) k)
     (every_of (λ e. pos 0 ≤ℤ elemental_value n p e) (elementals n) ((elementals_generate n p z).1 h))))
     (every-map (λ (g : Generator). Meets g.kind (value g.row p)) of_constraint cs (every_of (IsMet p) cs m))
 
@@ -176,9 +182,9 @@ unfolding generator_list
 listed_met n cs p z h = (
   (elementals_generate n p z).0 (all_of (λ e. pos 0 ≤ℤ elemental_value n p e) (elementals n)
       (every-same (λ e. pos 0 ≤ℤ value (elemental_row n e) p) (λ e. pos 0 ≤ℤ elemental_value n p e) (elementals n)
-          (λ e k. subst (λ (x : ℤ). pos 0 ≤ℤ x) (value-row n e p z) k)
+      (λ e k. subst (λ (x : ℤ). pos 0 ≤ℤ x) (value-row n e p z) k)
       (every_mapped (λ (g : Generator). Meets g.kind (value g.row p)) (of_elemental n) (elementals n)
-          (every_front (λ (g : Generator). Meets g.kind (value g.row p)) (map (of_elemental n) (elementals n)) (map of_constraint cs) h)))),
+      (every_front (λ (g : Generator). Meets g.kind (value g.row p)) (map (of_elemental n) (elementals n)) (map of_constraint cs) h)))),
   all_of (IsMet p) cs (every_mapped (λ (g : Generator). Meets g.kind (value g.row p)) of_constraint cs
       (every_back (λ (g : Generator). Meets g.kind (value g.row p)) (map (of_elemental n) (elementals n)) (map of_constraint cs) h)),
 )

@@ -55,8 +55,11 @@ each_generator_known gs (w ∷ ws) e = by_test (ltb w.0 (length gs)) (Decides-lt
         → option_or (cond b (cond (lt_z w.1 (pos 0) && not (is_equation (generator_at gs w.0).kind)) (Some (NegativeWeight w.0)) None)
         (Some (UnknownGenerator w.0))) (of_weights gs ws) ≡ None
         → (w.0 < length gs) × Every (λ (w : ℕ × ℤ). w.0 < length gs) ws
-    by_test true d back e = (d.0 refl, back (second_is_none (cond (lt_z w.1 (pos 0) && not (is_equation (generator_at gs w.0).kind))
-        (Some (NegativeWeight w.0)) None) (of_weights gs ws) e))
+    by_test true d back e = (
+      d.0 refl,
+      back (second_is_none (cond (lt_z w.1 (pos 0) && not (is_equation (generator_at gs w.0).kind))
+          (Some (NegativeWeight w.0)) None) (of_weights gs ws) e),
+    )
     by_test false d back e = absurd (cc)
 
 pub all_known : (gs : List Generator) (ws : List (ℕ × ℤ)) → None ≡ of_weights gs ws → All (λ (w : ℕ × ℤ). w.0 < length gs) ws

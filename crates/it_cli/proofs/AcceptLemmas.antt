@@ -108,8 +108,8 @@ module _ (q : BodyView) (posed : IsProblemOf q (problem_of q)) (effort : Effort)
   certifies_row f t w row c =
       let p = problem_of q in
       by_rows (all_demands p.space.variables (question_demands q)) (generators p)
-          (generators_speak p.space (question_demands q) p.constraints posed.constraints.stated) (size_of p.space + 1)
-          (value t) f row.same w
+      (generators_speak p.space (question_demands q) p.constraints posed.constraints.stated) (size_of p.space + 1)
+      (value t) f row.same w
       (to_problem (λ s. Certifies (all_demands s.variables (question_demands q)) f w) c)
 
   refutes_row : (f : Form) (t : Terms) (values : List ℤ) → IsRowOf (problem_of q).space f t → IsCounterexample q f values → RefutesRow (problem_of q) t values
@@ -169,7 +169,7 @@ proofs_by_valid p effort (f ∷ fs) [] ws l z d = absurd z
 proofs_by_valid p effort (f ∷ fs) (t ∷ ts) [] l z d = absurd d
 proofs_by_valid p effort (f ∷ fs) (t ∷ ts) (w ∷ ws) l z d =
     ap (λ v. if is_valid v then proofs_verdict p ts ws else v) ((valid_yes_is p t w l z.0.coordinates).1
-        (ends_are_right p t effort (proof_views.Yes w) l z.0.coordinates d.0)) ∙ proofs_by_valid p effort fs ts ws l z.1 d.1
+    (ends_are_right p t effort (proof_views.Yes w) l z.0.coordinates d.0)) ∙ proofs_by_valid p effort fs ts ws l z.1 d.1
 
 -- ---- lines
 
@@ -251,7 +251,7 @@ module _ (back : ReadsBack) (q : QuestionView) (short : length q.text ≤ 104857
   undecided_accepted : (c : Cause) → HasQuestionShape q.body (Undecided c) → IsCauseFor q.body.names c → IsAccepted (line_of (Undecided c))
   undecided_accepted c fits cause =
       let plain = undecided_plain q.text q.body.names text_is c (IsUtf8-from_ascii (step_or_rate_word q.body.names c)
-          (step_or_rate_ascii q.body.names c question_ascii.rates cause)) in
+      (step_or_rate_ascii q.body.names c question_ascii.rates cause)) in
       skipped_is_accepted (Undecided c) (line_of (Undecided c)) (clear_of (Undecided c) plain) refl (line_reads (Undecided c) fits plain)
 
   region_accepted : (budgets : Budgets) (rates : List ℕ) (rows : List (Mark × Terms)) → q.body.verb ≡ Eliminate rates
@@ -269,7 +269,7 @@ module _ (back : ReadsBack) (q : QuestionView) (short : length q.text ≤ 104857
     yes_accepted r ws about ascend shown due =
         let fits = right_prove_fits budgets.effort q.body r (Yes ws) few posed about shown due in
         let e = proofs_valid q.body posed budgets.effort (targets (variable_count q.body) r)
-            (map (terms_in q.body) (targets (variable_count q.body) r)) ws (relation_rows q.body limits small r about) shown due in
+        (map (terms_in q.body) (targets (variable_count q.body) r)) ws (relation_rows q.body limits small r about) shown due in
         let plain = yes_plain q.text q.body.names text_is ws fits.1 in
         let reads = line_reads (Yes ws) (question_fits q.body (Yes ws) (Prove r) about fits) plain in
         judged_is_accepted (Yes ws) (line_of (Yes ws)) (clear_of (Yes ws) plain) (verdict_by_verb (Yes ws) (Prove r) about (ap Some e))
@@ -282,10 +282,10 @@ module _ (back : ReadsBack) (q : QuestionView) (short : length q.text ≤ 104857
         let fits = right_prove_fits budgets.effort q.body r (No is_back values) few posed about shown due in
         let rows = relation_rows q.body limits small r about in
         let e = point_valid q.body posed budgets.effort (targets (variable_count q.body) r)
-            (map (terms_in q.body) (targets (variable_count q.body) r)) is_back values rows shown due in
+        (map (terms_in q.body) (targets (variable_count q.body) r)) is_back values rows shown due in
         let plain = no_plain q.text q.body.names text_is is_back values fits.1 in
         judged_is_accepted (No is_back values) (line_of (No is_back values)) (clear_of (No is_back values) plain)
-            (verdict_by_verb (No is_back values) (Prove r) about (ap Some e))
+        (verdict_by_verb (No is_back values) (Prove r) about (ap Some e))
         (line_reads (No is_back values) (question_fits q.body (No is_back values) (Prove r) about fits) plain)
 
     prove_accepted : (r : RelationView) (a : AnswerView) → q.body.verb ≡ Prove r → ProofsAscend a → ShowsBy q.body (Prove r) a
@@ -306,8 +306,8 @@ module _ (back : ReadsBack) (q : QuestionView) (short : length q.text ≤ 104857
     eliminate_accepted rates (Undecided c) about shown due =
         let within = (subst (IsVerbOver q.body.names) about limits.verb).within in
         let fits = eliminated_cause_fits budgets q.body rates c (λ r m. rates_found q r file
-            (every_member (λ i. i < length q.body.names.rates) rates r (every_of (λ i. i < length q.body.names.rates) rates within) m)) due
-            in
+        (every_member (λ i. i < length q.body.names.rates) rates r (every_of (λ i. i < length q.body.names.rates) rates within) m)) due
+        in
         undecided_accepted c (question_fits q.body (Undecided c) (Eliminate rates) about fits) fits
     eliminate_accepted rates (Region rows) about shown due = region_accepted budgets rates rows about shown due
     eliminate_accepted rates (Contained parts proofs) about shown due = absurd shown
@@ -324,11 +324,11 @@ module _ (back : ReadsBack) (q : QuestionView) (short : length q.text ≤ 104857
         let rows = map (terms_in q.body) forms in
         let fits = contained_fits q.body limits posed first second tries about budgets plans parts ws found shown due in
         let plain = contained_plain q.text q.body.names text_is parts ws (All-weaker
-            (λ s. (s < 2 ^ 32) × (s < 2 ^ length first.names.variables)) (λ s. s < 2 ^ 32) (λ s h. h.0) parts fits.sets) fits.numbers in
+        (λ s. (s < 2 ^ 32) × (s < 2 ^ length first.names.variables)) (λ s. s < 2 ^ 32) (λ s h. h.0) parts fits.sets) fits.numbers in
         let reads = line_reads a (question_fits q.body a (Contain first second tries) about fits) plain in
         let proofs : AreProofsOf (problem_of q.body) budgets.effort rows ws =
         subst (λ ps. AreProofsOf (problem_of q.body) budgets.effort (map (terms_in q.body) (obligations q.body first second ps)) ws)
-            (sym due.parts_are) due.proofs.proofs in
+        (sym due.parts_are) due.proofs.proofs in
         let are = obligation_rows_there q.body limits small first second tries about parts shown.are_parts in
         let e = proofs_by_valid (problem_of q.body) budgets.effort forms rows ws posed.limits are proofs in
         let verdict = verdict_by_verb a (Contain first second tries) about (ap Some e) in

@@ -46,8 +46,8 @@ weights_are_some : (n : ℕ) (ts : List (ℕ × ℤ)) → All (IsOfConstraint n)
 weights_are_some n [] all = refl
 weights_are_some n (t ∷ ts) all =
     ap (λ b. cond b (t ∷ filter is_nonzero_weight ts) (filter is_nonzero_weight ts))
-        (nonzero_passes t.1 (All-head (IsOfConstraint n) t ts all).1)
-        ∙ ap (λ zs. t ∷ zs) (weights_are_some n ts (All-tail (IsOfConstraint n) t ts all))
+    (nonzero_passes t.1 (All-head (IsOfConstraint n) t ts all).1)
+    ∙ ap (λ zs. t ∷ zs) (weights_are_some n ts (All-tail (IsOfConstraint n) t ts all))
 
 module _ (p : ProblemView) where
   told_whole : (rows : List Terms) (ws : List CertificateView) → AllZip (IsToldOrigin p) rows ws → map without_zeros ws ≡ ws
@@ -56,7 +56,7 @@ module _ (p : ProblemView) where
   told_whole (row ∷ rows) [] z = absurd z
   told_whole (row ∷ rows) (w ∷ ws) z =
       ap (λ ps. record { scale = w.scale; weights = ps } ∷ map without_zeros ws) (weights_are_some p.space.variables w.weights z.0.0.own)
-          ∙ ap (λ vs. w ∷ vs) (told_whole rows ws z.1)
+      ∙ ap (λ vs. w ∷ vs) (told_whole rows ws z.1)
 
   told_numbered : (rows : List Terms) (ws : List CertificateView) → AllZip (IsToldOrigin p) rows ws → All IsNumbered ws
   told_numbered [] [] z = All-nil IsNumbered
@@ -85,8 +85,13 @@ module _ (back : ReadsBack) (origins_back : OriginsReadBack) (q : QuestionView) 
         value = derived_value q.text q.body.names rows ws;
         utf8 = derived_text_utf8 q.text q.body.names rows ws plain;
         is_json = derived_text_back q.text q.body.names rows ws plain;
-        reads = origins_back q rows ws short file (record { answered = fits; region = tt; each = zip-length (IsToldOrigin p)
-            (region_rows rows) ws told; numbers = numbers });
+        reads = origins_back q rows ws short file (record {
+          answered = fits;
+          region = tt;
+          each = zip-length (IsToldOrigin p)
+              (region_rows rows) ws told;
+          numbers = numbers;
+        });
       } in
       accepted_by_verdict line (Judged q.body.names Valid) (derived_text_clear q.text q.body.names rows ws plain)
       (record {
@@ -103,7 +108,7 @@ module _ (back : ReadsBack) (origins_back : OriginsReadBack) (q : QuestionView) 
   by_verb budgets plans (Prove r) rows found ws about shown due told = absurd shown
   by_verb budgets plans (Eliminate rates) rows found ws about shown due told =
       let fits = right_region_fits budgets q.body rates rows (limits back q short file)
-          (system_rows q.body (limits back q short file) (small back q short file)) shown due.0 in
+      (system_rows q.body (limits back q short file) (small back q short file)) shown due.0 in
       region_accepted rows ws (question_fits q.body (Region rows) (Eliminate rates) about fits) (λ i d l. (fits i d l).terms) told
   by_verb budgets plans (Contain first second tries) rows found ws about shown due told = absurd shown
 
@@ -113,7 +118,7 @@ module _ (back : ReadsBack) (origins_back : OriginsReadBack) (q : QuestionView) 
         → AreToldOrigins format q.body answer origins → IsAccepted (told_report q answer origins)
     by_origins format answer found None right told =
         subst IsAccepted (sym (report_without q answer)) (right_accepted back budgets plans q
-            (record { answer = answer; found = found }) few few_tries short file right)
+        (record { answer = answer; found = found }) few few_tries short file right)
     by_origins Text answer found (Some ws) right told = absurd (cc)
     by_origins Json answer found (Some ws) right told = absurd (cc)
     by_origins Proof answer found (Some ws) right told = absurd (cc)

@@ -17,8 +17,12 @@ next_item : {X : Type 0} (k : ℕ) (xs ys : List X) (y : X) → drop k xs ≡ y 
 next_item zero [] ys y e = cc
 next_item zero (x ∷ xs) ys y e = (omega arith, (let same : x ≡ y = cc in same), (let same : xs ≡ ys = cc in same))
 next_item (suc k) [] ys y e = cc
-next_item (suc k) (x ∷ xs) ys y e = let rest = next_item k xs ys y e in (omega (arith, rest.0), rest.1, ap (λ n. drop n (x ∷ xs))
-    (let same : suc k + 1 ≡ suc (k + 1) = omega arith in same) ∙ rest.2)
+next_item (suc k) (x ∷ xs) ys y e = let rest = next_item k xs ys y e in (
+  omega (arith, rest.0),
+  rest.1,
+  ap (λ n. drop n (x ∷ xs))
+      (let same : suc k + 1 ≡ suc (k + 1) = omega arith in same) ∙ rest.2,
+)
 
 no_more : {X : Type 0} (k : ℕ) (xs : List X) → drop k xs ≡ [] → length xs ≤ k
 no_more k [] e = omega arith
@@ -54,7 +58,7 @@ pub checked_stops : (a b c : Option (List ℕ)) (bytes rest line after : List �
 checked_stops a b c bytes rest line after k some_invalid invalid text piece h split judged same took =
     let next = next_item k (split_lines bytes) (split_lines after) line (h.rest_is ∙ split) in
     replies_stop check_mode a b c bytes (split_lines bytes) k h.verdicts line judged.verdict text piece refl h.written next.0 next.1
-        judged.is judged.told.0 same took
+    judged.is judged.told.0 same took
 
 pub checked_first : (a b : Option (List ℕ)) (bytes rest : List ℕ) (k : ℕ) (some_invalid : Bool) → IsChecked a b bytes rest k some_invalid
     → WroteFirst check_mode a b bytes

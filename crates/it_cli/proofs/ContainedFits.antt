@@ -28,7 +28,7 @@ module _ (q : BodyView) (k : IsQuestion q) (posed : IsProblemOf q (problem_of q)
       let forms = obligations q first second parts in
       let scaled = proofs_scaled (problem_of q) budgets.effort _ ws due.proofs.proofs in
       let small : (s : ℕ) → s < 2 ^ length first.names.variables
-          → s < 2 ^ 32 = λ s h. omega (arith, h, pow_mono {i = length first.names.variables} {j = 10} few_variables) in
+      → s < 2 ^ 32 = λ s h. omega (arith, h, pow_mono {i = length first.names.variables} {j = 10} few_variables) in
       record {
         each = shown.are_parts.count;
         sets = All-weaker (λ s. s < 2 ^ length first.names.variables) (λ s. (s < 2 ^ 32) × (s < 2 ^ length first.names.variables))

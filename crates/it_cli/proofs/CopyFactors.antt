@@ -30,16 +30,16 @@ module _ (common rates n m : ℕ) (p image : ℕ → ℤ) (h : AgreeOnCommon com
   atom_same (Entropy of given) k = ap₂ (λ x y. x -ℤ y) (h.on_sets (bit_or of given) (or_lt common of given k.0 k.1)) (h.on_sets given k.1)
   atom_same (Mutual left right given) k = ap₂ (λ x y. x -ℤ y)
       (ap₂ (λ x y. x +ℤ y) (h.on_sets (bit_or left given) (or_lt common left given k.0 k.2))
-          (h.on_sets (bit_or right given) (or_lt common right given k.1 k.2)))
+      (h.on_sets (bit_or right given) (or_lt common right given k.1 k.2)))
       (ap₂ (λ x y. x +ℤ y) (h.on_sets (bit_or (bit_or left right) given) (or_lt common (bit_or left right) given
-          (or_lt common left right k.0 k.1) k.2)) (h.on_sets given k.2))
+      (or_lt common left right k.0 k.1) k.2)) (h.on_sets given k.2))
   atom_same (Rate r) k = h.on_rates r k
 
   side_same : (k : ℕ) (ts : List Term) → All (λ t. IsAtomOf common rates t.atom) ts → side_at m image k ts ≡ side_at n p k ts
   side_same k [] a = refl
   side_same k (t ∷ ts) a = ap₂ (λ x y. cond t.negative (neg_ℤ (pos (multiplicity k t))) (pos (multiplicity k t)) *ℤ x +ℤ y)
       (atom_same t.atom (All-head (λ (t : Term). IsAtomOf common rates t.atom) t ts a))
-          (side_same k ts (All-tail (λ (t : Term). IsAtomOf common rates t.atom) t ts a))
+      (side_same k ts (All-tail (λ (t : Term). IsAtomOf common rates t.atom) t ts a))
 
   -- num times the left side less den times the right one
   form_same : (num den : ℤ) (r : RelationView) → IsRelationOf common rates r
@@ -93,7 +93,7 @@ module _ (q e : BodyView) (r : RelationView) (limits : IsQuestion q) (verb : q.v
       let n = length q.names.variables in
       let relation : IsRelationOf n (length q.names.rates) r = subst (IsVerbOver q.names) verb limits.verb in
       own_factor e r num den image same_verb ∙ form_same n (length q.names.rates) n
-          (length e.names.variables) p image agree num den r relation ∙ sym (own_factor q r num den p verb)
+      (length e.names.variables) p image agree num den r relation ∙ sym (own_factor q r num den p verb)
 
   by_image : HoldsFor e r num den → HoldsWithCopies q e r num den
   by_image holds p copies =

@@ -89,4 +89,4 @@ pub item_at : (cs : List CopyView) (qs : List Question) (i : ℕ) (r : Question)
     → get_or (items_of cs qs) i (with_copies cs (question_view r)) ≡ with_copies cs (question_view r)
 item_at cs qs i r h e =
     get_or-map (with_copies cs) (map question_view qs) i (question_view r) (with_copies cs (question_view r))
-        (omega (arith, h, length-map qs question_view)) ∙ ap (with_copies cs) (question_at qs i r h e)
+    (omega (arith, h, length-map qs question_view)) ∙ ap (with_copies cs) (question_at qs i r h e)

@@ -118,7 +118,7 @@ answers_add_up : (budgets : Budgets) (plans : List Plan) (before : List Candidat
     × (end.contained ≡ counts.contained) × (end.left_open ≡ counts.left_open)
 answers_add_up budgets plans before counts [] end all is =
     subst (λ (e : Counts). (e.yes + e.no + e.undecided ≡ counts.yes + counts.no + counts.undecided + 0) × (e.regions ≡ counts.regions)
-        × (e.contained ≡ counts.contained) × (e.left_open ≡ counts.left_open))
+    × (e.contained ≡ counts.contained) × (e.left_open ≡ counts.left_open))
     (sym is) (omega arith, refl, refl, refl)
 answers_add_up budgets plans before counts (q ∷ qs) end all (reply, right, rest) =
     let one = counted_shown q q.body.verb reply.answer counts refl (All-head IsProve q qs all) right.shows in

@@ -148,7 +148,7 @@ mutual
   items_utf8 later no_items h = IsUtf8-are_ascii (93 ∷ []) refl
   items_utf8 later (item d ds) h =
       IsUtf8-append (comma_if later) (compact_text d ++ items_text true ds) (comma_utf8 later)
-          (IsUtf8-append (compact_text d) (items_text true ds) (text_utf8 d h.0) (items_utf8 true ds h.1))
+      (IsUtf8-append (compact_text d) (items_text true ds) (text_utf8 d h.0) (items_utf8 true ds h.1))
 
   members_utf8 : (later : Bool) (ms : Members) → MembersArePlain ms → IsUtf8 (members_text later ms)
   members_utf8 later no_members h = IsUtf8-are_ascii (125 ∷ []) refl
@@ -157,7 +157,7 @@ mutual
       IsUtf8-append (comma_if later) (quoted k ++ 58 ∷ rest) (comma_utf8 later)
       (IsUtf8-append (quoted k) (58 ∷ rest) (IsUtf8-quoted k h.0)
       (IsUtf8-append (58 ∷ []) rest (IsUtf8-are_ascii (58 ∷ []) refl) (IsUtf8-append (compact_text d) (members_text true ms)
-          (text_utf8 d h.1.0) (members_utf8 true ms h.1.1))))
+      (text_utf8 d h.1.0) (members_utf8 true ms h.1.1))))
 
 -- the text of such a value, if it isn't deep
 read_text : (d : Data) → IsPlain d → depth d ≤ 127 → read (compact_text d) ≡ Some d
@@ -199,8 +199,11 @@ proof_plain c h = (
       integer_plain c.scale h.scale,
       (
         IsUtf8-are_ascii (codes "weights") refl,
-        (items_plain pair_value IsNumberedAmount pair_plain (filter is_nonzero_weight c.weights)
-            (All-filter is_nonzero_weight IsNumberedAmount c.weights h.weights), tt),
+        (
+          items_plain pair_value IsNumberedAmount pair_plain (filter is_nonzero_weight c.weights)
+              (All-filter is_nonzero_weight IsNumberedAmount c.weights h.weights),
+          tt,
+        ),
       ),
     ),
   ),

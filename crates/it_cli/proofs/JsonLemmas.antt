@@ -92,10 +92,10 @@ module _ (q : ProblemView) (target : Terms) where
       let cs = closed_places q in
       let row = terms_of_places (closed_places q) (scaled_point qs) in
       let canonical : IsCanonical row = pairs_canonical cs (scaled_point qs) row refl (places_rise q cs limits refl)
-          (scaled_within (scale_of qs) qs (scaled_point qs) refl fit.numbers) in
+      (scaled_within (scale_of qs) qs (scaled_point qs) refl fit.numbers) in
       let values = map (spread_out q.space.variables (dependences_of q) (coefficient row)) (span 1 (size_of q.space)) in
       subst (All IsWithin) (point_spread q q.space (dependences_of q) cs qs row values refl refl refl refl refl)
-          (spread_within q.space.variables (dependences_of q) (size_of q.space) row canonical)
+      (spread_within q.space.variables (dependences_of q) (size_of q.space) row canonical)
 
   values_by_end : IsProblem q → (values : List ℤ) (e : RunEndView (List (ℕ × Rational)) (List Rational))
       → Follows q target e (proof_views.No values) → All IsWithin values
@@ -223,8 +223,11 @@ module _ (q : BodyView) (p : ProblemView) (space : p.space ≡ space_of (problem
   all_numbered [] (w ∷ ws) c d = absurd c
   all_numbered (f ∷ fs) (w ∷ ws) c d =
       let s = All-head IsScaled w ws d in
-      All-cons IsNumbered w ws (record { scale = s.scale; weights = pairs_below
-          (all_demands (variable_count q) (question_demands q)) few_generators 0 w.weights s.canonical c.0.allowed })
+      All-cons IsNumbered w ws (record {
+        scale = s.scale;
+        weights = pairs_below
+            (all_demands (variable_count q) (question_demands q)) few_generators 0 w.weights s.canonical c.0.allowed;
+      })
       (all_numbered fs ws c.1 (All-tail IsScaled w ws d))
 
   pub all_counted : (fs : List Form) (ws : List CertificateView) → CertifyAll q fs ws → length ws ≡ length fs
@@ -341,7 +344,7 @@ pub eliminated_cause_fits : (budgets : Budgets) (q : BodyView) (rates : List ℕ
     → IsDueElimination budgets q rates (Undecided cause) → IsCauseFor q.names cause
 eliminated_cause_fits budgets q rates cause named due =
     by_end due.end (end_of_rates (problem_of q) budgets.effort budgets.rows
-        (map (terms_in q) (system_forms (variable_count q) q.lines.rows)) [] [] rates due.end due.ends) due.is
+    (map (terms_in q) (system_forms (variable_count q) q.lines.rows)) [] [] rates due.end due.ends) due.is
   where
     by_end : (end : ProjectedView) → IsEndOf rates end → Undecided cause ≡ answer_of_end end → IsCauseFor q.names cause
     by_end (projections.Region kept dropped) h is = absurd (cc)
@@ -360,5 +363,5 @@ pub all_weights_written : (ws : List CertificateView) → All (λ w. IsCanonical
 all_weights_written [] all = refl
 all_weights_written (w ∷ ws) all =
     ap (λ ps. record { scale = w.scale; weights = ps } ∷ map without_zeros ws)
-        (weights_are_some 0 w.weights (All-head (λ (w : CertificateView). IsCanonical w.weights) w ws all))
+    (weights_are_some 0 w.weights (All-head (λ (w : CertificateView). IsCanonical w.weights) w ws all))
     ∙ ap (λ vs. w ∷ vs) (all_weights_written ws (All-tail (λ (w : CertificateView). IsCanonical w.weights) w ws all))

@@ -43,7 +43,7 @@ input_is_given : (r : Call) (settings s : Settings) (most : ℕ) (bytes given : 
     → (given ≡ bytes) × (length bytes ≤ most)
 input_is_given r settings s most bytes given reading is e input =
     let taken : IsTaken r (Some most) given = subst (λ (o : Option ℕ). IsTaken r o given)
-        (ap most_bytes (one_reading r s settings input.reading reading) ∙ is) input.taken in
+    (ap most_bytes (one_reading r s settings input.reading reading) ∙ is) input.taken in
     let same = same_bytes r bytes given e taken.0 in
     (same, subst (λ (b : List ℕ). length b ≤ most) same taken.1)
 
@@ -59,7 +59,7 @@ unread_input : (r : Call) (settings s : Settings) (bytes : List ℕ) → setting
     → IsInput r s bytes → IsUntouched r
 unread_input r settings s bytes reading none input =
     let taken : IsTaken r None bytes = subst (λ (o : Option ℕ). IsTaken r o bytes)
-        (ap most_bytes (one_reading r s settings input.reading reading) ∙ none) input.taken in
+    (ap most_bytes (one_reading r s settings input.reading reading) ∙ none) input.taken in
     taken.0
 
 no_limit : (r : Call) (settings : Settings) (most : ℕ) → settings_of r.words ≡ Some settings → most_bytes settings ≡ None → HasLimit r most → ⊥
@@ -116,7 +116,7 @@ there_is_given : (r : Call) (settings s : Settings) (most : Option ℕ) (bytes g
 there_is_given r settings s (Some most) bytes given reading is (e, fits) input = (input_is_given r settings s most bytes given reading is e input).0
 there_is_given r settings s None bytes given reading is none input =
     let taken : IsTaken r None given = subst (λ (o : Option ℕ). IsTaken r o given)
-        (ap most_bytes (one_reading r s settings input.reading reading) ∙ is) input.taken in
+    (ap most_bytes (one_reading r s settings input.reading reading) ∙ is) input.taken in
     taken.1 ∙ sym none
 
 -- no limit is passed by what is there
@@ -142,8 +142,8 @@ fault_there : (r : Call) (settings : Settings) (bytes : List ℕ) (u : IsUnread 
     → IsThere r (most_bytes settings) bytes → (mode_of r.plans settings).FaultAt bytes u.line u.column u.code
 fault_there r settings bytes u reading there =
     subst (λ (b : List ℕ). (mode_of r.plans settings).FaultAt b u.line u.column u.code)
-        (there_is_given r settings u.settings (most_bytes settings) bytes u.bytes reading refl there u.input)
-        (fault_of r settings u reading)
+    (there_is_given r settings u.settings (most_bytes settings) bytes u.bytes reading refl there u.input)
+    (fault_of r settings u reading)
 
 module _ (reading_is_one : ModesHaveOneReading) where
   no_output : (r : Call) (s : Status) (settings : Settings) (bytes : List ℕ) (line column : ℕ) (code : Code)
@@ -154,16 +154,16 @@ module _ (reading_is_one : ModesHaveOneReading) where
       let output = output_of r s settings h reading in
       (reading_is_one r.plans settings).apart h.bytes output.items line column code output.asked
       (subst (λ (b : List ℕ). (mode_of r.plans settings).FaultAt b line column code)
-          (sym (there_is_given r settings h.settings (most_bytes settings) bytes h.bytes reading refl there h.input)) fault)
+      (sym (there_is_given r settings h.settings (most_bytes settings) bytes h.bytes reading refl there h.input)) fault)
 
   told_fault_is : (r : Call) (settings : Settings) (bytes : List ℕ) (line column : ℕ) (code : Code) (u : IsUnread r)
       → (mode_of r.plans settings).FaultAt bytes u.line u.column u.code
       → (mode_of r.plans settings).FaultAt bytes line column code → Wrote r (fault_line u.line u.column u.code) → Wrote r (fault_line line column code)
   told_fault_is r settings bytes line column code u at fault w =
       let same : (u.line ≡ line) × (u.column ≡ column) × (u.code ≡ code) = (reading_is_one r.plans settings).one_fault bytes u.line u.column
-          line column u.code code at fault in
+      line column u.code code at fault in
       subst (λ (c : Code). Wrote r (fault_line line column c)) same.2 (subst (λ (n : ℕ). Wrote r (fault_line line n u.code)) same.1
-          (subst (λ (n : ℕ). Wrote r (fault_line n u.column u.code)) same.0 w))
+      (subst (λ (n : ℕ). Wrote r (fault_line n u.column u.code)) same.0 w))
 
   pub fault_is_due : FaultIsDue
   fault_is_due r Done settings bytes line column code (faultless, ends) reading there fault = absurd

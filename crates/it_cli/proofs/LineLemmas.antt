@@ -182,7 +182,7 @@ printable_region budgets q rates m (answers.No is_back point) names within shown
 printable_region budgets q rates m (answers.Undecided cause) names within shown due =
     subst (λ (v : NamesView). IsCauseOf (length v.rates) cause) (sym names) (subst (IsCauseIn (length q.names.rates)) (sym due.is)
     (cause_of_end (length q.names.rates) rates due.end within (end_of_rates (problem_of q) budgets.effort budgets.rows
-        (map (terms_in q) (system_forms (variable_count q) q.lines.rows)) [] [] rates due.end due.ends)))
+    (map (terms_in q) (system_forms (variable_count q) q.lines.rows)) [] [] rates due.end due.ends)))
 printable_region budgets q rates m (answers.Region rows) names within shown due = subst
     (λ (v : NamesView). All (λ (row : Mark × Terms). IsRowOver v row.1) rows.items) (sym names)
     (region_rows_over q.names rows.items shown.coordinates)
@@ -264,7 +264,7 @@ pub proof_by_places : (q : QuestionView) (k : ℕ) (s : Space) (cs : List Constr
 proof_by_places q k s cs answer bytes space stated is = is ∙ ap₂ (λ xs rows. proof_text k q.body xs rows
     (map (terms_in q.body) (answer_forms q.body answer)) answer)
     (origins_same (question_origins q.body) cs stated.placed) (generator_rows_are q.body cs
-        (subst (λ (t : Space). AllZip (States t) (question_demands q.body) cs) space stated.stated))
+    (subst (λ (t : Space). AllZip (States t) (question_demands q.body) cs) space stated.stated))
 
 pub few_constraints : (q : BodyView) (s : Space) (cs : List Constraint) → AreStated s (question_origins q) (question_demands q) cs
     → length cs ≡ length (question_demands q)

@@ -75,11 +75,13 @@ line_sound line prefix at bytes (t ∷ ts) m e n h =
     let long : length c.text ≡ t.end - t.start = omega (arith, c.end) in
     let text : take (t.end - t.start) (drop t.start line) ≡ c.text
     = ap (λ (b : List ℕ). take (t.end - t.start) (drop t.start b)) whole
-        ∙ ap (take (t.end - t.start)) (drop_at (prefix ++ c.gap) (c.text ++ h.0) t.start start) ∙ take_at c.text h.0 (t.end - t.start) long
-        in
-    let end : length ((prefix ++ c.gap) ++ c.text) ≡ t.end = omega (arith, length-append (prefix ++ c.gap) c.text, start, c.end) in
-    (token_sound t.kind line t.start t.end c.text text c.spelled, line_sound line ((prefix ++ c.gap) ++ c.text) t.end h.0 ts m
-        (whole ∙ sym (append_assoc (prefix ++ c.gap) c.text h.0)) end h.2)
+    ∙ ap (take (t.end - t.start)) (drop_at (prefix ++ c.gap) (c.text ++ h.0) t.start start) ∙ take_at c.text h.0 (t.end - t.start) long
+    in
+    let end : length ((prefix ++ c.gap) ++ c.text) ≡ t.end = omega (arith, length-append (prefix ++ c.gap) c.text, start, c.end) in (
+      token_sound t.kind line t.start t.end c.text text c.spelled,
+      line_sound line ((prefix ++ c.gap) ++ c.text) t.end h.0 ts m
+          (whole ∙ sym (append_assoc (prefix ++ c.gap) c.text h.0)) end h.2,
+    )
 
 lines_sound : (n : ℕ) (split : List (List ℕ)) (lines : List LineView) → AreLines n split lines → Every IsSound (letters_of_lines lines)
 lines_sound n [] lines h = subst (λ (ls : List LineView). Every IsSound (letters_of_lines ls)) (sym h) (tt, tt)
@@ -88,7 +90,7 @@ lines_sound n (bytes ∷ more) lines (inr h) =
     let l = h.0 in
     subst (λ (ls : List LineView). Every IsSound (letters_of_lines ls)) (sym h.2)
     (every-append IsSound (letters_until l.text l.tokens (last_letter l.misspelling)) (letters_of_lines h.1)
-        (line_sound l.text [] 0 l.text l.tokens l.misspelling refl refl h.3.spelled) (lines_sound (n + 1) more h.1 h.5))
+    (line_sound l.text [] 0 l.text l.tokens l.misspelling refl refl h.3.spelled) (lines_sound (n + 1) more h.1 h.5))
 
 -- ---- the names that are declared
 
@@ -122,7 +124,7 @@ new_name_keeps : (sort : NameSortView) (most : ℕ) (p : List Letter) (v : Names
 unfolding Always new_name
 new_name_keeps sort most p v s (Word w) e m all =
     good_name sort v w (s (every_front IsSound p (Word w ∷ []) all)) (new_of v w
-        (not_taken (is_measure w) (is_taken v w) (most - count sort v) m)) (every_back IsSound p (Word w ∷ []) all).0
+    (not_taken (is_measure w) (is_taken v w) (most - count sort v) m)) (every_back IsSound p (Word w ∷ []) all).0
 new_name_keeps sort most p v s l e m all = absurd cc
 
 more_new_keeps : (sort : NameSortView) (most : ℕ) (p : List Letter) (v : NamesView) → IfSound p v → Always (more_new sort most v) (λ q w. IfSound (p ++ q) w)
@@ -133,7 +135,7 @@ more_new_keeps sort most p v s = loop_keeps (Punctuation Comma ∷ []) (λ v l. 
         (λ p0 b. Always (Then (new_name sort most v) Give) (λ q w. IfSound (p ++ (p0 ++ q)) w))
     turn p v s l e m = always_weaker (new_name sort most v) (λ q w. IfSound ((p ++ (l ∷ [])) ++ q) w) (λ q w. IfSound (p ++ ((l ∷ []) ++ (q ++ []))) w)
         (λ q w h all. h (subst (Every IsSound) (sym (append_assoc p (l ∷ []) q))
-            (subst (λ (r : List Letter). Every IsSound (p ++ (l ∷ r))) (append-nil q) all)))
+        (subst (λ (r : List Letter). Every IsSound (p ++ (l ∷ r))) (append-nil q) all)))
         (new_name_keeps sort most (p ++ (l ∷ [])) v (λ all. s (every_front IsSound p (l ∷ []) all)))
 
 new_names_keep : (sort : NameSortView) (most : ℕ) (p : List Letter) (v : NamesView) → IfSound p v → Always (new_names sort most v) (λ q w. IfSound (p ++ q) w)
@@ -141,8 +143,8 @@ unfolding Always new_names
 new_names_keep sort most p v s =
     always_weaker (new_name sort most v) (λ q w. IfSound (p ++ q) w) _ (λ q w h.
     always_weaker (more_new sort most w) (λ r x. IfSound ((p ++ q) ++ r) x) _
-        (λ r x k l e m all. k (every_front IsSound ((p ++ q) ++ r) (l ∷ []) (subst (Every IsSound) (simp append_assoc) all)))
-        (more_new_keeps sort most (p ++ q) w h))
+    (λ r x k l e m all. k (every_front IsSound ((p ++ q) ++ r) (l ∷ []) (subst (Every IsSound) (simp append_assoc) all)))
+    (more_new_keeps sort most (p ++ q) w h))
     (new_name_keeps sort most p v s)
 
 names_line_keeps : (sort : NameSortView) (most : ℕ) (keyword : List ℕ) (p : List Letter) (v : NamesView) → IfSound p v
@@ -162,7 +164,7 @@ question_keeps =
     always_weaker (names_line Rate most_rates (codes "rates") v) (λ q w. IfSound (p ++ q) w) _ (λ q w k.
     always_any (own_lines most_lines most_lines w) _ (λ r own.
     always_any (verb own w) _ (λ t aim all. k (every_front IsSound (p ++ q) (r ++ (t ++ []))
-        (subst (Every IsSound) (sym (append_assoc p q (r ++ (t ++ [])))) all)))))
+    (subst (Every IsSound) (sym (append_assoc p q (r ++ (t ++ [])))) all)))))
     (names_line_keeps Rate most_rates (codes "rates") p v h))
     (new_names_keep Variable most_variables [] no_names (λ all. no_names_good))
 
@@ -178,7 +180,7 @@ more_questions_keep p qs s = loop_keeps (Keyword (codes "vars") ∷ []) (λ qs l
     turn p qs s l e m = always_weaker question (λ q b. IfSound q b.names) _ (λ q b h all.
         let parts = every_back IsSound p ((l ∷ []) ++ (q ++ [])) all in
         every-append (λ b. AreGood b.names) qs (b ∷ []) (s (every_front IsSound p ((l ∷ []) ++ (q ++ [])) all))
-            (h (every_front IsSound q [] parts.1), tt)) question_keeps
+        (h (every_front IsSound q [] parts.1), tt)) question_keeps
 
 file_keeps : Always file IfSoundAll
 unfolding Always file
@@ -208,7 +210,7 @@ place_is (x ∷ names) (suc r) d h =
     let name = get_or names r [] in
     let other = differs_both_ways x name (every_at (λ y. bytes_eq x y ≡ false) names r d.0 (omega arith)) in
     ap (λ b. cond (not b) (1 + position_or_len (bytes_eq name) names) 0) other ∙ ap (λ i. 1 + i) (place_is names r d.1 (omega arith))
-        ∙ (let e : 1 + r ≡ suc r = omega arith in e)
+    ∙ (let e : 1 + r ≡ suc r = omega arith in e)
 
 found_at : (names : List (List ℕ)) (r : ℕ) → IsDistinct bytes_eq names → r < length names → index_of names (get_or names r []) ≡ Some r
 found_at names r d h =
@@ -242,6 +244,6 @@ pub rates_found : (q : QuestionView) (r : ℕ) → IsFile q.text (q ∷ []) → 
 rates_found q r asked h =
     let ls = letters_of_lines asked.lines in
     let all = always_said file _ file_has IfSoundAll file_keeps ls asked.tree.0 (said file with_texts q.text (q ∷ []) asked)
-        (lines_sound 1 (split_lines q.text) asked.lines asked.cut) in
+    (lines_sound 1 (split_lines q.text) asked.lines asked.cut) in
     let g = first_good q asked.lines asked.tree.0 all asked.says in
     (found_at q.body.names.rates r g.distinct h, no_number (get_or q.body.names.rates r []) (every_at IsLettered q.body.names.rates r g.lettered h))

@@ -39,7 +39,7 @@ module _ (p : ProblemView) where
       → i < length rows → row ≡ get_or rows i row → IsOver (size_of p.space) row.1
   row_over rows i row all l at =
       subst (IsOver (size_of p.space)) (get_or-map (λ (r : Mark × Terms). r.1) rows i row row.1 l ∙ ap (λ (r : Mark × Terms). r.1) (sym at))
-          (all i row.1 (simp length-map l))
+      (all i row.1 (simp length-map l))
 
   -- one more row with its certificate
   pub origins_more : (rows : List (Mark × Terms)) (ws new : List CertificateView) (i : ℕ) (row : Mark × Terms) (w : CertificateView)
@@ -48,10 +48,10 @@ module _ (p : ProblemView) where
   origins_more rows ws new i row w l at proves is z =
       let longer : take (i + 1) rows ≡ take i rows ++ row ∷ [] = (take_at_read rows i row l).1 ∙ ap (λ (r : Mark × Terms). take i rows ++ r ∷ []) (sym at) in
       let own : region_rows (take (i + 1) rows) ≡ region_rows (take i rows)
-          ++ row.1 ∷ [] = ap (λ (rs : List (Mark × Terms)). region_rows rs) longer
-          ∙ map-append (λ (r : Mark × Terms). r.1) (take i rows) (row ∷ []) in
+      ++ row.1 ∷ [] = ap (λ (rs : List (Mark × Terms)). region_rows rs) longer
+      ∙ map-append (λ (r : Mark × Terms). r.1) (take i rows) (row ∷ []) in
       subst (λ (rs : List Terms). AllZip (IsToldOrigin p) rs new) (sym own)
-          (subst (λ (xs : List CertificateView). AllZip (IsToldOrigin p) (region_rows (take i rows) ++ row.1 ∷ []) xs) (sym is)
+      (subst (λ (xs : List CertificateView). AllZip (IsToldOrigin p) (region_rows (take i rows) ++ row.1 ∷ []) xs) (sym is)
       (zip-append (IsToldOrigin p) (region_rows (take i rows)) (row.1 ∷ []) ws (w ∷ []) z (proves, tt)))
 
   -- all rows have theirs

@@ -154,7 +154,7 @@ one_line : OneRightAnswer → FileIsOne → (budgets : Budgets) → budgets.effo
 one_line one_answer one_file budgets defined plans seed count line other a b =
     let same = one_file (generated_file seed count) a.questions b.questions a.asked b.asked in
     let moved : AreCounted budgets plans [] no_counts b.questions a.counts = subst
-        (λ (qs : List QuestionView). AreCounted budgets plans [] no_counts qs a.counts) same a.counted in
+    (λ (qs : List QuestionView). AreCounted budgets plans [] no_counts qs a.counts) same a.counted in
     a.is ∙ ap (bench_line seed count) (one_count one_answer budgets defined plans [] no_counts b.questions a.counts b.counts moved b.counted) ∙ sym b.is
 
 -- what is asked of a question with some copies is one question, or there is one reason against it
@@ -212,7 +212,7 @@ module _ (reading : ModesHaveOneReading) (one_answer : OneRightAnswer) (one_file
     reading = reading plans (Answer format run pivots rows tries);
     one_reply = λ s x a b f g.
         one_told format bland.1 one_answer (budgets_of run pivots rows tries) (not_quick run pivots bland.0)
-            (map (plan_after_all (flat_map (λ (t : ToldReply). t.reply.found) s)) plans) x.body a b f g;
+        (map (plan_after_all (flat_map (λ (t : ToldReply). t.reply.found) s)) plans) x.body a b f g;
   }
   modes_are_determined plans Check bland = record { reading = reading plans Check; one_reply = λ s x a b f g. one_verdict x a b f g }
   modes_are_determined plans (Bench seed count run pivots rows tries) bland = record {

@@ -29,11 +29,16 @@ module _ (m : Mode) (each : (s : List m.Reply) (x : m.Item) → (reply : m.Reply
   replies_join k n s t u [] ys out more e (same, none) later =
       subst (λ (o : List ℕ). RepliesFrom m k s ys u (o ++ more)) (sym none)
       (subst (λ (v : List m.Reply). RepliesFrom m k v ys u more) same (subst (λ (i : ℕ). RepliesFrom m i t ys u more)
-          (let first : n ≡ k = omega (arith, e) in first) later))
-  replies_join k n s t u (x ∷ xs) ys out more e (reply, rest, right, groups, is) later =
-      (reply, rest ++ more, right, replies_join (k + 1) n (s ++ reply ∷ []) t u xs ys rest more
-          (let next : n ≡ (k + 1) + length xs = omega (arith, e) in next) groups later, ap (λ o. o ++ more) is
-          ∙ append_assoc (m.text k x reply) rest more)
+      (let first : n ≡ k = omega (arith, e) in first) later))
+  replies_join k n s t u (x ∷ xs) ys out more e (reply, rest, right, groups, is) later = (
+    reply,
+    rest ++ more,
+    right,
+    replies_join (k + 1) n (s ++ reply ∷ []) t u xs ys rest more
+        (let next : n ≡ (k + 1) + length xs = omega (arith, e) in next) groups later,
+    ap (λ o. o ++ more) is
+        ∙ append_assoc (m.text k x reply) rest more,
+  )
 
   -- a prefix of a whole output
   abbrev IsPrefixOfWhole : List ℕ → List ℕ → Type 0
@@ -44,8 +49,14 @@ module _ (m : Mode) (each : (s : List m.Reply) (x : m.Item) → (reply : m.Reply
       let rest = some_replies (1 + length o.items) o.replies later in (
         out ++ rest.1,
         m.status rest.0,
-        record { items = o.items ++ later; asked = o.asked; replies = rest.0; written = replies_join 1
-            (1 + length o.items) [] o.replies rest.0 o.items later out rest.1 refl o.written rest.2; is = refl },
+        record {
+          items = o.items ++ later;
+          asked = o.asked;
+          replies = rest.0;
+          written = replies_join 1
+              (1 + length o.items) [] o.replies rest.0 o.items later out rest.1 refl o.written rest.2;
+          is = refl;
+        },
         (rest.1, refl),
       )
 
@@ -107,9 +118,12 @@ counts_are_prefix plans seed count run pivots rows tries bytes out = (
     o.reply,
     Done,
     counts_whole (budgets_of run pivots rows tries) plans seed count bytes o.reply o.right,
-    (o.prefix.0, o.prefix.1 ∙ ap (λ t. t ++ o.prefix.0) (sym
-        (o.is ∙ ap (λ w. w ++ o.part) (by_first_items (budgets_of run pivots rows tries) plans seed count bytes o.first.items o.later o.next
-        o.first.replies o.whole o.first.asked o.first.written)))),
+    (
+      o.prefix.0,
+      o.prefix.1 ∙ ap (λ t. t ++ o.prefix.0) (sym
+          (o.is ∙ ap (λ w. w ++ o.part) (by_first_items (budgets_of run pivots rows tries) plans seed count bytes o.first.items o.later o.next
+          o.first.replies o.whole o.first.asked o.first.written))),
+    ),
   ),
   λ o. elim (by_items (budgets_of run pivots rows tries) plans seed count bytes o.1.items o.0 o.1.replies out o.1.asked o.1.written) [
     | inl nothing ↦ inl nothing

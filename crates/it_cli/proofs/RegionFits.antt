@@ -68,7 +68,7 @@ cancelled_canonical at up down h k a b fits =
     let f = factors at up down h k in
     ascends_within 0 (cancelled_row at up down)
     (rises-cancelled_row at up down (factor_above f.common (times_up at up down) (neg_ℤ (coefficient down at)) f.up_is
-        (omega (arith, ints))) (factor_above f.common (times_down at up down) (coefficient up at) f.down_is h) a b)
+    (omega (arith, ints))) (factor_above f.common (times_down at up down) (coefficient up at) f.down_is h) a b)
     (λ c. by_cases c (cases_eq c at))
   where
     by_cases : (c : ℕ) → (c ≡ at) ⊎ (c ≢ at) → IsWithin (coefficient (cancelled_row at up down) c)
@@ -92,7 +92,7 @@ next_canonical : (at : ℕ) (rows : List Terms) → Every IsCanonical rows → P
 next_canonical at rows h fit = with_rows_canonical [] (results at rows) tt (member_every IsCanonical (results at rows) (results_all IsCanonical at rows
     (λ row m e. every_member IsCanonical rows row h m)
     (λ up down m n p k. cancelled_canonical at up down p k (every_member IsCanonical rows up h m) (every_member IsCanonical rows down h n)
-        (fit up down (contains_of rows up m) (contains_of rows down n) p k))))
+    (fit up down (contains_of rows up m) (contains_of rows down n) p k))))
 
 -- the list that the step of a rate leaves
 step_canonical : (base most : ℕ) (rows : List Terms) (r : ℕ) (next : List Terms) → Every IsCanonical rows
@@ -116,8 +116,8 @@ module _ (givens : ProblemView) (effort : Effort) (most : ℕ) where
   kept_canonical rows last kept gone dropped (r ∷ rates) h l (elimination.Region next, e, g) =
       let stay : Every IsCanonical (kept_rows g.0) =
       every_of IsCanonical (kept_rows g.0) (all_kept givens effort IsCanonical [] next g.0 g.1 g.2
-          (all_of IsCanonical next (step_canonical (2 ^ givens.space.variables) most (ordered_rows rows) r next
-          (with_rows_canonical [] rows tt h) e))) in
+      (all_of IsCanonical next (step_canonical (2 ^ givens.space.variables) most (ordered_rows rows) r next
+      (with_rows_canonical [] rows tt h) e))) in
       kept_canonical (kept_rows g.0) g.0 kept g.1 dropped rates stay stay g.3
   kept_canonical rows last kept gone dropped (r ∷ rates) h l (elimination.Rows rate, e, is) = absurd (cc)
   kept_canonical rows last kept gone dropped (r ∷ rates) h l (elimination.Wide rate, e, is) = absurd (cc)
@@ -152,7 +152,7 @@ rows_canonical budgets q rates rows are due = by_end due.end due.ends due.is
     by_end (projections.Region kept dropped) e is =
         subst (λ (rs : List (Mark × Terms)). Every IsCanonical (region_rows rs)) (sym (answer_same rows (marked_rows kept) is))
         (marked_canonical kept (kept_canonical (problem_of q) budgets.effort budgets.rows
-            (map (terms_in q) (system_forms (variable_count q) q.lines.rows)) [] kept [] dropped rates (stated_canonical _ _ _ are) tt e))
+        (map (terms_in q) (system_forms (variable_count q) q.lines.rows)) [] kept [] dropped rates (stated_canonical _ _ _ are) tt e))
     by_end (projections.Rows r) e is = absurd (cc)
     by_end (projections.Wide r) e is = absurd (cc)
 
@@ -161,7 +161,7 @@ pairs_of_row size from [] few a up = All-nil IsNumberedAmount
 pairs_of_row size from (t ∷ ts) few a up =
     let h = All-head (λ (u : ℕ × ℤ). (1 ≤ u.0) × (u.0 ≤ size)) t ts up in
     All-cons IsNumberedAmount t ts (omega (arith, h.1, few), a.2) (pairs_of_row size (t.0 + 1) ts few a.3
-        (All-tail (λ (u : ℕ × ℤ). (1 ≤ u.0) × (u.0 ≤ size)) t ts up))
+    (All-tail (λ (u : ℕ × ℤ). (1 ≤ u.0) × (u.0 ≤ size)) t ts up))
 
 rows_fit : (size : ℕ) (rows : List (Mark × Terms)) → size < 2 ^ 32 → All (IsOver size) (region_rows rows)
     → Every IsCanonical (region_rows rows) → All (IsRowIn size) rows
@@ -169,7 +169,7 @@ rows_fit size [] few up canonical = All-nil (IsRowIn size)
 rows_fit size (r ∷ rows) few up canonical =
     let h = All-head (IsOver size) r.1 (region_rows rows) up in
     All-cons (IsRowIn size) r rows (record { terms = pairs_of_row size 0 r.1 few canonical.0 h; canonical = canonical.0; coordinates = h })
-        (rows_fit size rows few (All-tail (IsOver size) r.1 (region_rows rows) up) canonical.1)
+    (rows_fit size rows few (All-tail (IsOver size) r.1 (region_rows rows) up) canonical.1)
 
 few_coordinates : (q : BodyView) → IsQuestion q → size_of (space_of q.names) < 2 ^ 32
 few_coordinates q k = omega (arith, pow_mono {i = length q.names.variables} {j = 10} k.few, k.few_rates)

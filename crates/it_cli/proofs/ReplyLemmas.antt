@@ -52,8 +52,16 @@ module _ (m : Mode) where
       → Replied a b items i s → WroteFirst m a b bytes
   first_replied a b bytes items i s asked w = record {
     out = w.out;
-    output = (drop i items, record { items = take i items; asked = subst (m.Asks bytes)
-        (sym (take-append-drop i items)) asked; replies = s; written = w.groups });
+    output = (
+      drop i items,
+      record {
+        items = take i items;
+        asked = subst (m.Asks bytes)
+            (sym (take-append-drop i items)) asked;
+        replies = s;
+        written = w.groups;
+      },
+    );
     wrote = w.wrote;
   }
 

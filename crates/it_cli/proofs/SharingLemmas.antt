@@ -63,5 +63,9 @@ module _ (effort : Effort) (bytes : List ℕ) (x : SharingView) (minimal maximal
 
   pub factored_report : (text : List ℕ) → x.best ≡ true → IsFactorReportOf effort (OfSharing bytes) q.body text
       → IsTextOf (sharing_mode true effort) [] 1 (said_by bytes x) text
-  factored_report text asked t = record { reply = Factored t.reply; right
-      = (few_sets, asked, subst (λ (y : QuestionView). IsRightReply effort y.body t.reply) made t.right); is = t.is }
+  factored_report text asked t = record {
+    reply = Factored t.reply;
+    right
+        = (few_sets, asked, subst (λ (y : QuestionView). IsRightReply effort y.body t.reply) made t.right);
+    is = t.is;
+  }

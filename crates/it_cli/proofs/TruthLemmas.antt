@@ -37,7 +37,7 @@ module _ (shown_is_true : answers.WhatIsShownIsTrue) (by_copies : YesByCopies) w
   true_with_copies q e cs (Prove r) (Yes ws) limits verb extension t =
       let same : e.verb ≡ Prove r = subst (λ (x : BodyView). x.verb ≡ Prove r) (sym extension.is) verb in
       by_copies q e cs r limits verb extension (λ image polymatroid lines. own_lines e r e.verb same
-          (subst (λ (v : VerbView). IsTrueBy e v (Yes ws)) same t) image (polymatroid, lines))
+      (subst (λ (v : VerbView). IsTrueBy e v (Yes ws)) same t) image (polymatroid, lines))
   true_with_copies q e cs (Prove r) (No is_back values) limits verb extension t = t
   true_with_copies q e cs (Prove r) (Undecided cause) limits verb extension t = t
   true_with_copies q e cs (Prove r) (Region rows) limits verb extension t = t
@@ -109,7 +109,7 @@ module _ (is_perfect : MadeQuestionIsOfPerfectSharing) (x : SharingView) (within
     true_factors (Found best) t =
         let same : t.0 ≡ x.relation = some_same t.0 x.relation (sym t.1 ∙ asks_for) in
         true_of_same (HoldsFor (made_question x).body x.relation) (HoldsWherePerfect x) best same_factors
-            (subst (λ (r : RelationView). IsTrueBest (HoldsFor (made_question x).body r) best) same t.2)
+        (subst (λ (r : RelationView). IsTrueBest (HoldsFor (made_question x).body r) best) same t.2)
     true_factors Other t = absurd (none_is_not_some x.relation (sym t ∙ asks_for))
 
 pub right_sharing_is_true : answers.WhatIsShownIsTrue → factors.WhatIsShownIsTrue → MadeQuestionIsOfPerfectSharing

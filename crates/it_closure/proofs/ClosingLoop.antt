@@ -52,7 +52,7 @@ closure_among n m ds s k b l =
           inside-trans (closure n ds s) (bit_and a all) a
           (is.least (bit_and a all) (omega (arith, and_le_r a all, pow_pos n)) (inside_meet s a all i (inside_all n s l)) (λ i d h j.
           inside_meet (get_or ds i d).to a all (c i d h (inside-trans (get_or ds i d).from (bit_and a all) a j (meet_left a all)))
-              (inside_all n (get_or ds i d).to (b i d h))))
+          (inside_all n (get_or ds i d).to (b i d h))))
           (meet_left a all);
     })
 

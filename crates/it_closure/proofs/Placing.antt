@@ -131,8 +131,8 @@ pub placing-stops : (n : ℕ) (ds : List Dependence) (terms : Terms) (size : ℕ
 placing-stops n ds terms size values i p t h is e wide u all =
     let f = subst (λ (r : Terms). PlaceSumsFit u.sofar (placed_terms n ds r)) (drop_item terms i t h is) (u.fits.1 all) in
     wide (λ k. subst (λ (m : ℕ). IsWithin (number_at values m +ℤ t.1)) (sym e)
-        (subst (λ (y : ℤ). IsWithin (y +ℤ t.1)) (sym (u.same (place n ds t.0) (subst (λ (m : ℕ). 0 < m) e k)))
-        (f.0 (subst (λ (m : ℕ). 0 < m) e k))))
+    (subst (λ (y : ℤ). IsWithin (y +ℤ t.1)) (sym (u.same (place n ds t.0) (subst (λ (m : ℕ). 0 < m) e k)))
+    (f.0 (subst (λ (m : ℕ). 0 < m) e k))))
 
 pub placing-end : (n : ℕ) (ds : List Dependence) (terms : Terms) (size : ℕ) (values : List ℤ) (i : ℕ) → length terms ≤ i
     → IsPlacing n ds terms size values i → ArePlaced n ds terms size values

@@ -46,8 +46,8 @@ row_found (t ∷ []) size e u q = by_first_test (is_one t.1) refl
     by_second_test : (c : Bool) → is_minus_one t.1 ≡ c → is_one t.1 ≡ false → t ∷ [] ≡ dependence_row e.negated e.from e.to
     by_second_test true g h = subst (λ (f : SetPair). t ∷ [] ≡ dependence_row f.negated f.from f.to)
         (some_same (record { from = 0; to = t.0; negated = true }) e (sym
-            (ap₂ (λ x y. cond x (Some (record { from = 0; to = t.0; negated = false }))
-            (cond y (Some (record { from = 0; to = t.0; negated = true })) None)) h g) ∙ q))
+        (ap₂ (λ x y. cond x (Some (record { from = 0; to = t.0; negated = false }))
+        (cond y (Some (record { from = 0; to = t.0; negated = true })) None)) h g) ∙ q))
         (ap (λ a. (t.0, a) ∷ []) (minus_one_is t.1 g) ∙ term_is t.0 (negsuc 0) place_some)
     by_second_test false g h = absurd (none_is_not_some e (sym
         (ap₂ (λ x y. cond x (Some (record { from = 0; to = t.0; negated = false }))
@@ -56,8 +56,8 @@ row_found (t ∷ []) size e u q = by_first_test (is_one t.1) refl
     by_first_test : (b : Bool) → is_one t.1 ≡ b → t ∷ [] ≡ dependence_row e.negated e.from e.to
     by_first_test true g = subst (λ (f : SetPair). t ∷ [] ≡ dependence_row f.negated f.from f.to)
         (some_same (record { from = 0; to = t.0; negated = false }) e (sym
-            (ap (λ x. cond x (Some (record { from = 0; to = t.0; negated = false }))
-            (cond (is_minus_one t.1) (Some (record { from = 0; to = t.0; negated = true })) None)) g) ∙ q))
+        (ap (λ x. cond x (Some (record { from = 0; to = t.0; negated = false }))
+        (cond (is_minus_one t.1) (Some (record { from = 0; to = t.0; negated = true })) None)) g) ∙ q))
         (ap (λ a. (t.0, a) ∷ []) (one_is t.1 g) ∙ term_is t.0 (pos 1) place_some)
     by_first_test false g = by_second_test (is_minus_one t.1) refl g
 row_found (t ∷ v ∷ []) size e u q = by_first_test (is_minus_one t.1 && is_one v.1) refl
@@ -75,10 +75,10 @@ row_found (t ∷ v ∷ []) size e u q = by_first_test (is_minus_one t.1 && is_on
         → t ∷ v ∷ [] ≡ dependence_row e.negated e.from e.to
     by_second_test true g h = subst (λ (f : SetPair). t ∷ v ∷ [] ≡ dependence_row f.negated f.from f.to)
         (some_same (record { from = t.0; to = v.0; negated = true }) e (sym
-            (ap₂ (λ x y. cond x (Some (record { from = t.0; to = v.0; negated = false }))
-            (cond y (Some (record { from = t.0; to = v.0; negated = true })) None)) h g) ∙ q))
+        (ap₂ (λ x y. cond x (Some (record { from = t.0; to = v.0; negated = false }))
+        (cond y (Some (record { from = t.0; to = v.0; negated = true })) None)) h g) ∙ q))
         (rows (pos 1) (negsuc 0) (one_is t.1 (both_true (is_one t.1) (is_minus_one v.1) g).0)
-            (minus_one_is v.1 (both_true (is_one t.1) (is_minus_one v.1) g).1))
+        (minus_one_is v.1 (both_true (is_one t.1) (is_minus_one v.1) g).1))
     by_second_test false g h = absurd (none_is_not_some e (sym
         (ap₂ (λ x y. cond x (Some (record { from = t.0; to = v.0; negated = false }))
         (cond y (Some (record { from = t.0; to = v.0; negated = true })) None)) h g) ∙ q))
@@ -86,10 +86,10 @@ row_found (t ∷ v ∷ []) size e u q = by_first_test (is_minus_one t.1 && is_on
     by_first_test : (b : Bool) → (is_minus_one t.1 && is_one v.1) ≡ b → t ∷ v ∷ [] ≡ dependence_row e.negated e.from e.to
     by_first_test true g = subst (λ (f : SetPair). t ∷ v ∷ [] ≡ dependence_row f.negated f.from f.to)
         (some_same (record { from = t.0; to = v.0; negated = false }) e (sym
-            (ap (λ x. cond x (Some (record { from = t.0; to = v.0; negated = false }))
-            (cond (is_one t.1 && is_minus_one v.1) (Some (record { from = t.0; to = v.0; negated = true })) None)) g) ∙ q))
+        (ap (λ x. cond x (Some (record { from = t.0; to = v.0; negated = false }))
+        (cond (is_one t.1 && is_minus_one v.1) (Some (record { from = t.0; to = v.0; negated = true })) None)) g) ∙ q))
         (rows (negsuc 0) (pos 1) (minus_one_is t.1 (both_true (is_minus_one t.1) (is_one v.1) g).0)
-            (one_is v.1 (both_true (is_minus_one t.1) (is_one v.1) g).1))
+        (one_is v.1 (both_true (is_minus_one t.1) (is_one v.1) g).1))
     by_first_test false g = by_second_test (is_one t.1 && is_minus_one v.1) refl g
 row_found (t ∷ v ∷ w ∷ ts) size e u q = absurd (none_is_not_some e q)
 
@@ -133,7 +133,7 @@ says_dependence s size g c d u q = by_test (is_given c.origin && is_equation c.k
         inner : (b : Bool) → are_ends s.variables e ≡ b → SaysDependence s c d × (d.generator ≡ g)
         inner true v = subst (λ (x : Dependence). SaysDependence s c x × (x.generator ≡ g))
             (some_same (record { from = e.from; to = e.to; generator = g; negated = e.negated }) d
-                (sym (ap (λ b. cond b (Some (record { from = e.from; to = e.to; generator = g; negated = e.negated })) None) v) ∙ r)) (
+            (sym (ap (λ b. cond b (Some (record { from = e.from; to = e.to; generator = g; negated = e.negated })) None) v) ∙ r)) (
               record {
                 given = (both_true (is_given c.origin) (is_equation c.kind) t).0;
                 equation = equation_is c.kind (both_true (is_given c.origin) (is_equation c.kind) t).1;

@@ -30,8 +30,16 @@ first_is_read s size g c cs (Some d) u e =
 later_are_read : (s : Space) (c : Constraint) (cs : List Constraint) (g : ℕ) (ds : List Dependence) → Every (IsRead s cs (g + 1)) ds
     → Every (IsRead s (c ∷ cs) g) ds
 later_are_read s c cs g [] e = tt
-later_are_read s c cs g (d ∷ ds) e = (record { place = suc e.0.place; inside = omega (arith, e.0.inside); number = e.0.number
-    ∙ omega arith; is = λ x. e.0.is x }, later_are_read s c cs g ds e.1)
+later_are_read s c cs g (d ∷ ds) e = (
+  record {
+    place = suc e.0.place;
+    inside = omega (arith, e.0.inside);
+    number = e.0.number
+        ∙ omega arith;
+    is = λ x. e.0.is x;
+  },
+  later_are_read s c cs g ds e.1,
+)
 
 pub all_read : (s : Space) (size g : ℕ) (cs : List Constraint) → All (λ c. IsOver size c.row) cs → Every (IsRead s cs g) (read_from s.variables g cs)
 all_read s size g [] u = tt

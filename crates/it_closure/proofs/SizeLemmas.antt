@@ -35,8 +35,18 @@ rows-few n m rates ds h k =
     let all = span 1 (2 ^ n - 1) in
     let sets = filter (has_row n ds) all in
     let most : 2 ^ n ≤ 2 ^ m = pow-le-pow_right (lit< tt) h in
-    omega (arith, length-append sets (span (2 ^ n) rates), length-filter (has_row n ds) all, count_by-le-length
-        (has_row n ds) all, length-span 1 (2 ^ n - 1), length-span (2 ^ n) rates, most, pow_pos m, k)
+    omega (
+      arith,
+      length-append sets (span (2 ^ n) rates),
+      length-filter (has_row n ds) all,
+      count_by-le-length
+          (has_row n ds) all,
+      length-span 1 (2 ^ n - 1),
+      length-span (2 ^ n) rates,
+      most,
+      pow_pos m,
+      k,
+    )
 
 -- a constraint has at most two columns
 pub columns-few : (cs : List Constraint) → constraint_columns cs ≤ 2 * length cs

@@ -71,7 +71,7 @@ holds_by_turns n ds s P Q b q l step (suc turns) a h k i j p = by_option (first_
         let more : a < bit_or a d.to = grows a d.to o.new in
         ih (bit_or a d.to) (omega arith) (or_lt n a d.to k o.below) (inside-trans s a (bit_or a d.to) i (inside_left a d.to))
         (or_inside a d.to (closure n ds s) j (o.kept (closure n ds s) closure_of_set.closed
-            (inside-trans d.from a (closure n ds s) o.known j))) (step a d k i o (some_open Q ds a d (every_of Q ds q) e).0 p)
+        (inside-trans d.from a (closure n ds s) o.known j))) (step a d k i o (some_open Q ds a d (every_of Q ds q) e).0 p)
 
 pub holds_of_closure : (n : ℕ) (ds : List Dependence) (s : ℕ) (P : ℕ → Type 0) (Q : Dependence → Type 0) → All (λ d. d.to < 2 ^ n) ds → All Q ds → s < 2 ^ n
     → ((a : ℕ) (d : Dependence) → a < 2 ^ n → IsInside s a → IsOpenOf n ds a d → Q d → P a → P (bit_or a d.to)) → P s → P (closure n ds s)

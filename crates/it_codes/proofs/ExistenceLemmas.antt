@@ -93,7 +93,7 @@ module _ (code : CodeView) (times : ℕ) (values : List ℤ) where
       by_power (inl found) = by_value found.0 found.1 (value_or_not (point_of values s) (times * found.0))
       by_power (inr none) = inr (λ has. none has.0
           (exponent_below (kernel_size code s) (size code.field) (size code.field ^ code.symbols) has.0 (two_elements code.field)
-              (some_message code.field code.symbols) has.2) has.2)
+          (some_message code.field code.symbols) has.2) has.2)
 
   -- a first set up to one, or none
   abbrev FoundUpTo : ℕ → Type 0

@@ -42,9 +42,9 @@ pub scale_wide : (qs : List Rational) (i scale : ℕ) (q : Rational) → i < len
 unfolding scale_from
 scale_wide qs i scale q h is n s w =
     let e : scale_from (lcm scale q.den) (drop (i + 1) qs) ≡ scale_of qs = subst (λ xs. scale_from scale xs ≡ scale_from 1 qs)
-        (drop_item qs i q h is) s.same ∙ scale_from_one qs in
+    (drop_item qs i q h is) s.same ∙ scale_from_one qs in
     let least : lcm scale q.den ≤ scale_from (lcm scale q.den) (drop (i + 1) qs) = scale_least (lcm scale q.den) (drop (i + 1) qs)
-        (lcm-pos scale q.den s.some q.positive) in
+    (lcm-pos scale q.den s.some q.positive) in
     n (smaller_within (lcm scale q.den) (scale_of qs) (omega (arith, e, least)) w)
   where
     smaller_within : (m l : ℕ) → m ≤ l → IsWithin (pos l) → IsWithin (pos m)

@@ -35,7 +35,7 @@ candidate_made xs m a at r s t u v n none is es et eu ev =
     ∙ four_of (λ d. get_or xs d 0) r four in
     let all : s ∷ t ∷ u ∷ v ∷ [] ≡ take 4 (map (λ d. get_or xs d 0) (digits (length xs) a at) ++ (0 ∷ 0 ∷ 0 ∷ 0 ∷ [])) =
     sets ∙ ap (map (λ d. get_or xs d 0)) is ∙ map_keeps_padding (λ d. get_or xs d 0) (digits m a at) none
-        ∙ ap (λ k. take 4 (map (λ d. get_or xs d 0) (digits k a at) ++ (0 ∷ 0 ∷ 0 ∷ 0 ∷ []))) (sym n) in
+    ∙ ap (λ k. take 4 (map (λ d. get_or xs d 0) (digits k a at) ++ (0 ∷ 0 ∷ 0 ∷ 0 ∷ []))) (sym n) in
     ap (λ zs. record { count = a; parts = zs }) all
 
 -- ---- the candidates from number k on

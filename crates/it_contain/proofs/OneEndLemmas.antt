@@ -60,7 +60,7 @@ module _ (goal : Goal) (decides : Decides goal) where
   pub first_not_open : (tries : ℕ) (plan : List Candidate) (c : Candidate) (t : ℕ) → IsFirstProved goal tries plan c → IsOpen goal tries plan t → ⊥
   first_not_open tries plan c t f o =
       decides c (tried_unproved tries f.before f.after c f.within (subst (λ (cs : List Candidate). All (IsUnproved goal) (take tries cs))
-          f.parts o.unproved)) f.proved
+      f.parts o.unproved)) f.proved
 
 pub one_open : (goal : Goal) (tries : ℕ) (plan : List Candidate) (t u : ℕ) → IsOpen goal tries plan t → IsOpen goal tries plan u → t ≡ u
 one_open goal tries plan t u o p = o.tried_is ∙ sym p.tried_is

@@ -15,5 +15,5 @@ pub after_more : (proved more : List Candidate) (plans : List Plan) → map (pla
 after_more proved more [] = refl
 after_more proved more (p ∷ plans) =
     ap (λ z. z ∷ map (plan_after_all more) (map (plan_after_all proved) plans))
-        (fun_ext (λ shape. fun_ext (λ later. ap (p shape) (sym (append_assoc proved more later)))))
+    (fun_ext (λ shape. fun_ext (λ later. ap (p shape) (sym (append_assoc proved more later)))))
     ∙ ap (λ zs. plan_after_all (proved ++ more) p ∷ zs) (after_more proved more plans)

@@ -54,10 +54,10 @@ pub under_way_more : (q : ProblemView) (effort : Effort) (ts : List Terms) (proo
 under_way_more q effort ts proofs all c i t l is e pushed u = record {
   all = λ more a. subst (λ (ws : List CertificateView). AreProofsOf q effort ts ws)
       (sym (ap (λ (cs : List Certificate). map certificate_view cs ++ more) pushed
-          ∙ ap (λ (ws : List CertificateView). ws ++ more) (map-append certificate_view proofs (c ∷ []))
-          ∙ append_assoc (map certificate_view proofs) (certificate_view c ∷ []) more))
+      ∙ ap (λ (ws : List CertificateView). ws ++ more) (map-append certificate_view proofs (c ∷ []))
+      ∙ append_assoc (map certificate_view proofs) (certificate_view c ∷ []) more))
       (u.all (certificate_view c ∷ more) (subst (λ (xs : List Terms). AreProofsOf q effort xs (certificate_view c ∷ more))
-          (sym (drop_item ts i t l is)) (e, a)));
+      (sym (drop_item ts i t l is)) (e, a)));
 }
 
 -- ---- a candidate

@@ -90,4 +90,4 @@ pub questions_keep_limits : (qs : List Question) (lines : List LineView) (ys : L
     → map question_view qs ≡ with_texts lines ys → All (λ q. IsQuestion (question_body q)) qs
 questions_keep_limits qs lines ys h are =
     from_map (λ (q : QuestionView). IsQuestion q.body) question_view qs (subst (All (λ (q : QuestionView). IsQuestion q.body)) (sym are)
-        (texts_keep_limits lines ys h))
+    (texts_keep_limits lines ys h))

@@ -63,7 +63,7 @@ few_before n (bytes ∷ more) lines zero one (inr h) = subst (λ (ls : List Line
     (omega (arith, h.3.number, one))
 few_before n (bytes ∷ more) lines (suc k) one (inr h) =
     subst (λ (ls : List LineView). lines_before (drop (suc k) ls) + 1 ≤ n + suc (length more)) (sym h.2)
-        (let e = few_before (n + 1) more h.1 k (omega arith) h.5 in omega (arith, e))
+    (let e = few_before (n + 1) more h.1 k (omega arith) h.5 in omega (arith, e))
 
 -- at most as many as there are bytes
 pub few_lines_before : (bytes : List ℕ) (lines : List LineView) (k : ℕ) → AreLinesOf bytes lines → lines_before (drop k lines) ≤ length bytes
@@ -78,8 +78,12 @@ pub record AreLeft (bytes rest : List ℕ) (n : ℕ) : Type 0 where
   pub short : length rest ≤ length bytes
 
 pub all_are_left : (bytes : List ℕ) → AreLeft bytes bytes 0
-all_are_left bytes = record { left = refl; back = let e : length bytes - length bytes ≡ 0 = omega arith
-    in ap (λ (n : ℕ). drop n bytes) (sym e); short = omega arith }
+all_are_left bytes = record {
+  left = refl;
+  back = let e : length bytes - length bytes ≡ 0 = omega arith
+      in ap (λ (n : ℕ). drop n bytes) (sym e);
+  short = omega arith;
+}
 
 -- after one line more
 pub left_after_line : (bytes rest line after : List ℕ) (n : ℕ) → AreLeft bytes rest n → split_lines rest ≡ line ∷ split_lines after
@@ -116,12 +120,12 @@ pub head_read : (bytes : List ℕ) (lines : List LineView) (copies : List CopyVi
 head_read bytes lines copies r from skipped cut e begins counted within after =
     let ls = letters_of_lines lines in
     let w : Went (read (more_copies [])) (Spells (more_copies [])) ls copies r = subst
-        (λ (t : Reads (List CopyView)). By (read (more_copies [])) (Spells (more_copies [])) ls t) e
-        (reading_tells (more_copies []) _ (copies_has []) ls) in
+    (λ (t : Reads (List CopyView)). By (read (more_copies [])) (Spells (more_copies [])) ls t) e
+    (reading_tells (more_copies []) _ (copies_has []) ls) in
     let g = copies_lines [] copies (without_flags w.prefix ++ []) [] (w.spells []) in
     let prefix : letters g.puts.prefix ≡ w.prefix =
     sym (append-nil (letters g.puts.prefix)) ∙ sym (letters_append g.puts.prefix []) ∙ sym (ap letters g.puts.is)
-        ∙ letters_after w.prefix [] ∙ append-nil w.prefix in
+    ∙ letters_after w.prefix [] ∙ append-nil w.prefix in
     let count : g.lines ≡ length copies = omega (arith, g.grows) in
     let long : HasLines (length copies) w.prefix = subst (λ (n : ℕ). HasLines n w.prefix) count (subst (HasLines g.lines) prefix g.puts.kind) in
     let first = letters_of_first_lines (length copies) lines w.prefix r long w.parts (lines_sound 1 (split_lines bytes) lines cut) in
@@ -132,7 +136,7 @@ head_read bytes lines copies r from skipped cut e begins counted within after =
       rest_is = refl;
       spells = subst (λ (s : List Letter). Spells (more_copies []) copies (without_flags ls) (without_flags s)) (sym first.after)
           (subst (λ m. Spells (more_copies []) copies m (without_flags r)) (sym (ap without_flags w.parts ∙ cleaned_append w.prefix r))
-              (w.spells (without_flags r)));
+          (w.spells (without_flags r)));
       begins = ap begins_questions first.after ∙ begins;
       counted = counted;
       within = within;
@@ -157,8 +161,8 @@ no_head : (bytes : List ℕ) (lines : List LineView) → AreLinesOf bytes lines 
 no_head bytes lines cut none copies from skipped h =
     let same : h.lines ≡ lines = lines_are_one 1 (split_lines bytes) h.lines lines h.cut cut in
     none copies (letters_of_lines h.rest) (subst (λ (ls : List LineView). read (more_copies []) (letters_of_lines ls)
-        ≡ Ok (copies, letters_of_lines h.rest)) same (written_head_is_read copies (letters_of_lines h.lines)
-        (letters_of_lines h.rest) h.spells h.begins)) h.begins
+    ≡ Ok (copies, letters_of_lines h.rest)) same (written_head_is_read copies (letters_of_lines h.lines)
+    (letters_of_lines h.rest) h.spells h.begins)) h.begins
 
 -- ---- where reading stops
 
@@ -174,9 +178,9 @@ no_file (l ∷ ls) e =
     let other = both_false _ _ e in
     let question : read (more_questions []) (l ∷ ls) ≡ Ok ([], l ∷ ls) = word_ends (codes "vars") (λ qs. limit_flag (most_questions - length qs)) (λ qs. question) (λ qs q. qs ++ q ∷ []) [] (l ∷ ls) _ refl (ap (λ (b : Bool). cond b (Some ((None, tt), ls)) None) other.0) in
     let end : read file_end (l ∷ ls) ≡ Err (own_code (l ∷ ls), l ∷ ls) = other_is (just (FileEnd ∷ []) tt) l other.1
-        (λ a rest. Ok (a, rest)) ls (no_rule (l ∷ ls)) in
+    (λ a rest. Ok (a, rest)) ls (no_rule (l ∷ ls)) in
     ap (λ (t : Reads (List BodyView)). t >>= λ x. read (Then file_end (λ u. Give x.0)) x.1) question
-        ∙ ap (λ (t : Reads (Unit {0})). t >>= λ x. read (Give []) x.1) end
+    ∙ ap (λ (t : Reads (Unit {0})). t >>= λ x. read (Give []) x.1) end
 
 -- where the copies stop the file stops
 pub stops_at_copies : (stop : Stop) (rest ls : List Letter) → StopsAs stop rest (read (more_copies []) ls) → StopsInHead stop rest ls
@@ -204,6 +208,8 @@ pub head_fault : (bytes : List ℕ) (lines : List LineView) (stop : Stop) (r : L
     → StopsInHead stop r (letters_of_lines lines) → IsStopAt (place_of lines r) stop fault → IsFirstHeadFault bytes fault
 head_fault bytes lines stops.Memory r fault cut h at = subst (IsFirstHeadFault bytes) (sym at) tt
 head_fault bytes lines (stops.Fault c) r Memory cut h at = absurd at
-head_fault bytes lines (stops.Fault c) r (Fault line column code) cut h at =
-    (no_head bytes lines cut h.none, first_form_fault copy_file _ copy_file_has copy_file_ends bytes lines (stops.Fault c) r
-        (Fault line column code) cut h.stops at)
+head_fault bytes lines (stops.Fault c) r (Fault line column code) cut h at = (
+  no_head bytes lines cut h.none,
+  first_form_fault copy_file _ copy_file_has copy_file_ends bytes lines (stops.Fault c) r
+      (Fault line column code) cut h.stops at,
+)

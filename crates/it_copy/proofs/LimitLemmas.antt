@@ -71,8 +71,8 @@ module _ (n a over : ℕ) (old : a < n) (inside : over < 2 ^ n) where
       All-append (IsGivenOf (n + 1)) (map (inside_equation n a) (filter (λ s. is_inside s over) (span 0 (over + 1)))) (apart_equation n over ∷ [])
       (All-map (IsGivenOf (n + 1)) (inside_equation n a) (filter (λ s. is_inside s over) (span 0 (over + 1)))
       (All-weaker (λ s. s < over + 1) (λ s. IsGivenOf (n + 1) (inside_equation n a s)) inside_is_given
-          (filter (λ s. is_inside s over) (span 0 (over + 1))) (All-filter (λ s. is_inside s over) (λ s. s < over + 1)
-          (span 0 (over + 1)) numbers_below)))
+      (filter (λ s. is_inside s over) (span 0 (over + 1))) (All-filter (λ s. is_inside s over) (λ s. s < over + 1)
+      (span 0 (over + 1)) numbers_below)))
       (All-cons (IsGivenOf (n + 1)) (apart_equation n over) [] apart_is_given (All-nil (IsGivenOf (n + 1))))
 
 -- ---- the equations of all copies, over all variables
@@ -95,7 +95,7 @@ copies_are_added k v (c ∷ cs) few e =
     let all = with_copies (with_copy v c) cs in
     let own : All (IsGivenOf (length all.variables)) (copy_equations (length v.variables) x.0 x.1) =
     All-weaker (IsGivenOf (length v.variables + 1)) (IsGivenOf (length all.variables))
-        (λ g h. wider_given (length v.variables + 1) (length all.variables) (omega (arith, counted, later.more)) g h)
+    (λ g h. wider_given (length v.variables + 1) (length all.variables) (omega (arith, counted, later.more)) g h)
     (copy_equations (length v.variables) x.0 x.1) (equations_are_givens (length v.variables) x.0 x.1 p.old p.over) in
     record {
       more = omega (arith, counted, later.more);
@@ -104,7 +104,7 @@ copies_are_added k v (c ∷ cs) few e =
       givens = All-append (IsGivenOf (length all.variables)) (option_map_or (λ (x : ℕ × ℕ). copy_equations (length v.variables) x.0 x.1)
           (placed v c) []) (equations_of (with_copy v c) cs)
           (subst (λ (o : Option (ℕ × ℕ)). All (IsGivenOf (length all.variables))
-              (option_map_or (λ (x : ℕ × ℕ). copy_equations (length v.variables) x.0 x.1) o [])) (sym x.2) own) later.givens;
+          (option_map_or (λ (x : ℕ × ℕ). copy_equations (length v.variables) x.0 x.1) o [])) (sym x.2) own) later.givens;
     }
 
 -- ---- the question with copies
@@ -113,7 +113,7 @@ proof_over : (q : BodyView) (cs : List CopyView) (added : AreAdded q.names (with
     (verb : VerbView) → IsProof verb → IsVerbOver q.names verb → IsVerbOver (with_copies q.names cs) verb
 proof_over q cs added (Prove r) proof h =
     subst (λ (m : ℕ). IsRelationOf (length (with_copies q.names cs).variables) m r) (sym (ap length added.rates))
-        (wider_relation (length q.names.variables) (length (with_copies q.names cs).variables) (length q.names.rates) added.more r h)
+    (wider_relation (length q.names.variables) (length (with_copies q.names cs).variables) (length q.names.rates) added.more r h)
 proof_over q cs added (Eliminate rates) proof h = absurd proof
 proof_over q cs added (Contain first second tries) proof h = absurd proof
 
@@ -133,7 +133,7 @@ extended_is_question q cs k made few =
             (All-weaker (IsGivenOf n) (IsGivenOf m) (λ g h. wider_given n m added.more g h) q.lines.givens k.lines.givens) added.givens;
         rows = All-weaker (IsRelationOf n (length q.names.rates)) (IsRelationOf m (length (with_copies q.names cs).rates))
             (λ r h. subst (λ (rates : ℕ). IsRelationOf m rates r) (sym (ap length added.rates))
-                (wider_relation n m (length q.names.rates) added.more r h)) q.lines.rows k.lines.rows;
+            (wider_relation n m (length q.names.rates) added.more r h)) q.lines.rows k.lines.rows;
       };
       verb = proof_over q cs added q.verb made.proof k.verb;
     }

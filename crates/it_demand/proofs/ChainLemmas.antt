@@ -69,7 +69,7 @@ chained-more space line parts sets past i here next old new c h is was low state
   all = λ more m. subst (λ (cs : List Constraint). ArePartsFrom 1 space line parts (equations space.variables (links sets)) cs)
       (sym (ap (λ (cs : List Constraint). cs ++ more) e ∙ append_assoc old (c ∷ []) more))
       (u.all (c ∷ more) (subst (λ (ls : List Atom). ArePartsFrom i space line parts (equations space.variables ls) (c ∷ more))
-          (sym (links-more past sets i here next h is was)) (record { placed = (comes, m.placed); stated = (states, m.stated) })));
+      (sym (links-more past sets i here next h is was)) (record { placed = (comes, m.placed); stated = (states, m.stated) })));
 }
 
 -- after the last link
@@ -79,7 +79,7 @@ chained-end space line parts sets past i constraints h e u =
     let count : parts ≡ length (equations space.variables (links sets)) = e ∙ sym (chain-length space.variables sets) in
     let whole : ArePartsFrom 1 space line parts (equations space.variables (links sets)) (constraints ++ []) =
     u.all [] (subst (λ (ls : List Atom). ArePartsFrom i space line parts (equations space.variables ls) []) (sym (links-end past sets i h))
-        (record { placed = tt; stated = tt })) in
+    (record { placed = tt; stated = tt })) in
     subst (λ (n : ℕ). ArePartsFrom 1 space line n (equations space.variables (links sets)) constraints) count
-        (subst (λ (cs : List Constraint). ArePartsFrom 1 space line parts (equations space.variables (links sets)) cs)
-        (append-nil constraints) whole)
+    (subst (λ (cs : List Constraint). ArePartsFrom 1 space line parts (equations space.variables (links sets)) cs)
+    (append-nil constraints) whole)

@@ -29,7 +29,7 @@ told_from limit first (suc count) [] f l a u h = told_from limit (first + 1) cou
     ∙ ap (λ (x : ℤ). single_term first x ++ terms_from (first + 1) (map f (span (first + 1) count))) (h first (omega arith))
 told_from limit first (suc count) (t ∷ ts) f l a u h = by_order (cases_order t.0 first)
     (λ e. told_from limit (first + 1) count ts f (omega (arith, l)) (subst (λ (n : ℕ). Ascends (n + 1) ts) e a.3) u.1
-        (λ c k. sym (other_is t ts c (λ q. omega (arith, k, q, e))) ∙ h c (omega (arith, k))))
+    (λ c k. sym (other_is t ts c (λ q. omega (arith, k, q, e))) ∙ h c (omega (arith, k))))
     (λ k. told_from limit (first + 1) count (t ∷ ts) f (omega (arith, l)) (omega (arith, k), a.1, a.2, a.3) u (λ c m. h c (omega (arith, m))))
   where
     rest : Terms
@@ -58,7 +58,7 @@ unfolding terms_of_form
 told_by_form size form row a up same =
     let each = every_of (λ (t : ℕ × ℤ). (1 ≤ t.0) × (t.0 ≤ size)) row up in
     told_from (size + 1) 1 size row (λ c. form (one_at c)) (omega arith) (from_one row a each) (row_below_limit row each)
-        (λ c h. sym (value-one_at row c) ∙ same (one_at c) (one_at-zero c h))
+    (λ c h. sym (value-one_at row c) ∙ same (one_at c) (one_at-zero c h))
   where
     from_one : (row : Terms) → Ascends 0 row → Every (λ (t : ℕ × ℤ). (1 ≤ t.0) × (t.0 ≤ size)) row → Ascends 1 row
     from_one [] a u = tt

@@ -89,15 +89,15 @@ given_origins-append n line (c ∷ cs) ds =
     let e : line + 1 + length cs ≡ line + length (c ∷ cs) = omega arith in
     let parts : List Origin = line_parts line (demands n c) in
     ap (λ (xs : List Origin). parts ++ xs) (given_origins-append n (line + 1) cs ds
-        ∙ ap (λ (l : ℕ). given_origins n (line + 1) cs ++ given_origins n l ds) e)
-        ∙ sym (append_assoc parts (given_origins n (line + 1) cs) (given_origins n (line + length (c ∷ cs)) ds))
+    ∙ ap (λ (l : ℕ). given_origins n (line + 1) cs ++ given_origins n l ds) e)
+    ∙ sym (append_assoc parts (given_origins n (line + 1) cs) (given_origins n (line + length (c ∷ cs)) ds))
 
 row_origins-append : (line : ℕ) (rs ts : List RelationView) → row_origins line (rs ++ ts) ≡ row_origins line rs ++ row_origins (line + length rs) ts
 row_origins-append line [] ts = let e : line ≡ line + 0 = omega arith in ap (λ (l : ℕ). row_origins l ts) e
 row_origins-append line (r ∷ rs) ts =
     let e : line + 1 + length rs ≡ line + length (r ∷ rs) = omega arith in
     ap (λ (xs : List Origin). row_origins line (r ∷ []) ++ xs) (row_origins-append (line + 1) rs ts
-        ∙ ap (λ (l : ℕ). row_origins (line + 1) rs ++ row_origins l ts) e)
+    ∙ ap (λ (l : ℕ). row_origins (line + 1) rs ++ row_origins l ts) e)
 
 -- the constraints of givens, and of more givens after them
 pub givens-append : (s : Space) (n next : ℕ) (gs more : List GivenView) (cs ts all : List Constraint) → next ≡ 1 + length gs

@@ -130,6 +130,6 @@ pub system_met : (s : Space) (rs : List RelationView) (rows : List Terms) → Ar
     → p 0 ≡ pos 0 → AreAtLeastZero p rows ↔ All (Holds s.variables p) rs
 system_met s rs rows h p z = iff_trans
     (zip-same (IsRowOf s) (λ (f : Form). pos 0 ≤ℤ f p) (λ row. pos 0 ≤ℤ value row p)
-        (λ f row t. (λ m. subst (λ (x : ℤ). pos 0 ≤ℤ x) (t.same p z) m, λ m. subst (λ (x : ℤ). pos 0 ≤ℤ x) (sym (t.same p z)) m))
-        (system_forms s.variables rs) rows h)
+    (λ f row t. (λ m. subst (λ (x : ℤ). pos 0 ≤ℤ x) (t.same p z) m, λ m. subst (λ (x : ℤ). pos 0 ≤ℤ x) (sym (t.same p z)) m))
+    (system_forms s.variables rs) rows h)
     (forms_met s.variables rs p)

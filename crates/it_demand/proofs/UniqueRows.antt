@@ -58,5 +58,5 @@ same_constraint r t j k o p e f g = ap₂ (λ x y. constraint x y o) e f ∙ ap 
 pub one_constraint_list : OneConstraintList
 one_constraint_list s places ds cs others a b = zip-told (λ (d : Origin × Demand) (c : Constraint). ComesFrom d.0 c × States s d.1 c)
     (λ d x y h k. same_constraint x.row y.row x.kind y.kind x.origin y.origin (one_row s d.1.form x.row y.row h.1.row k.1.row)
-        (h.1.kind ∙ sym k.1.kind) (h.0 ∙ sym k.0)) (zip places ds) cs others
+    (h.1.kind ∙ sym k.1.kind) (h.0 ∙ sym k.0)) (zip places ds) cs others
     (zip-both ComesFrom (States s) places ds cs a.placed a.stated) (zip-both ComesFrom (States s) places ds others b.placed b.stated)

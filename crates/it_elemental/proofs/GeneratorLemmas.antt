@@ -33,7 +33,7 @@ pub after_is_constraint : (n : ℕ) (cs : List Constraint) (i : ℕ) (d : Constr
 unfolding generator_list
 after_is_constraint n cs i d h l =
     get_or-append_right (map (of_elemental n) (elementals n)) (map of_constraint cs) (length (elementals n)) i
-        (record { kind = Inequality; row = [] }) (simp length-map) h
+    (record { kind = Inequality; row = [] }) (simp length-map) h
     ∙ get_or-map of_constraint cs (i - length (elementals n)) d (record { kind = Inequality; row = [] }) (omega (arith, length-listed n cs, l))
 
 -- there are few elemental inequalities
@@ -42,7 +42,7 @@ few_elementals n h =
     let power : 2 ^ n ≤ 2 ^ 10 = pow_mono {i = n} {j = 10} h in
     let square : n * (n - 1) ≤ 10 * 10 = product n (n - 1) 10 10 h (omega arith) in
     let both : length (index_pairs n) * (2 ^ n / 4) ≤ 50 * 256 = product (length (index_pairs n)) (2 ^ n / 4) 50 256
-        (omega (arith, length-index_pairs n)) (omega arith) in
+    (omega (arith, length-index_pairs n)) (omega arith) in
     omega (arith, length-elementals n)
   where
     product : (a b c d : ℕ) → a ≤ c → b ≤ d → a * b ≤ c * d
@@ -53,7 +53,7 @@ pub no_coefficient_beyond : (size : ℕ) (ts : Terms) (c : ℕ) → IsOver size 
 no_coefficient_beyond size [] c u h = refl
 no_coefficient_beyond size (t ∷ ts) c u h =
     other_is t ts c (λ e. omega (arith, (All-head (λ (t : ℕ × ℤ). (1 ≤ t.0) × (t.0 ≤ size)) t ts u).1))
-        ∙ no_coefficient_beyond size ts c (All-tail (λ (t : ℕ × ℤ). (1 ≤ t.0) × (t.0 ≤ size)) t ts u) h
+    ∙ no_coefficient_beyond size ts c (All-tail (λ (t : ℕ × ℤ). (1 ≤ t.0) × (t.0 ≤ size)) t ts u) h
 
 -- the same as code reads them, with the count of the elemental inequalities and the constraint that it found
 pub front_is : (n : ℕ) (cs : List Constraint) (i k : ℕ) → k ≡ length (elementals n) → i < k
@@ -75,8 +75,8 @@ rows_of_space n size cs h a = every-append (λ (g : Generator). IsOver size g.ro
     (every-map (λ (g : Generator). IsOver size g.row) (of_elemental n) (elementals n) (every_of (λ e. IsOver size (elemental_row n e)) (elementals n)
     (λ i d l. let same : get_or (elementals n) i (Conditional 0) ≡ get_or (elementals n) i d = get_or_default (elementals n) i (Conditional 0) d l in
     up_to_greater (2 ^ n - 1) size (elemental_row n (get_or (elementals n) i d)) (omega arith)
-        (subst (λ e. IsOver (2 ^ n - 1) (elemental_row n e)) same (within-row n (get_or (elementals n) i (Conditional 0))
-        (is_elemental n i l))))))
+    (subst (λ e. IsOver (2 ^ n - 1) (elemental_row n e)) same (within-row n (get_or (elementals n) i (Conditional 0))
+    (is_elemental n i l))))))
     (every-map (λ (g : Generator). IsOver size g.row) of_constraint cs (every_of (λ (c : Constraint). IsOver size c.row) cs a))
 
 -- what holds of each item holds at each place, where it holds of what is read past the end

@@ -14,7 +14,7 @@ pairs_are_counted : (n i : ℕ) → i ≤ n → IsCounted n i (pairs_before n i)
 pairs_are_counted n zero h = counted-start n
 pairs_are_counted n (suc i) h = let e : i + 1 ≡ suc i = omega arith in
     subst (λ (m : ℕ). IsCounted n m (pairs_before n i + (n - (i + 1)))) e
-        (counted-more n i (pairs_before n i) (omega arith) (pairs_are_counted n i (omega arith)))
+    (counted-more n i (pairs_before n i) (omega arith) (pairs_are_counted n i (omega arith)))
 
 pub at_index : (n : ℕ) (e : Elemental) → IsElemental n e → (elemental_index n e < length (elementals n)) × (elemental_at n (elemental_index n e) ≡ e)
 unfolding elemental_index
@@ -97,7 +97,7 @@ index_back n i h = by_kind (cases_lt i n)
         let e : i ≡ n + ((place / size) * size + place % size) = omega (arith, p.1.1.1) in
         let a = ascends (place / size) p.1.0 in
         ap (λ m. elemental_index n (elemental_at n m)) e ∙ in_block n (place / size) (place % size)
-            (get_or (index_pairs n) (place / size) (0, 0)) p.1.0 p.1.1.0 refl a.0 a.1 (pair_number n (place / size) p.1.0) ∙ sym e
+        (get_or (index_pairs n) (place / size) (0, 0)) p.1.0 p.1.1.0 refl a.0 a.1 (pair_number n (place / size) p.1.0) ∙ sym e
 
 pub indexes_are_told : IndexesAreTold
 indexes_are_told n = (at_index n, index_back n)

@@ -27,7 +27,7 @@ pub conditional_value : (values : List ℤ) (n i : ℕ) (r : Result ℤ Wide) (a
     (value (elemental_row n (Conditional i)) (point_of values))
 conditional_value values n i r a b w p q o =
     ok_iff-same r (ValueFits (elemental_row n (Conditional i)) (point_of values))
-        (IsWithin (point_of values (2 ^ n - 1) -ℤ point_of values (2 ^ n - 1 - 2 ^ i))) _ _
+    (IsWithin (point_of values (2 ^ n - 1) -ℤ point_of values (2 ^ n - 1 - 2 ^ i))) _ _
     (conditional_fits n i (point_of values) refl (point_within values w)) (sym (value-row n (Conditional i) (point_of values) refl))
     (subst₂ (λ (x y : ℤ). OkIff r (IsWithin (x -ℤ y)) (x -ℤ y)) p q o)
 
@@ -38,7 +38,7 @@ pub mutual_value : (values : List ℤ) (n i j k : ℕ) (r : Result ℤ Wide) (a 
 mutual_value values n i j k r a b c d w p q s u o =
     ok_iff-same r (ValueFits (elemental_row n (Mutual i j k)) (point_of values)) (AlternatingFits a b c d) _ _
     (rw (p, q, s, u) (mutual_fits n i j k (point_of values) refl (point_within values w)))
-        (sym (value-row n (Mutual i j k) (point_of values) refl ∙ alternating_value a b c d p q s u)) o
+    (sym (value-row n (Mutual i j k) (point_of values) refl ∙ alternating_value a b c d p q s u)) o
   where
     alternating_value : (a b c d : ℤ) → a ≡ point_of values k → b ≡ point_of values (k + 2 ^ i) → c ≡ point_of values (k + 2 ^ j)
         → d ≡ point_of values (k + 2 ^ i + 2 ^ j)

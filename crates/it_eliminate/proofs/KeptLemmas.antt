@@ -45,8 +45,11 @@ module _ (P : Terms → Type 0) (rows : List Terms) (i : ℕ) (row : Terms) (h :
   row_is_first = drop_item rows i row h e
 
   pub rests_more : P row → Rests P rows i → Rests P rows (i + 1)
-  rests_more p r = (λ a. r.0 (subst (λ (rs : List Terms). Every P rs) (sym row_is_first) (p, a)), λ a.
-      (subst (λ (rs : List Terms). Every P rs) row_is_first (r.1 a)).1)
+  rests_more p r = (
+    λ a. r.0 (subst (λ (rs : List Terms). Every P rs) (sym row_is_first) (p, a)),
+    λ a.
+        (subst (λ (rs : List Terms). Every P rs) row_is_first (r.1 a)).1,
+  )
 
 -- ---- the list of results, row by row
 
@@ -84,14 +87,14 @@ pub results_is : (at : ℕ) (rows : List Terms) → results at rows ≡ flat_map
 unfolding results
 results_is at rows = ap₂ (λ xs ys. xs ++ ys) (filter_is (is_zero_at at) rows)
     (flat_filter_is (λ up. pairs_of at up rows) (λ up. flat_map (pair_of at up) rows) (is_positive_at at) rows
-        (λ up. map_filter_is (cancelled_row at up) (is_negative_at at) rows))
+    (λ up. map_filter_is (cancelled_row at up) (is_negative_at at) rows))
 
 -- the whole list, from nothing
 pub next_kept : (most at : ℕ) (rows none mid new : List Terms) → none ≡ [] → Gathers most (flat_map (flat_of at) rows) none mid
     → Gathers most (flat_map (up_pairs at rows) rows) mid new → IsKeptList most (next_list at rows) new
 next_kept most at rows none mid new e f g = subst (λ (rs : List Terms). IsKeptList most (with_lowest_rows [] rs) new) (sym (results_is at rows))
     ((gathers_both most (flat_map (flat_of at) rows) (flat_map (up_pairs at rows) rows) none mid new f g).keeps []
-        (record { is = inl e; canonical = subst (λ (rs : List Terms). Every IsCanonical rs) (sym e) tt }))
+    (record { is = inl e; canonical = subst (λ (rs : List Terms). Every IsCanonical rs) (sym e) tt }))
 
 pub gathers_flat : (most at : ℕ) (row same : Terms) (old new : List Terms) → coefficient row at ≡ pos 0 → same ≡ row
     → Gathers most (same ∷ []) old new → Gathers most (flat_of at row) old new

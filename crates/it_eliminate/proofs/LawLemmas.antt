@@ -47,10 +47,10 @@ pub is_projection : (most : ℕ) (system region : System) (rates : List ℕ) →
 is_projection most system region rates h same e =
     let ats : List ℕ = map (λ r. 2 ^ system.space.variables + r) rates in
     let is : region.rows.items ≡ list_after ats (ordered_rows system.rows.items) = region_is (2 ^ system.space.variables) most
-        (ordered_rows system.rows.items) rates region.rows.items e in
+    (ordered_rows system.rows.items) rates region.rows.items e in
     let fits : All (IsOver (size_of system.space)) region.rows.items
     = subst (λ (rs : List Terms). All (IsOver (size_of system.space)) rs) (sym is)
-        (projection_up_to (size_of system.space) ats system.rows.items h.rows) in record {
+    (projection_up_to (size_of system.space) ats system.rows.items h.rows) in record {
       space = same;
       system = record {
         space = subst (λ (s : Space). IsSpace s) (sym same) h.space;
@@ -58,6 +58,6 @@ is_projection most system region rates h same e =
       };
       free = λ r m. subst (λ (rs : List Terms). LacksCoordinate (2 ^ system.space.variables + r) rs) (sym is)
           (projection_lacks (2 ^ system.space.variables + r) ats system.rows.items
-              (member-map (λ r. 2 ^ system.space.variables + r) r rates (member_of rates r m)));
+          (member-map (λ r. 2 ^ system.space.variables + r) r rates (member_of rates r m)));
       exact = λ p. subst (λ (rs : List Terms). IsPointOf rs p ↔ Extends ats system.rows.items p) (sym is) (projection_exact ats system.rows.items p);
     }

@@ -120,7 +120,7 @@ lacks_lowest at row e =
     let signs = lowest_signs row (one_at at) in
     let is : value row (one_at at) ≡ pos 0 = value-one_at row at ∙ e in
     sym (value-one_at (lowest_terms row) at) ∙ number_is_zero (value (lowest_terms row) (one_at at))
-        (signs.positive.0 (omega (arith, ints, is))) (signs.negative.0 (omega (arith, ints, is)))
+    (signs.positive.0 (omega (arith, ints, is))) (signs.negative.0 (omega (arith, ints, is)))
   where
     number_is_zero : (z : ℤ) → pos 0 ≤ℤ z → z ≤ℤ pos 0 → z ≡ pos 0
     number_is_zero z a b = omega (arith, ints)
@@ -130,7 +130,7 @@ lacks-with_lowest_rows : (at : ℕ) (before rows : List Terms) → LacksCoordina
 lacks-with_lowest_rows at before [] a b = a
 lacks-with_lowest_rows at before (row ∷ rows) a b = lacks-with_lowest_rows at (with_row before (lowest_terms row)) rows
     (all_of (RowLacks at) (with_row before (lowest_terms row)) (every-with_row (RowLacks at) before (lowest_terms row)
-        (lacks_lowest at row (All-head (RowLacks at) row rows b)) (every_of (RowLacks at) before a)))
+    (lacks_lowest at row (All-head (RowLacks at) row rows b)) (every_of (RowLacks at) before a)))
     (All-tail (RowLacks at) row rows b)
 
 pub lacks-ordered_rows : (at : ℕ) (rows : List Terms) → LacksCoordinate at rows → LacksCoordinate at (ordered_rows rows)

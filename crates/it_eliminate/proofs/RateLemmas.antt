@@ -117,8 +117,14 @@ split_extension at ats rows p x = by_cases (member_number at ats)
       some = x.some;
       point = later_point;
       kept = λ c n. by_test c n (nat_eq c at) refl;
-      first = record { factor = 1; some = omega arith; point = x.point; kept = λ c n. points_agree c
-          (λ e. n (contains_of (at ∷ []) c (inl e))) ∙ omega (arith, ints); meets = x.meets };
+      first = record {
+        factor = 1;
+        some = omega arith;
+        point = x.point;
+        kept = λ c n. points_agree c
+            (λ e. n (contains_of (at ∷ []) c (inl e))) ∙ omega (arith, ints);
+        meets = x.meets;
+      };
     }
       where
         later_point : ℕ → ℤ

@@ -20,7 +20,7 @@ step_list base most rows r next (inl e) = absurd (not_wide next r e.1)
 step_list base most rows r next (inr (inl e)) = absurd (not_rows next r e.2)
 step_list base most rows r next (inr (inr e)) =
     let is : next ≡ next_list (base + r) rows = same_list next (next_list (base + r) rows) e.2
-        in (is, subst (λ (xs : List Terms). length xs ≤ most) (sym is) e.1)
+    in (is, subst (λ (xs : List Terms). length xs ≤ most) (sym is) e.1)
 
 -- and its coordinates are those of the rows
 pub step_up : (size base most : ℕ) (rows : List Terms) (r : ℕ) (next : List Terms) → All (IsOver size) rows

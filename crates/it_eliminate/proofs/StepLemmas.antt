@@ -70,7 +70,7 @@ pub pair_member : (at : ℕ) (rows : List Terms) (up down : Terms) → Member up
 unfolding results
 pair_member at rows up down m n h k = member-back (cancelled_row at up down) (filter (is_zero_at at) rows) (cancelled_pairs at rows)
     (member-flat_map (λ (r : Terms). pairs_of at r rows) up (cancelled_row at up down) (filter (is_positive_at at) rows)
-        (member-filter (is_positive_at at) up rows m (test_from_positive at up h))
+    (member-filter (is_positive_at at) up rows m (test_from_positive at up h))
     (member-map (cancelled_row at up) down (filter (is_negative_at at) rows) (member-filter (is_negative_at at) down rows n (test_from_negative at down k))))
 
 -- what holds of each row without the coordinate and of each cancelled pair holds of each result
@@ -164,7 +164,7 @@ after_extending at rows p x = member_all (RowHolds p) (results at rows) (λ row 
     least = results_all (λ row. pos 0 ≤ℤ value row x.point) at rows (λ row m e. all_member (RowHolds x.point) rows row x.meets m)
         (λ up down m n h k. subst (λ (z : ℤ). pos 0 ≤ℤ z) (sym (value-cancelled_row at up down x.point))
         (sum_least (times_up at up down) (times_down at up down) (value up x.point) (value down x.point)
-            (all_member (RowHolds x.point) rows up x.meets m) (all_member (RowHolds x.point) rows down x.meets n)))
+        (all_member (RowHolds x.point) rows up x.meets m) (all_member (RowHolds x.point) rows down x.meets n)))
 
 -- a row as the pair of its coefficient there and the value of its rest
 abbrev pub row_parts : ℕ → (ℕ → ℤ) → Terms → ℤ × ℤ
@@ -177,11 +177,11 @@ crossed_sum_least : (at : ℕ) (up down : Terms) (p : ℕ → ℤ) → pos 0 <�
 crossed_sum_least at up down p h k l =
     let f = factors at up down h k in
     subst (λ (z : ℤ). pos 0 ≤ℤ z) (multiple_of_pair (pos f.common) (pos (times_up at up down)) (pos (times_down at up down))
-        (coefficient up at) (coefficient down at) (p at)
+    (coefficient up at) (coefficient down at) (p at)
     (value up p) (value down p) (value up (with_value at (pos 0) p)) (value down (with_value at (pos 0) p)) f.up_is f.down_is
-        (value_apart at up p) (value_apart at down p))
+    (value_apart at up p) (value_apart at down p))
     (product_least (pos f.common) (pos (times_up at up down) *ℤ value up p +ℤ pos (times_down at up down) *ℤ value down p)
-        (omega (arith, ints, f.some)) (subst (λ (z : ℤ). pos 0 ≤ℤ z) (value-cancelled_row at up down p) l))
+    (omega (arith, ints, f.some)) (subst (λ (z : ℤ). pos 0 ≤ℤ z) (value-cancelled_row at up down p) l))
   where
     rate_cancels : (c d e u w : ℤ) → neg_ℤ d *ℤ (c *ℤ e +ℤ u) +ℤ c *ℤ (d *ℤ e +ℤ w) ≡ neg_ℤ d *ℤ u +ℤ c *ℤ w
     rate_cancels c d e u w = ring ring_ℤ (c ∷ d ∷ e ∷ u ∷ w ∷ []) (plus (prod (minus (v 1)) (plus (prod (v 0) (v 2)) (v 3)))
@@ -215,7 +215,7 @@ point_extends at rows p h = of_pair (extends (map (row_parts at p) rows) flat_ro
         let whole = all_member (RowHolds p) (results at rows) (cancelled_row at a.0 b.0) h (pair_member at rows a.0 b.0 a.1 b.1 ua db) in
         subst (λ (y : ℤ × ℤ). pos 0 ≤ℤ (neg_ℤ y.0 *ℤ s.1 +ℤ s.0 *ℤ y.1)) (sym b.2)
         (subst (λ (x : ℤ × ℤ). pos 0 ≤ℤ (neg_ℤ (coefficient b.0 at) *ℤ x.1 +ℤ x.0 *ℤ value b.0 (with_value at (pos 0) p))) (sym a.2)
-            (crossed_sum_least at a.0 b.0 p ua db whole))
+        (crossed_sum_least at a.0 b.0 p ua db whole))
 
     of_factor : (k x : ℤ) → pos 1 ≤ℤ k → ((t : ℤ × ℤ) → Member t (map (row_parts at p) rows) → pos 0 ≤ℤ (t.0 *ℤ x +ℤ k *ℤ t.1)) → Extends (at ∷ []) rows p
     of_factor (negsuc k) x some f = absurd (omega (arith, ints))

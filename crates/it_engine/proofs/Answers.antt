@@ -36,7 +36,7 @@ module _ (coordinates : List ℕ) (target : Terms) (columns : List Terms) (limit
   by_weights ws f w generators t s = let p = feasibility_problem coordinates generators target in let r = f.runs p t s in
       subst (λ (ws : List (ℕ × Rational)). RunsTo (length basis) (length columns) p budget t (Weights ws))
       (sym (w p r.0 limit r.1 ∙ ap (λ m. weights rationals m (length columns) r.0) f.height))
-          (read_run (length basis) (length columns) p budget t (Weights r.0) r.2)
+      (read_run (length basis) (length columns) p budget t (Weights r.0) r.2)
 
   pub by_point : (q : List Rational) → IsFinished columns limit old basis budget new new_basis engine_ends.Point → IsPointOf coordinates target new new_basis q
       → (generators : List Terms) (t : SimplexTable Rational) → Represents (feasibility_problem coordinates generators target) t columns limit old basis
@@ -44,7 +44,7 @@ module _ (coordinates : List ℕ) (target : Terms) (columns : List Terms) (limit
   by_point q f w generators t s = let p = feasibility_problem coordinates generators target in let r = f.runs p t s in
       subst (λ (q : List Rational). RunsTo (length basis) (length columns) p budget t (Point q))
       (sym (w generators r.0 columns limit r.1 ∙ ap (λ m. point rationals m (length columns) p r.0) f.height))
-          (read_run (length basis) (length columns) p budget t (Point r.0) r.2)
+      (read_run (length basis) (length columns) p budget t (Point r.0) r.2)
 
   pub by_budget : (k : ℕ) → IsFinished columns limit old basis budget new new_basis (engine_ends.Pivots k)
       → (generators : List Terms) (t : SimplexTable Rational) → Represents (feasibility_problem coordinates generators target) t columns limit old basis

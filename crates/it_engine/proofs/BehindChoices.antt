@@ -155,17 +155,17 @@ module _ (columns : List Terms) (rows : List WholeRowView) (basis : List ℕ) (m
           by_move : (d : Bool) → has_moved moved i ≡ d → cond d (number_at entries i) (entry_of combined rows i)
               ≡ cond d (T.number_now p b t columns limit rows basis (has_moved moved) s i c)
               (T.number_now p b t columns limit rows basis (has_moved moved) s i c *ℤ pos multiple
-                  +ℤ neg_ℤ (T.behind_sum p b t columns limit rows basis (has_moved moved) s multiple
-                  (share_of multiple rows) multiple_is.some shares_whole i c))
+              +ℤ neg_ℤ (T.behind_sum p b t columns limit rows basis (has_moved moved) s multiple
+              (share_of multiple rows) multiple_is.some shares_whole i c))
           by_move true e = number_moved i l e
           by_move false e = ap (λ ts. value ts f) combined_is ∙ combined_value f (length basis)
               ∙ ap₂ (λ x y. x *ℤ pos multiple +ℤ neg_ℤ y) (sym (number_enters i))
               (sum_same ring_ℤ (length basis) (λ q. cond (has_moved moved q)
-                  ((value (slice_index_or columns (slice_index_or basis q 0) []) f *ℤ number_at entries q) *ℤ pos
-                  (share_of multiple rows q)) (pos 0))
+              ((value (slice_index_or columns (slice_index_or basis q 0) []) f *ℤ number_at entries q) *ℤ pos
+              (share_of multiple rows q)) (pos 0))
               (λ q. cond (has_moved moved q) ((T.number_now p b t columns limit rows basis (has_moved moved) s i
-                  (t.basis q) *ℤ T.number_now p b t columns limit rows basis (has_moved moved) s q c) *ℤ pos (share_of multiple rows q))
-                  (pos 0))
+              (t.basis q) *ℤ T.number_now p b t columns limit rows basis (has_moved moved) s q c) *ℤ pos (share_of multiple rows q))
+              (pos 0))
               (λ q h. term_is q h (has_moved moved q) refl))
 
     pub leaves_still : (r : ℕ) → IsFirstOf basis (MayLeave rows moved entries combined (length basis)) (length basis) (Some r)
@@ -174,7 +174,7 @@ module _ (columns : List Terms) (rows : List WholeRowView) (basis : List ℕ) (m
         let row : r < length basis = g.within in
         let still : number_at (whole_row_at rows r).numbers (length basis) ≡ pos 0 = g.own.still in
         let above : is_above_zero (T.true_number p b t columns limit rows basis (has_moved moved) s multiple
-            (share_of multiple rows) multiple_is.some shares_whole r c) ≡ true =
+        (share_of multiple rows) multiple_is.some shares_whole r c) ≡ true =
         ap is_above_zero (sym (true_number_is p b t s r row)) ∙ g.own.above in
         let first : (i : ℕ) → i < length basis → number_at (whole_row_at rows i).numbers (length basis) ≡ pos 0
         → is_above_zero (T.true_number p b t columns limit rows basis (has_moved moved) s multiple
@@ -188,10 +188,10 @@ module _ (columns : List Terms) (rows : List WholeRowView) (basis : List ℕ) (m
           fits = T.step_fits_behind p b t columns limit rows basis (has_moved moved) s multiple
               (share_of multiple rows) multiple_is.some shares_whole c r enters e row still above first
               (T.table_is_short p b t columns limit rows basis (has_moved moved) s multiple
-                  (share_of multiple rows) multiple_is.some shares_whole norm most shares is_norm
+              (share_of multiple rows) multiple_is.some shares_whole norm most shares is_norm
               (λ i l f. (base i l f).0) bounds
               (λ i l f. let w = (base i l f).1 in let k = mul-le (whole_row_at rows i).bottom multiple low multiple w (omega arith)
-                  in omega (arith, k, bottoms_fit))
+              in omega (arith, k, bottoms_fit))
               numbers_fit);
         }
 

@@ -74,14 +74,14 @@ module _ (columns : List Terms) (limit : ℕ) (old : List WholeRowView) (basis :
               (λ k. cond (moved_with (has_moved moved) r x) (t.entry x (length columns + k)) (b.entry x (length columns + k)))
               (whole_row_at now x).numbers (whole_row_at now x).bottom) (sym w)
               (subst (λ (c : Bool). IsRow (length basis + 1) limit (λ k. cond (cond c true (has_moved moved r))
-                  (t.entry r (length columns + k)) (b.entry r (length columns + k))) (whole_row_at now r).numbers
-                  (whole_row_at now r).bottom) (sym (eq-eqb r r refl))
+              (t.entry r (length columns + k)) (b.entry r (length columns + k))) (whole_row_at now r).numbers
+              (whole_row_at now r).bottom) (sym (eq-eqb r r refl))
               ((brought e).own old r (λ q f. refl) row e refl p b t s))
           row_by_cases p b t s i l (inr d) = subst (λ (c : Bool). IsRow (length basis + 1) limit
               (λ k. cond (cond c true (has_moved moved i)) (t.entry i (length columns + k)) (b.entry i (length columns + k)))
               (whole_row_at now i).numbers (whole_row_at now i).bottom) (sym (ne_eqb i r d))
               (subst (λ (w : WholeRowView). IsRow (length basis + 1) limit (λ k. cond (has_moved moved i) (t.entry i (length columns + k))
-                  (b.entry i (length columns + k))) w.numbers w.bottom) (sym ((brought e).others i d)) (s.shows.row i l))
+              (b.entry i (length columns + k))) w.numbers w.bottom) (sym ((brought e).others i d)) (s.shows.row i l))
 
   module _ (c : ℕ) (enters : c < length columns) (even : length moved ≡ length old) (now : List WholeRowView)
       (w : AreReady columns limit old basis moved r now) (entries : List ℤ)
@@ -150,10 +150,10 @@ module _ (columns : List Terms) (limit : ℕ) (old : List WholeRowView) (basis :
       made = λ p b t s e g m. subst (λ (f : ℕ → Bool). ShowsBehind p b (next rationals (length basis) (length columns) t) columns limit new
           (slice_set basis r c) f) (same_functions moved_same)
           (shows_next p b t columns limit old basis (has_moved moved) s c r enters row e g.leaves m g.still now (w.shown p b t s)
-              (number_at (slice_set entries r z))
+          (number_at (slice_set entries r z))
           (λ i l f. entry_at_row i (omega (arith, l, safe.rows_are))
-              ∙ ap (λ d. cond d (value (slice_index_or columns c []) (number_at (whole_row_at now i).numbers)) (pos 0)) f)
+          ∙ ap (λ d. cond d (value (slice_index_or columns c []) (number_at (whole_row_at now i).numbers)) (pos 0)) f)
           (λ i l f. entry_at_row i (omega (arith, l, safe.rows_are))
-              ∙ ap (λ d. cond d (value (slice_index_or columns c []) (number_at (whole_row_at now i).numbers)) (pos 0)) f)
+          ∙ ap (λ d. cond d (value (slice_index_or columns c []) (number_at (whole_row_at now i).numbers)) (pos 0)) f)
           new (subst (λ (x : ℕ). AreWholeRowsPivoted x limit now (number_at (slice_set entries r z)) r new) (w.same_length ∙ safe.rows_are) a));
     }

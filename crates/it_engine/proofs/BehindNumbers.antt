@@ -120,8 +120,11 @@ first_shares norm rows moved = record { common = no_multiple rows moved; bounds 
 pub same_shares : (norm : ℕ) (rows : List WholeRowView) (moved : List Bool) (multiple bound q : ℕ) → has_moved moved q ≡ false
     → AreShares norm rows moved q multiple bound → AreShares norm rows moved (q + 1) multiple bound
 same_shares norm rows moved multiple bound q f h =
-    record { common = still_multiple rows moved q multiple f h.common; bounds = still_shares norm rows (has_moved moved)
-        (share_of multiple rows) q bound f h.bounds }
+    record {
+      common = still_multiple rows moved q multiple f h.common;
+      bounds = still_shares norm rows (has_moved moved)
+          (share_of multiple rows) q bound f h.bounds;
+    }
 
 pub added_shares : (norm : ℕ) (rows : List WholeRowView) (moved : List Bool) (q multiple bound most entry new_multiple new_bound : ℕ)
     → has_moved moved q ≡ true → AreAtMost (whole_row_at rows q).numbers most

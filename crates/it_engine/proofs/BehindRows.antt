@@ -66,7 +66,7 @@ module _ (p : FeasibilityProblem Rational) (b t : SimplexTable Rational) (column
       ∙ sum_same ring_ℚ m (λ k. Q.plus (Q.times (f (n + k)) (S k)) (Q.times (Q.times (g (n + k)) (S k)) (Q.minus x)))
       (λ k. Q.times (difference ring_ℚ (f (n + k)) (Q.times (g (n + k)) x)) (S k))
       (λ k _. ring ring_ℚ (f (n + k) ∷ g (n + k) ∷ S k ∷ x ∷ []) (plus (times (v 0) (v 2)) (times (times (v 1) (v 2)) (minus (v 3))))
-          (times (plus (v 0) (minus (times (v 1) (v 3)))) (v 2)) refl)
+      (times (plus (v 0) (minus (times (v 1) (v 3)))) (v 2)) refl)
     where
       S : ℕ → Rational
       S = λ k. start_row rationals m n p k j
@@ -137,7 +137,7 @@ module _ (p : FeasibilityProblem Rational) (b t : SimplexTable Rational) (column
           one_over : (d : ℕ) → IsRatio (Q.integer (pos 1)) (pos d) d
           one_over d = let z : pos 1 *ℤ pos d ≡ pos d = omega (arith, ints) in let k : 1 * d ≡ d = omega arith in
               subst (λ (z : ℤ). IsRatio (Q.integer (pos 1)) z d) z (subst (λ (k : ℕ). IsRatio (Q.integer (pos 1)) (pos 1 *ℤ pos d) k) k
-                  (scaled_name (Q.integer (pos 1)) (pos 1) 1 d (whole_names (pos 1))))
+              (scaled_name (Q.integer (pos 1)) (pos 1) 1 d (whole_names (pos 1))))
 
       basic : t.basis q < n
       basic = s.entered q l e
@@ -149,7 +149,7 @@ module _ (p : FeasibilityProblem Rational) (b t : SimplexTable Rational) (column
           subst (λ (x : Rational). IsRatio x (value (slice_index_or columns (t.basis q) []) (number_at now.numbers)) now.bottom)
           (sym (c.value_is (λ k. entry_after q (n + k))) ∙ sym (after_combines q (omega (arith, l)) (t.basis q)) ∙ entry_stays q l)
           (value_named (slice_index_or columns (t.basis q) []) m (λ k. entry_after q (n + k))
-              (number_at now.numbers) now.bottom h.some c.within (λ k g. h.named k (omega (arith, g)))))
+          (number_at now.numbers) now.bottom h.some c.within (λ k g. h.named k (omega (arith, g)))))
 
   -- after all rows it is up to date
   pub all_taken : (now : WholeRowView) → ShowsAfter m now → IsRow (m + 1) limit (λ k. t.entry r (n + k)) now.numbers now.bottom

@@ -34,7 +34,7 @@ module _ (columns : List Terms) (limit : ℕ) (rows : List WholeRowView) (basis 
       subst (λ (x : ℕ). R.ShowsAfter p b t columns limit whole basis (has_moved moved) s r l e x new) next
       (R.moved_taken p b t columns limit whole basis (has_moved moved) s r l e q now new k g (h whole r a l e f p b t s)
       (subst (λ (own : WholeRowView). IsWholeRowReduced (length basis + 1) limit now own
-          (value (slice_index_or columns (slice_index_or basis q 0) []) (number_at now.numbers)) (pos own.bottom) new) (sym (a q g)) m))
+      (value (slice_index_or columns (slice_index_or basis q 0) []) (number_at now.numbers)) (pos own.bottom) new) (sym (a q g)) m))
 
   -- a row that didn't move subtracts nothing
   pub still_off : (old now : WholeRowView) (q : ℕ) → has_moved moved q ≡ false → IsTakenOff columns limit rows basis moved old q now
@@ -55,17 +55,23 @@ module _ (columns : List Terms) (limit : ℕ) (rows : List WholeRowView) (basis 
   less_by_row false q old new terms et el u = tt
   less_by_row true q old new terms et el u =
       subst (λ (w : ℕ). IsWholeRowReduced w limit old (whole_row_at rows q)
-          (value (slice_index_or columns (slice_index_or basis q 0) []) (number_at old.numbers)) (pos (whole_row_at rows q).bottom) new) el
+      (value (slice_index_or columns (slice_index_or basis q 0) []) (number_at old.numbers)) (pos (whole_row_at rows q).bottom) new) el
       (subst (λ (ts : Terms). IsWholeRowReduced (length (whole_row_at rows q).numbers) limit old (whole_row_at rows q)
-          (value ts (number_at old.numbers)) (pos (whole_row_at rows q).bottom) new) et u.less)
+      (value ts (number_at old.numbers)) (pos (whole_row_at rows q).bottom) new) et u.less)
 
   pub none_brought : AreUsable (length rows) limit rows → AreBrought columns limit rows basis moved 0 rows
   none_brought u = record { same_length = refl; kept = λ q e. refl; rest = λ i l. refl; done = λ i l e. absurd (omega (arith, l)); usable = u }
 
   pub moved_brought : (now : List WholeRowView) (k : ℕ) → has_moved moved k ≡ true → AreBrought columns limit rows basis moved k now
       → AreBrought columns limit rows basis moved (k + 1) now
-  moved_brought now k e h = record { same_length = h.same_length; kept = h.kept; rest = λ i l. h.rest i
-      (omega (arith, l)); done = λ i l f. by_cases i l f (cases_eq i k); usable = h.usable }
+  moved_brought now k e h = record {
+    same_length = h.same_length;
+    kept = h.kept;
+    rest = λ i l. h.rest i
+        (omega (arith, l));
+    done = λ i l f. by_cases i l f (cases_eq i k);
+    usable = h.usable;
+  }
     where
       by_cases : (i : ℕ) → i < k + 1 → has_moved moved i ≡ false → (i ≡ k) ⊎ (i ≡ k → ⊥) → IsUpToDate columns limit rows basis moved i (whole_row_at now i)
       by_cases i l f (inl g) = absurd (true≢false (sym e ∙ ap (has_moved moved) (sym g) ∙ f))
@@ -103,7 +109,7 @@ module _ (columns : List Terms) (limit : ℕ) (rows : List WholeRowView) (basis 
         ∙ get_or-set_other rows r i dest record { numbers = []; bottom = 1 } n;
     own = λ whole k a m g w. subst (IsUpToDate columns limit whole basis moved k) (sym here)
         (h whole k (λ q v. a q v ∙ sym (get_or-set_other rows r q dest record { numbers = []; bottom = 1 }
-            (λ x. true≢false (sym v ∙ ap (has_moved moved) x ∙ f)))) m g (w ∙ sym e));
+        (λ x. true≢false (sym v ∙ ap (has_moved moved) x ∙ f)))) m g (w ∙ sym e));
     usable = subst (IsUsable (length rows) limit) (sym here) (subst (λ (x : ℕ). IsUsable x limit new) (length-set rows r dest) u);
   }
     where

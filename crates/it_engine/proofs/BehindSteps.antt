@@ -70,9 +70,9 @@ module _ (p : FeasibilityProblem Rational) (b t : SimplexTable Rational) (column
     entry_named i l e = subst (λ (z : ℤ). IsRatio (t.entry i c) z (whole_row_at now i).bottom) (sym (entry_is i l e))
         (let k = s.columns_are.column c enters in let w = now_moved i l e in
         subst (λ (q : Rational). IsRatio q (value (slice_index_or columns c []) (number_at (whole_row_at now i).numbers))
-            (whole_row_at now i).bottom) (sym (s.behind.holds.combines i c (omega (arith, l)) ∙ k.value_is (λ k. t.entry i (n + k))))
+        (whole_row_at now i).bottom) (sym (s.behind.holds.combines i c (omega (arith, l)) ∙ k.value_is (λ k. t.entry i (n + k))))
         (value_named (slice_index_or columns c []) m (λ k. t.entry i (n + k)) (number_at (whole_row_at now i).numbers)
-            (whole_row_at now i).bottom w.some k.within (λ k g. w.named k (omega (arith, g)))))
+        (whole_row_at now i).bottom w.some k.within (λ k g. w.named k (omega (arith, g)))))
 
     own_moved : moved_with moved r r ≡ true
     own_moved = ap (λ d. cond d true (moved r)) (eq-eqb r r refl)
@@ -90,12 +90,12 @@ module _ (p : FeasibilityProblem Rational) (b t : SimplexTable Rational) (column
         by_move : (i ≡ r → ⊥) → (d : Bool) → moved_with moved r i ≡ d → Shows i (λ k. cond d ((pivot rationals t r c).entry i (n + k)) (b.entry i (n + k)))
         by_move apart true e = subst (Shows i) (same_functions (λ k. sym (other_row field_ℚ m n t r c i (n + k) apart)))
             ((pivoted.others i (omega (arith, l, shown.rows_are)) apart).less (λ k. t.entry i (n + k)) (λ k. t.entry r (n + k))
-                (t.entry i c) (t.entry r c) (now_moved i l e) own_row (entry_named i l e) (entry_named r (omega (arith, row)) own_moved))
+            (t.entry i c) (t.entry r c) (now_moved i l e) own_row (entry_named i l e) (entry_named r (omega (arith, row)) own_moved))
         by_move apart false e = subst (Shows i) (same_functions (λ k. nothing_taken (b.entry i (n + k)) (t.entry r (n + k)) (Q.inverse (t.entry r c))))
             ((pivoted.others i (omega (arith, l, shown.rows_are)) apart).less (λ k. b.entry i (n + k)) (λ k. t.entry r (n + k))
-                (Q.integer (pos 0)) (t.entry r c) (now_behind i l e) own_row
+            (Q.integer (pos 0)) (t.entry r c) (now_behind i l e) own_row
             (subst (λ (z : ℤ). IsRatio (Q.integer (pos 0)) z (whole_row_at now i).bottom) (sym (entry_null i l e))
-                (zero_named (whole_row_at now i).bottom)) (entry_named r (omega (arith, row)) own_moved))
+            (zero_named (whole_row_at now i).bottom)) (entry_named r (omega (arith, row)) own_moved))
           where
             nothing_taken : (x y z : Rational) → difference ring_ℚ x (Q.times y (Q.times (Q.integer (pos 0)) z)) ≡ x
             nothing_taken x y z = ring ring_ℚ (x ∷ y ∷ z ∷ []) (plus (v 0) (minus (times (v 1) (times nil (v 2))))) (v 0) refl
@@ -103,7 +103,7 @@ module _ (p : FeasibilityProblem Rational) (b t : SimplexTable Rational) (column
         by_cases : (i ≡ r) ⊎ (i ≡ r → ⊥) → Shows i (λ k. cond (moved_with moved r i) ((pivot rationals t r c).entry i (n + k)) (b.entry i (n + k)))
         by_cases (inl e) = subst (λ (x : ℕ). Shows x (λ k. cond (moved_with moved r x) ((pivot rationals t r c).entry x (n + k)) (b.entry x (n + k)))) (sym e)
             (subst (Shows r) (same_functions (λ k. sym (pivot_row field_ℚ m n t r c (n + k))
-                ∙ ap (λ d. cond d ((pivot rationals t r c).entry r (n + k)) (b.entry r (n + k))) (sym own_moved)))
+            ∙ ap (λ d. cond d ((pivot rationals t r c).entry r (n + k)) (b.entry r (n + k))) (sym own_moved)))
             (pivoted.own (λ k. t.entry r (n + k)) (t.entry r c) own_row (entry_named r (omega (arith, row)) own_moved)))
         by_cases (inr d) = by_move d (moved_with moved r i) refl
 

@@ -102,7 +102,7 @@ module _ (p : FeasibilityProblem Rational) (b t : SimplexTable Rational) (column
       cost_sign j l = sign_named (t.entry m j) (value (slice_index_or columns j []) (number_at (whole_row_at rows m).numbers))
           (whole_row_at rows m).bottom (s.shows.row m (omega arith)).some
           (subst (λ (d : Bool). IsRatio (cond d (t.entry m j) (b.entry m j))
-              (value (slice_index_or columns j []) (number_at (whole_row_at rows m).numbers)) (whole_row_at rows m).bottom) s.cost
+          (value (slice_index_or columns j []) (number_at (whole_row_at rows m).numbers)) (whole_row_at rows m).bottom) s.cost
           (price_named m n limit s.norm p mixed columns rows basis mixed_combines s.shows s.columns_are s.fit s.some m j (omega arith) l))
 
   pub stuck_behind : first_negative_cost columns (whole_row_at rows m).numbers ≡ n → IsStuck rationals m n t
@@ -138,7 +138,7 @@ module _ (p : FeasibilityProblem Rational) (b t : SimplexTable Rational) (column
         by_move false e = subst (λ (q : Rational). IsRatio q (number_now i j *ℤ pos multiple +ℤ neg_ℤ (behind_sum i j)) (bottom_now i * multiple))
             (sym (row_behind field_ℚ m n p b t s.behind.base s.behind.holds moved s.behind.same i j (behind_below i hi e) e))
             (difference_is_named m (bottom_now i) multiple (mixed_is_over.some i hi) whole moved (λ q. b.entry i (t.basis q))
-                (λ q. t.entry q j) (λ q. number_now i (t.basis q)) (λ q. number_now q j) bottom_now share
+            (λ q. t.entry q j) (λ q. number_now i (t.basis q)) (λ q. number_now q j) bottom_now share
             (λ q l. base_named i (t.basis q) hi (basic_within q l) e)
             (λ q l f. moved_named q j (omega (arith, l)) hj f)
             (λ q l f. mixed_is_over.some q (omega (arith, l)))
@@ -162,7 +162,7 @@ module _ (p : FeasibilityProblem Rational) (b t : SimplexTable Rational) (column
               (value (slice_index_or columns j []) (number_at (whole_row_at rows i).numbers))
               (number_at (whole_row_at rows i).numbers (j - n))) ≤ norm * l) (sym (lt-ltb j n k))
               (let c = value_bounded (slice_index_or columns j []) m (number_at (whole_row_at rows i).numbers) l
-                  (s.columns_are.column j k).within (λ a b. h a (omega (arith, b, numbers_length))) in
+              (s.columns_are.column j k).within (λ a b. h a (omega (arith, b, numbers_length))) in
               let w = mul-le (row_mass (slice_index_or columns j [])) l norm l (is_norm.bounds j k) (omega arith) in omega (arith, c, w))
           by_column (inr k) = subst (λ (d : Bool). unsigned_abs (cond d
               (value (slice_index_or columns j []) (number_at (whole_row_at rows i).numbers))
@@ -175,15 +175,15 @@ module _ (p : FeasibilityProblem Rational) (b t : SimplexTable Rational) (column
           difference_short (number_now i j *ℤ pos multiple) (behind_sum i j) (norm * most * multiple) (norm * most * shares)
           (product_at_most (number_now i j) multiple (norm * most) (number_bounded i j most (omega (arith, hi)) hj (base_most i hi e)))
           (let b = sum_is_bounded m (bottom_now i) multiple (mixed_is_over.some i (omega (arith, hi))) whole moved
-              (λ q. b.entry i (t.basis q)) (λ q. t.entry q j) (λ q. number_now i (t.basis q)) (λ q. number_now q j) bottom_now share
+          (λ q. b.entry i (t.basis q)) (λ q. t.entry q j) (λ q. number_now i (t.basis q)) (λ q. number_now q j) bottom_now share
           (λ q l. base_named i (t.basis q) (omega (arith, hi)) (basic_within q l) e)
           (λ q l f. moved_named q j (omega (arith, l)) hj f)
           (λ q l f. mixed_is_over.some q (omega (arith, l)))
           e_share
           (norm * most) (λ q. unsigned_abs (number_now q j)) (λ q l f. number_bounded i (t.basis q) most (omega (arith, hi))
-              (basic_within q l) (base_most i hi e)) (λ q l f. omega arith) m (omega arith) in
+          (basic_within q l) (base_most i hi e)) (λ q l f. omega arith) m (omega arith) in
           let w = mul-le (norm * most) (share_sum moved (λ q. unsigned_abs (number_now q j)) share m) (norm * most) shares (omega arith)
-              (bounds (λ q. number_now q j) (λ q l f k h. number_bounded q j k (omega (arith, l)) hj h)) in
+          (bounds (λ q. number_now q j) (λ q l f k h. number_bounded q j k (omega (arith, l)) hj h)) in
           omega (arith, b, w))
           fits
         where
@@ -214,7 +214,7 @@ module _ (p : FeasibilityProblem Rational) (b t : SimplexTable Rational) (column
     module _ (c r : ℕ) (enters : c < n) (column_is : first_negative_cost columns (whole_row_at rows m).numbers ≡ c) (row : r < m)
         (still : number_at (whole_row_at rows r).numbers m ≡ pos 0) (above : is_above_zero (true_number r c) ≡ true)
         (first : (i : ℕ) → i < m → number_at (whole_row_at rows i).numbers m ≡ pos 0 → is_above_zero (true_number i c) ≡ true
-            → slice_index_or basis r 0 ≤ slice_index_or basis i 0) where
+        → slice_index_or basis r 0 ≤ slice_index_or basis i 0) where
       pub column_enters : entering_column rationals m n t ≡ c
       column_enters = entering_behind ∙ column_is
 
@@ -236,7 +236,7 @@ module _ (p : FeasibilityProblem Rational) (b t : SimplexTable Rational) (column
         above = not-true (is_at_least_zero (Q.minus (t.entry r c))) row_is_candidate;
         first = λ i l e a. subst (λ k. k ≤ t.basis i) (sym (s.shows.basis_is r row)) (subst (λ k. slice_index_or basis r 0 ≤ k) (sym (s.shows.basis_is i l))
             (first i l (number_null (number_at (whole_row_at rows i).numbers m) (t.entry i (n + m)) (bottom_now i) (right_named i l)
-                (ap (λ (q : Rational). q.num) e ∙ zero_parts.0))
+            (ap (λ (q : Rational). q.num) e ∙ zero_parts.0))
             (sym (above_named i (omega (arith, l))) ∙ ap not a)));
       }
 

@@ -82,7 +82,7 @@ module _ (columns : List Terms) (rows : List WholeRowView) (basis : List ℕ) (m
       by_move true h = with_one (row_mass (column_less_moved columns rows basis moved entries multiple c k))
           (row_mass (taken_terms (number_at entries k) (share_of multiple rows k) d)) (norm * multiple) norm s (shares_of k) h
           (subst (λ (x : ℕ). x ≤ norm * s) (sym (mass_of_taken (number_at entries k) (share_of multiple rows k) d))
-              (mul-le (row_mass d) s norm s (column_mass (slice_index_or basis k 0)) (omega arith)))
+          (mul-le (row_mass d) s norm s (column_mass (slice_index_or basis k 0)) (omega arith)))
         where
           with_one : (x t y n s r : ℕ) → x ≤ y + n * r → t ≤ n * s → x + t ≤ y + n * (s + r)
           with_one x t y n s r h k = omega (arith, h, k)
@@ -97,9 +97,9 @@ module _ (columns : List Terms) (rows : List WholeRowView) (basis : List ℕ) (m
     entry_bounded q h e l a =
         let here : q < length rows = omega (arith, h, height) in
         let is : number_at entries q ≡ entry_of (slice_index_or columns c []) rows q = entries_are.each q here
-            ∙ ap (λ d. cond d (entry_of (slice_index_or columns c []) rows q) (pos 0)) e in
+        ∙ ap (λ d. cond d (entry_of (slice_index_or columns c []) rows q) (pos 0)) e in
         let v = value_bounded (slice_index_or columns c []) (length rows) (number_at (whole_row_at rows q).numbers) l
-            (fitting c enters).within (λ k g. a k (omega (arith, g, (usable q here).length_is))) in
+        (fitting c enters).within (λ k g. a k (omega (arith, g, (usable q here).length_is))) in
         let w = mul-le (row_mass (slice_index_or columns c [])) l norm l (column_mass c) (omega arith) in
         subst (λ (z : ℤ). unsigned_abs z ≤ norm * l) (sym is) (omega (arith, v, w))
 

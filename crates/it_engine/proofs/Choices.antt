@@ -47,14 +47,14 @@ best_by_entries entry other right basis (suc i) e = ap (best_after_row entry rig
     by_option None f = ap (λ z. cond (is_above_zero z) (Some i) None) (e i (omega arith))
     by_option (Some k) f = let l : k < i = best_within other right basis i i (Some k) (sym f) (omega arith) in
         ap₂ (λ z w. cond (is_above_zero z) (cond (comes_first (right i) z (basis i) (right k) w (basis k)) (Some i) (Some k)) (Some k))
-            (e i (omega arith)) (e k (omega (arith, l)))
+        (e i (omega arith)) (e k (omega (arith, l)))
 
 -- the sign of a difference of n / x and k / y
 difference_sign : (a b : Rational) (n k : ℤ) (x y : ℕ) → 0 < x → 0 < y → IsRatio a n x → IsRatio b k y
     → is_at_least_zero (Q.plus a (Q.minus b)) ≡ sign_least (n *ℤ pos y +ℤ neg_ℤ (k *ℤ pos x))
 difference_sign a b n k x y hx hy e f =
     sign_named (Q.plus a (Q.minus b)) (n *ℤ pos y +ℤ neg_ℤ k *ℤ pos x) (x * y) (mul-pos hx hy)
-        (plus_names a (Q.minus b) n (neg_ℤ k) x y hx hy e (minus_names b k y f))
+    (plus_names a (Q.minus b) n (neg_ℤ k) x y hx hy e (minus_names b k y f))
     ∙ ap sign_least (sign_moves_out (n *ℤ pos y) k (pos x))
   where
     sign_moves_out : (z k x : ℤ) → z +ℤ neg_ℤ k *ℤ x ≡ z +ℤ neg_ℤ (k *ℤ x)
@@ -112,10 +112,13 @@ module _ (m n : ℕ) (t : SimplexTable Rational) (c : ℕ) (entry right : ℕ �
       by_option : (o : Option ℕ) (b : Bool) → is_above_zero (entry i) ≡ b → IsBestRowBelow m n t c i o
           → IsBestRowBelow m n t c (suc i) (best_after_row entry right basis i o)
       by_option None false e a = subst (λ (x : Bool). IsBestRowBelow m n t c (suc i) (cond x (Some i) None)) (sym e) (leaving_row_step false e ∙ a)
-      by_option None true e a = subst (λ (x : Bool). IsBestRowBelow m n t c (suc i) (cond x (Some i) None)) (sym e)
-          (leaving_row_step true e ∙ ap (λ x. cond x i (cond (precedes rationals m n t c i (leaving_row_of rationals m n t c i)) i
-              (leaving_row_of rationals m n t c i))) (eq-eqb (leaving_row_of rationals m n t c i) m a), omega arith, candidate_is_above i
-              (omega arith) ∙ e)
+      by_option None true e a = subst (λ (x : Bool). IsBestRowBelow m n t c (suc i) (cond x (Some i) None)) (sym e) (
+        leaving_row_step true e ∙ ap (λ x. cond x i (cond (precedes rationals m n t c i (leaving_row_of rationals m n t c i)) i
+            (leaving_row_of rationals m n t c i))) (eq-eqb (leaving_row_of rationals m n t c i) m a),
+        omega arith,
+        candidate_is_above i
+            (omega arith) ∙ e,
+      )
       by_option (Some k) false e a = subst (λ (x : Bool). IsBestRowBelow m n t c (suc i)
           (cond x (cond (comes_first (right i) (entry i) (basis i) (right k) (entry k) (basis k)) (Some i) (Some k)) (Some k))) (sym e)
           (leaving_row_step false e ∙ a.0, omega (arith, a.1), a.2)

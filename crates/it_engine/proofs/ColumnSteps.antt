@@ -48,7 +48,7 @@ module _ (cs : List ℕ) (target : Terms) (g : ℕ → Rational) where
   first_term : (t : ℕ × ℤ) (ts : Terms) → entries_sum (t ∷ ts) ≡ Q.plus (term_sum t) (entries_sum ts)
   first_term t ts = sum_same ring_ℚ (length cs) (λ k. Q.times (g k) (integer (signed_coefficient cs target (t ∷ ts) k)))
       (λ k. Q.plus (cond (eqb t.0 (slice_index_or cs k 0)) (Q.times (g k) (integer (signed cs target k t.1))) ring_ℚ.null)
-          (Q.times (g k) (integer (signed_coefficient cs target ts k))))
+      (Q.times (g k) (integer (signed_coefficient cs target ts k))))
       (λ k l. by_test k (eqb t.0 (slice_index_or cs k 0)))
       ∙ sum_add ring_ℚ (length cs) (λ k. cond (eqb t.0 (slice_index_or cs k 0)) (Q.times (g k) (integer (signed cs target k t.1))) ring_ℚ.null)
       (λ k. Q.times (g k) (integer (signed_coefficient cs target ts k)))

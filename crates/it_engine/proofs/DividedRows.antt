@@ -39,10 +39,10 @@ pub less_divided : (width limit : ℕ) (old own mid new : WholeRowView) (z p : �
     → IsWholeRowReduced width limit old mid z (pos mid.bottom) new → IsWholeRowReduced width limit old own z p new
 less_divided width limit old own mid new z p d l = λ f g x w rf rg ex ew.
     same_row (λ k. Q.plus (f k) (Q.minus (Q.times (Q.times (g k) (Q.inverse w)) (Q.times x (Q.inverse (Q.integer (pos 1)))))))
-        (λ k. Q.plus (f k) (Q.minus (Q.times (g k) (Q.times x (Q.inverse w)))))
+    (λ k. Q.plus (f k) (Q.minus (Q.times (g k) (Q.times x (Q.inverse w)))))
     (λ k. same_difference (f k) (g k) x (Q.inverse w))
     (l f (λ k. Q.times (g k) (Q.inverse w)) x (Q.integer (pos 1)) rf (d g w rg ew) ex
-        (one_named (Q.integer (pos 1)).num (Q.integer (pos 1)).den mid.bottom (whole_names (pos 1))))
+    (one_named (Q.integer (pos 1)).num (Q.integer (pos 1)).den mid.bottom (whole_names (pos 1))))
   where
     same_row : (f g : ℕ → Rational) → ((k : ℕ) → f k ≡ g k) → IsRow width limit f new.numbers new.bottom → IsRow width limit g new.numbers new.bottom
     same_row f g e r = record {

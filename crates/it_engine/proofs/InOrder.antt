@@ -43,8 +43,11 @@ module _ (terms : Terms) (rows : List WholeRowView) (moved : List Bool) where
 
   one_noted : (entries : List ℤ) (q : ℕ) (z : ℤ) → q < length entries → z ≡ cond (has_moved moved q) (entry_of terms rows q) (pos 0)
       → AreNotedBelow terms rows moved entries q → AreNotedBelow terms rows moved (slice_set entries q z) (q + 1)
-  one_noted entries q z l e h = record { done = λ j m. by_cases j m (cases_eq j q); rest = λ j m. get_or-set_other entries q j z (pos 0)
-      (λ w. omega (arith, w, m)) ∙ h.rest j (omega (arith, m)) }
+  one_noted entries q z l e h = record {
+    done = λ j m. by_cases j m (cases_eq j q);
+    rest = λ j m. get_or-set_other entries q j z (pos 0)
+        (λ w. omega (arith, w, m)) ∙ h.rest j (omega (arith, m));
+  }
     where
       by_cases : (j : ℕ) → j < q + 1 → (j ≡ q) ⊎ (j ≡ q → ⊥) → number_at (slice_set entries q z) j ≡ cond (has_moved moved j) (entry_of terms rows j) (pos 0)
       by_cases j m (inl w) = ap (number_at (slice_set entries q z)) w ∙ get_or-set_same entries q z (pos 0) l ∙ e

@@ -19,8 +19,11 @@ module _ (columns : List Terms) (limit lower : ℕ) (rows : List WholeRowView) (
   safe_below s = record {
     rows_are = s.rows_are;
     usable = λ i l. let u = s.usable i l in record { length_is = u.length_is; some = u.some; small = λ k h. most i l k (omega (arith, h, u.length_is)) };
-    fitting = λ j l. let f = s.fitting j l in record { within = f.within; fits
-        = (let w = product_less (row_mass (slice_index_or columns j [])) in omega (arith, w, f.fits)) };
+    fitting = λ j l. let f = s.fitting j l in record {
+      within = f.within;
+      fits
+          = (let w = product_less (row_mass (slice_index_or columns j [])) in omega (arith, w, f.fits));
+    };
     limit_is = omega (arith, less, s.limit_is);
   }
 

@@ -41,8 +41,10 @@ steps_lead_on m n (suc k) left made t s e h l q = steps_lead_on m n k left made 
 -- each of them lowers the number of steps that are left
 pub steps_lead_down : (m n k : ℕ) (p : FeasibilityProblem Rational) (t s : SimplexTable Rational) → HasInvariants rationals m n p t
     → StepsLead m n k t s → HasInvariants rationals m n p s × (steps_left field_ℚ m n s + k ≤ steps_left field_ℚ m n t)
-steps_lead_down m n zero p t s h l = (subst (HasInvariants rationals m n p) (sym l) h,
-    (let e : steps_left field_ℚ m n s ≡ steps_left field_ℚ m n t = ap (steps_left field_ℚ m n) l in omega (arith, e)))
+steps_lead_down m n zero p t s h l = (
+  subst (HasInvariants rationals m n p) (sym l) h,
+  (let e : steps_left field_ℚ m n s ≡ steps_left field_ℚ m n t = ap (steps_left field_ℚ m n) l in omega (arith, e)),
+)
 steps_lead_down m n (suc k) p t s h l =
     let r = steps_lead_down m n k p t l.0 h l.1 in
     let f = steps_fall field_ℚ m n p l.0 r.0 l.3 in
@@ -89,8 +91,8 @@ module _ (columns : List Terms) (limit : ℕ) (old : List WholeRowView) (basis :
       not_done p b u s d = g.not_done (number_null (right_side_of (length now_basis) now (length now_basis))
           (u.entry (length now_basis) (length columns + length now_basis)) (whole_row_at now (length now_basis)).bottom
           (subst (λ (x : Bool). IsRatio (cond x (u.entry (length now_basis) (length columns + length now_basis))
-              (b.entry (length now_basis) (length columns + length now_basis))) (right_side_of (length now_basis) now (length now_basis))
-              (whole_row_at now (length now_basis)).bottom) s.cost
+          (b.entry (length now_basis) (length columns + length now_basis))) (right_side_of (length now_basis) now (length now_basis))
+          (whole_row_at now (length now_basis)).bottom) s.cost
           ((s.shows.row (length now_basis) (omega arith)).named (length now_basis) (omega arith)))
           (ap (λ (q : Rational). q.num) d ∙ zero_parts.0))
 
@@ -104,8 +106,14 @@ shows_base p t columns limit rows basis moved s none cost = record {
   some = s.some;
   fit = s.fit;
   behind = (let n = none_moved field_ℚ (length basis) (length columns) p t s.holds
-      in record { base = s.holds; holds = s.holds; same = λ q l e. refl; still = λ q l e. absurd
-      (true≢false (sym e ∙ none q l)); rights = λ i l. refl });
+      in record {
+        base = s.holds;
+        holds = s.holds;
+        same = λ q l e. refl;
+        still = λ q l e. absurd
+            (true≢false (sym e ∙ none q l));
+        rights = λ i l. refl;
+      });
   cost = cost;
   entered = λ q l e. absurd (true≢false (sym e ∙ none q l));
   shows = record { rows_are = s.shows.rows_are; basis_are = s.shows.basis_are; row = λ i l. row_by_move i l (has_moved moved i); basis_is = s.shows.basis_is };
@@ -128,8 +136,13 @@ shows_brought p b t columns limit rows basis moved new s a = record {
   some = s.some;
   fit = s.fit;
   holds = s.behind.holds;
-  shows = record { rows_are = a.same_length ∙ s.shows.rows_are; basis_are = refl; row = λ i l. row_by_move i l
-      (has_moved moved i) refl; basis_is = s.shows.basis_is };
+  shows = record {
+    rows_are = a.same_length ∙ s.shows.rows_are;
+    basis_are = refl;
+    row = λ i l. row_by_move i l
+        (has_moved moved i) refl;
+    basis_is = s.shows.basis_is;
+  };
   columns_are = s.columns_are;
 }
   where
@@ -138,7 +151,7 @@ shows_brought p b t columns limit rows basis moved new s a = record {
     row_by_move i l true e = subst (λ (w : WholeRowView). IsRow (length basis + 1) limit
         (λ k. t.entry i (length columns + k)) w.numbers w.bottom) (sym (a.kept i e))
         (subst (λ (d : Bool). IsRow (length basis + 1) limit (λ k. cond d (t.entry i (length columns + k)) (b.entry i (length columns + k)))
-            (whole_row_at rows i).numbers (whole_row_at rows i).bottom) e (s.shows.row i l))
+        (whole_row_at rows i).numbers (whole_row_at rows i).bottom) e (s.shows.row i l))
     row_by_move i l false e = a.done i (T.behind_below p b t columns limit rows basis (has_moved moved) s i (omega (arith, l)) e) e p b t s
 
 pub steps_made : (columns : List Terms) (limit : ℕ) (old : List WholeRowView) (basis : List ℕ) (moved : List Bool) (k : ℕ)

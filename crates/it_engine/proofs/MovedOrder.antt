@@ -22,8 +22,14 @@ comes_from xs place x here k l = by_order k (let n = length-insert xs place x he
     by_equality zero m w (inr d) = absurd (omega (arith, m, d))
     by_equality (suc k) m w (inr d) =
         let on : suc k ≡ k + 1 = omega arith in
-        inr (inr (k, refl, omega (arith, m, d), omega (arith, w), ap (λ i. slice_index_or (insert xs place x) i 0) on
-            ∙ get_or-insert_above xs place x 0 k (omega (arith, m, d)) here))
+        inr (inr (
+          k,
+          refl,
+          omega (arith, m, d),
+          omega (arith, w),
+          ap (λ i. slice_index_or (insert xs place x) i 0) on
+              ∙ get_or-insert_above xs place x 0 k (omega (arith, m, d)) here,
+        ))
 
     by_order : (k : ℕ) → k ≤ length xs → (k < place) ⊎ (place ≤ k) → IsFrom xs place x k
     by_order k w (inl m) = inl (m, get_or-insert_below xs place x 0 k m here)
@@ -53,7 +59,7 @@ gaps_of_order moved height order h k l = by_order (cases_lt k (length order))
     by_order (inr j) =
         let e : length order ≡ k = omega (arith, l, j) in
         subst (IsNextMoved moved height (after_rows order k)) (sym (get_or_past order k height j))
-            (subst (λ (x : ℕ). IsNextMoved moved height (after_rows order x) height) e h.last)
+        (subst (λ (x : ℕ). IsNextMoved moved height (after_rows order x) height) e h.last)
 
 -- and one with gaps is a list of the rows that moved
 pub order_of_gaps : (moved : List Bool) (height : ℕ) (order : List ℕ) → ((k : ℕ) → k < length order → slice_index_or order k 0 < height)
@@ -166,10 +172,10 @@ module _ (moved : List Bool) (height r place : ℕ) (order : List ℕ) (row : r 
         let same = get_or_default order k height 0 in_list in
         let b = before k l in
         subst (λ (x : ℕ). IsNextMoved (slice_set moved r true) height x (slice_index_or (insert order place r) k height))
-            (sym (begins_there k (omega (arith, l))))
+        (sym (begins_there k (omega (arith, l))))
         (subst (IsNextMoved (slice_set moved r true) height (after_rows order k)) (sym (get_or-insert_below order place r height k l here))
         (gap_stays moved height r (after_rows order k) (slice_index_or order k height) (gap_there k (omega (arith, in_list)))
-            (λ q f g x. omega (arith, g, same, b, x))))
+        (λ q f g x. omega (arith, g, same, b, x))))
 
     gap_at : IsNextMoved (slice_set moved r true) height (after_rows (insert order place r) place) (slice_index_or (insert order place r) place height)
     gap_at =
@@ -178,7 +184,7 @@ module _ (moved : List Bool) (height r place : ℕ) (order : List ℕ) (row : r 
         subst (λ (x : ℕ). IsNextMoved (slice_set moved r true) height x (slice_index_or (insert order place r) place height)) (sym (begins_there place l))
         (subst (IsNextMoved (slice_set moved r true) height (after_rows order place)) (sym (get_or-insert_at order place r height here))
         (part_stays moved height r (after_rows order place) (slice_index_or order place height) (after_rows order place) r
-            (gap_there place here) (omega arith) (begins_before place l) (omega (arith, e)) (λ q f g x. omega (arith, g, x))))
+        (gap_there place here) (omega arith) (begins_before place l) (omega (arith, e)) (λ q f g x. omega (arith, g, x))))
 
     gap_after : (k : ℕ) → place ≤ k → k ≤ length order
         → IsNextMoved (slice_set moved r true) height (after_rows (insert order place r) (suc k))
@@ -186,7 +192,7 @@ module _ (moved : List Bool) (height r place : ℕ) (order : List ℕ) (row : r 
     gap_after k l w =
         let on : k + 1 ≡ suc k = omega arith in
         subst (IsNextMoved (slice_set moved r true) height (slice_index_or (insert order place r) k 0 + 1))
-            (sym (get_or-insert_above order place r height k l here) ∙ ap (λ x. slice_index_or (insert order place r) x height) on)
+        (sym (get_or-insert_above order place r height k l here) ∙ ap (λ x. slice_index_or (insert order place r) x height) on)
         (by_order k l w (cases_lt place k))
       where
         by_order : (k : ℕ) → place ≤ k → k ≤ length order → (place < k) ⊎ (k ≤ place)
@@ -197,10 +203,10 @@ module _ (moved : List Bool) (height r place : ℕ) (order : List ℕ) (row : r 
             let b = begins_before place (omega arith) in
             subst (λ (x : ℕ). IsNextMoved (slice_set moved r true) height (slice_index_or (insert order place r) x 0 + 1) (slice_index_or order x height)) at
             (subst (λ (x : ℕ). IsNextMoved (slice_set moved r true) height (x + 1) (slice_index_or order place height))
-                (sym (get_or-insert_at order place r 0 here))
+            (sym (get_or-insert_at order place r 0 here))
             (part_stays moved height r (after_rows order place) (slice_index_or order place height) (r + 1)
-                (slice_index_or order place height) (gap_there place here) (omega (arith, b)) (omega (arith, e)) (omega arith)
-                (λ q f g x. omega (arith, f, x))))
+            (slice_index_or order place height) (gap_there place here) (omega (arith, b)) (omega (arith, e)) (omega arith)
+            (λ q f g x. omega (arith, f, x))))
         by_order zero l w (inl m) = absurd (omega (arith, m))
         by_order (suc k) l w (inl m) =
             let on : k + 1 ≡ suc k = omega arith in
@@ -209,14 +215,14 @@ module _ (moved : List Bool) (height r place : ℕ) (order : List ℕ) (row : r 
             subst (λ (x : ℕ). IsNextMoved (slice_set moved r true) height (x + 1) (slice_index_or order (suc k) height))
             (sym (get_or-insert_above order place r 0 k (omega (arith, m)) here) ∙ ap (λ x. slice_index_or (insert order place r) x 0) on)
             (gap_stays moved height r (after_rows order (suc k)) (slice_index_or order (suc k) height) (gap_there (suc k) w)
-                (λ q f g x. omega (arith, up, b, f, x)))
+            (λ q f g x. omega (arith, up, b, f, x)))
 
     -- row r is inserted into the list
     pub inserted_in_order : AreMovedInOrder (slice_set moved r true) height (insert order place r)
     inserted_in_order = order_of_gaps (slice_set moved r true) height (insert order place r) (each_inserted order place r here (λ x. x < height) low h.within)
         (each_inserted order place r here (λ x. has_moved (slice_set moved r true) x ≡ true) (get_or-set_same moved r true false row)
-            (λ k w. still_moved moved r row (slice_index_or order k 0) (h.own k w)))
-            (λ k w. by_order k (let n = length-insert order place r here in omega (arith, w, n)) (cases_lt k place))
+        (λ k w. still_moved moved r row (slice_index_or order k 0) (h.own k w)))
+        (λ k w. by_order k (let n = length-insert order place r here in omega (arith, w, n)) (cases_lt k place))
       where
         by_equality : (k : ℕ) → place ≤ k → k ≤ length order + 1 → (k ≡ place) ⊎ (k ≡ place → ⊥)
             → IsNextMoved (slice_set moved r true) height (after_rows (insert order place r) k) (slice_index_or (insert order place r) k height)

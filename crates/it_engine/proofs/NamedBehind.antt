@@ -27,7 +27,7 @@ module _ (m d multiple : ℕ) (some : 0 < d) (whole : 0 < multiple) (moved : ℕ
   sum_is_named (suc k) h =
       sum_named (cond (moved k) (Q.times (x k) (u k)) (Q.integer (pos 0))) (sum_to ring_ℚ k (λ q. cond (moved q) (Q.times (x q) (u q)) (Q.integer (pos 0))))
       (cond (moved k) ((a k *ℤ y k) *ℤ pos (share k)) (pos 0)) (whole_sum k) (d * multiple) (mul-pos some whole) (by_move (moved k) refl)
-          (sum_is_named k (omega arith))
+      (sum_is_named k (omega arith))
     where
       by_move : (b : Bool) → moved k ≡ b → IsRatio (cond b (Q.times (x k) (u k)) (Q.integer (pos 0)))
           (cond b ((a k *ℤ y k) *ℤ pos (share k)) (pos 0)) (d * multiple)
@@ -60,7 +60,7 @@ module _ (m d multiple : ℕ) (some : 0 < d) (whole : 0 < multiple) (moved : ℕ
         of_product : (i j : ℤ) (l p s : ℕ) → unsigned_abs i ≤ p → unsigned_abs j ≤ s → unsigned_abs ((i *ℤ j) *ℤ pos l) ≤ p * (s * l)
         of_product i j l p s f g = subst (λ w. w ≤ p * (s * l)) (sym (unsigned_abs-mul (i *ℤ j) (pos l) ∙ ap (λ w. w * l) (unsigned_abs-mul i j)))
             (subst (λ w. unsigned_abs i * unsigned_abs j * l ≤ w) (mul_assoc p s l)
-                (mul-le (unsigned_abs i * unsigned_abs j) l (p * s) l (mul-le (unsigned_abs i) (unsigned_abs j) p s f g) (omega arith)))
+            (mul-le (unsigned_abs i * unsigned_abs j) l (p * s) l (mul-le (unsigned_abs i) (unsigned_abs j) p s f g) (omega arith)))
 
         by_move : (b : Bool) → moved k ≡ b → unsigned_abs (cond b ((a k *ℤ y k) *ℤ pos (share k)) (pos 0)) ≤ most_a * cond b (most k * share k) 0
         by_move false f = omega arith

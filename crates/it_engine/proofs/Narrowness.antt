@@ -25,9 +25,9 @@ pub parts_below : (q : Rational) (n : ℤ) (d : ℕ) → 0 < d → IsRatio q n d
 parts_below q n d h e =
     let x : unsigned_abs q.num * d ≡ unsigned_abs n * q.den = sym (unsigned_abs-mul q.num (pos d)) ∙ ap unsigned_abs e ∙ unsigned_abs-mul n (pos q.den) in
     let div : q.den ∣ d = euclid q.den (unsigned_abs q.num) d (IsGcd-swap (unsigned_abs q.num) q.den 1 q.lowest)
-        (subst (λ k. q.den ∣ k) (sym x) (dvd-mul_left q.den (unsigned_abs n))) in
+    (subst (λ k. q.den ∣ k) (sym x) (dvd-mul_left q.den (unsigned_abs n))) in
     let y : unsigned_abs q.num * d ≤ unsigned_abs n * d = subst (λ k. k ≤ unsigned_abs n * d) (sym x)
-        (mul-le (unsigned_abs n) q.den (unsigned_abs n) d (at_most_itself (unsigned_abs n)) (le_of_dvd h div)) in
+    (mul-le (unsigned_abs n) q.den (unsigned_abs n) d (at_most_itself (unsigned_abs n)) (le_of_dvd h div)) in
     (le_of_mul-le-mul_right y h, div)
 
 pub narrow_by : (q : Rational) (n : ℤ) (d : ℕ) → 0 < d → IsRatio q n d → IsWithin n → IsWithin (pos d) → IsNarrow q
@@ -49,7 +49,7 @@ parts_fit a c b d u w l hb hd hl eu ew wl wa wc wt = record {
       (factors_join c (b / shared_divisor) other_factor ∙ ap (λ k. c *ℤ pos k) w_is) wc;
   total = within_part (common_numerator a b c d) (a *ℤ pos u +ℤ c *ℤ pos w) other_factor other_factor_some
       (factor_moves_in a c (d / shared_divisor) (b / shared_divisor) other_factor
-          ∙ ap (λ k. a *ℤ pos k +ℤ c *ℤ pos (b / shared_divisor * other_factor)) u_is ∙ ap (λ k. a *ℤ pos u +ℤ c *ℤ pos k) w_is) wt;
+      ∙ ap (λ k. a *ℤ pos k +ℤ c *ℤ pos (b / shared_divisor * other_factor)) u_is ∙ ap (λ k. a *ℤ pos u +ℤ c *ℤ pos k) w_is) wt;
   bottom = bottom_is_within (b / shared_divisor * (d / shared_rest a b c d))
       (mul-le (b / shared_divisor) (d / shared_rest a b c d) (b / shared_divisor) d (at_most_itself (b / shared_divisor))
       (div-le_self d (shared_rest a b c d)));

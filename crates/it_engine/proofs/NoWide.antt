@@ -79,7 +79,7 @@ module _ (m n : ℕ) (t : SimplexTable Rational) (number : ℕ → ℕ → ℤ) 
       entry_fits : (i j : ℕ) → i ≤ m → j ≤ n + m → EntryFits (t.entry i j) (t.entry r j) (Q.times (t.entry i c) (Q.inverse (t.entry r c)))
       entry_fits i j hi hj =
           let product = product_in_row (t.entry r j) (t.entry i c) (t.entry r c) (number r j) (number i c) p (bottom r) (bottom i)
-              (o.some r hr) (o.some i hi) hp
+          (o.some r hr) (o.some i hi) hp
           (o.named r j hr hj) (o.named i c hi hc) own_entry in
           let first = half_product (number i j) (pos p) (o.short i j hi hj) p_short in
           let second = half_product (number r j) (number i c) (o.short r j hr hj) (o.short i c hi hc) in

@@ -100,7 +100,7 @@ module _ (limit : ℕ) (old : List WholeRowView) (entries : List ℤ) (r : ℕ) 
       → IsPivotUnderWay limit old entries r own p now (after_rows order k) → IsPivotUnderWay limit old entries r own p now (length now - 1)
   last_row_is_next now k e u = subst (λ (n : ℕ). IsPivotUnderWay limit old entries r own p now (n - 1)) (sym u.same_length)
       (rows_between now (after_rows order (length order)) (length old - 1) null_elsewhere.1.last
-          (subst (λ (k : ℕ). IsPivotUnderWay limit old entries r own p now (after_rows order k)) e u))
+      (subst (λ (k : ℕ). IsPivotUnderWay limit old entries r own p now (after_rows order k)) e u))
 
 -- the first row after those of a list before place k + 1
 pub after_one_more : (order : List ℕ) (k : ℕ) → slice_index_or order k 0 + 1 ≡ after_rows order (k + 1)
@@ -138,8 +138,11 @@ pivot_ends limit old entries r own now i hr usable hi hp small u q = record {
     own_row_divided : IsWholeRowDivided (length old) limit (whole_row_at old r) (number_at entries r) own
     own_row_divided = shortened_divided (length old) limit (whole_row_at old r)
         record { numbers = (whole_row_at old r).numbers; bottom = unsigned_abs (number_at entries r) } own (number_at entries r)
-        (divided_row (length old) limit (whole_row_at old r) record { numbers = (whole_row_at old r).numbers; bottom = unsigned_abs
-            (number_at entries r) } (number_at entries r) hp small refl refl) q
+        (divided_row (length old) limit (whole_row_at old r) record {
+          numbers = (whole_row_at old r).numbers;
+          bottom = unsigned_abs
+              (number_at entries r);
+        } (number_at entries r) hp small refl refl) q
 
     by_own : (k : ℕ) (new : WholeRowView) → IsUpdated (length old) limit (whole_row_at old k) own (number_at entries k) (pos own.bottom) new
         → IsUpdated (length old) limit (whole_row_at old k) (whole_row_at old r) (number_at entries k) (number_at entries r) new

@@ -83,12 +83,15 @@ module _ (rows : List WholeRowView) (basis : List ℕ) (moved : List Bool) (entr
       by_order : (j : ℕ) → j < length ranked → slice_index_or ranked j 0 ≡ i → has_moved moved i ≡ false → (j < k) ⊎ (k ≤ j) → ComesBefore basis best i
       by_order j w e f (inl m) = absurd (none j m (ap (has_moved moved) e ∙ f)
           (ap (λ x. is_above_zero (entry_of combined rows x)) e
-              ∙ sym (ap (λ b. is_above_zero (cond b (number_at entries i) (entry_of combined rows i))) f) ∙ h.above))
+          ∙ sym (ap (λ b. is_above_zero (cond b (number_at entries i) (entry_of combined rows i))) f) ∙ h.above))
       by_order j w e f (inr m) = subst (ComesBefore basis best) e (rest j m w (ap (has_moved moved) e ∙ f))
 
       by_move : (b : Bool) → has_moved moved i ≡ b → ComesBefore basis best i
-      by_move true e = first.before i l record { still = h.still; above = sym
-          (ap (λ b. is_above_zero (cond b (number_at entries i) (entry_of combined rows i))) e) ∙ h.above }
+      by_move true e = first.before i l record {
+        still = h.still;
+        above = sym
+            (ap (λ b. is_above_zero (cond b (number_at entries i) (entry_of combined rows i))) e) ∙ h.above;
+      }
       by_move false e = let a = is_ranked.all i l e h.still in by_order a.0 a.1 a.2 e (cases_lt a.0 k)
 
   -- the best row that moved leaves, where it comes before row k of them, and those before that may not leave
@@ -140,15 +143,18 @@ module _ (rows : List WholeRowView) (basis : List ℕ) (moved : List Bool) (entr
           → MayLeave rows moved entries combined (length basis) i → (j < k) ⊎ (k ≤ j) → slice_index_or basis r 0 ≤ slice_index_or basis i 0
       by_order i j l e g h (inl m) = absurd (none j m (ap (has_moved moved) e ∙ g)
           (ap (λ x. is_above_zero (entry_of combined rows x)) e
-              ∙ sym (ap (λ b. is_above_zero (cond b (number_at entries i) (entry_of combined rows i))) g) ∙ h.above))
+          ∙ sym (ap (λ b. is_above_zero (cond b (number_at entries i) (entry_of combined rows i))) g) ∙ h.above))
       by_order i j l e g h (inr m) = subst (λ (x : ℕ). slice_index_or basis r 0 ≤ slice_index_or basis x 0) e
           (later j m l (ap (has_moved moved) e ∙ g) (cases_eq k j))
 
       by_move : (i : ℕ) → i < length basis → MayLeave rows moved entries combined (length basis) i → (b : Bool) → has_moved moved i ≡ b
           → slice_index_or basis r 0 ≤ slice_index_or basis i 0
       by_move i l h true e = not_after basis best r i n (first.before i l
-          record { still = h.still; above = sym (ap (λ b. is_above_zero (cond b (number_at entries i) (entry_of combined rows i))) e)
-          ∙ h.above })
+          record {
+            still = h.still;
+            above = sym (ap (λ b. is_above_zero (cond b (number_at entries i) (entry_of combined rows i))) e)
+                ∙ h.above;
+          })
       by_move i l h false e = let a = is_ranked.all i l e h.still in by_order i a.0 a.1 a.2 e h (cases_lt a.0 k)
 
 -- rows that are ranked stay so after one more step

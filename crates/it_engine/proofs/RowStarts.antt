@@ -51,7 +51,7 @@ module _ (cs : List ℕ) (target : Terms) (limit : ℕ) (some : 1 ≤ limit) (ro
           (cond (eqb k i) (pos 1) (pos 0)) (number_at row.numbers k)
           (unit_entry cs generators target i k h (omega (arith, l, d)))
           (ap (λ xs. number_at xs k) is ∙ get_or-set_other (set (replicate (m + 1) (pos 0)) i (pos 1)) m k (pos (right_size cs target i))
-              (pos 0) d ∙ unit_number k (omega (arith, l, d)) (cases_eq k i))
+          (pos 0) d ∙ unit_number k (omega (arith, l, d)) (cases_eq k i))
           (by_test (eqb k i))
         where
           by_test : (b : Bool) → unsigned_abs (cond b (pos 1) (pos 0)) ≤ limit
@@ -75,9 +75,9 @@ module _ (cs : List ℕ) (target : Terms) (limit : ℕ) (some : 1 ≤ limit) (ro
           (neg_ℤ (pos (right_sum cs target m))) (number_at row.numbers k)
           (ap (λ j. (start_of cs generators target).entry m (length generators + j)) e ∙ cost_right_side cs generators target)
           (ap (λ xs. number_at xs k) is ∙ last_set m k (replicate (m + 1) (negsuc 0)) (neg_ℤ (pos (right_sum cs target m)))
-              (length-replicate (m + 1) (negsuc 0)) e) (size_of_negation (right_sum cs target m) small)
+          (length-replicate (m + 1) (negsuc 0)) e) (size_of_negation (right_sum cs target m) small)
       by_place generators k l (inr d) = short_whole limit ((start_of cs generators target).entry m (length generators + k)) (neg_ℤ (pos 1))
           (number_at row.numbers k)
           (unit_cost cs generators target k (omega (arith, l, d)))
           (ap (λ xs. number_at xs k) is ∙ get_or-set_other (replicate (m + 1) (negsuc 0)) m k (neg_ℤ (pos (right_sum cs target m)))
-              (pos 0) d ∙ get_or-replicate (m + 1) k (negsuc 0) (pos 0) (omega (arith, l))) some
+          (pos 0) d ∙ get_or-replicate (m + 1) k (negsuc 0) (pos 0) (omega (arith, l))) some

@@ -31,8 +31,12 @@ pub record IsRunUnderWay (columns : List Terms) (limit : ℕ) (old : List WholeR
 
 pub run_begins : (columns : List Terms) (limit : ℕ) (old : List WholeRowView) (basis : List ℕ) (budget : ℕ) → IsSafe columns limit old basis
     → IsRunUnderWay columns limit old basis budget old basis 0
-run_begins columns limit old basis budget h = record { engine = h; height = refl; runs = λ p t s.
-    (t, s, λ e r. subst (λ (x : ℕ). Reaches (length basis) (length columns) x 0 t e) (whole_budget_left budget) r) }
+run_begins columns limit old basis budget h = record {
+  engine = h;
+  height = refl;
+  runs = λ p t s.
+      (t, s, λ e r. subst (λ (x : ℕ). Reaches (length basis) (length columns) x 0 t e) (whole_budget_left budget) r);
+}
   where
     whole_budget_left : (b : ℕ) → b - 0 ≡ b
     whole_budget_left b = omega arith
@@ -123,7 +127,7 @@ module _ (columns : List Terms) (limit : ℕ) (old : List WholeRowView) (basis :
               (by_same_height (λ m. Rattle.it_run.specs.Solving.StepFits m (length columns) r.0) made.fits)
               (ap (λ m. next rationals m (length columns) r.0) w.height)
               (subst (λ (x : ℕ). Reaches (length basis) (length columns) x (k + 1)
-                  (next rationals (length now_basis) (length columns) r.0) e) (one_step_less budget k) q)),
+              (next rationals (length now_basis) (length columns) r.0) e) (one_step_less budget k) q)),
         );
   }
     where

@@ -43,7 +43,7 @@ pub all_shortened_usable : (limit : ℕ) (old new : List WholeRowView) → AreSh
 all_shortened_usable limit old new s u = λ i l.
     let j : i < length old = omega (arith, l, s.same_length) in
     subst (λ (w : ℕ). IsUsable w limit (whole_row_at new i)) (sym s.same_length)
-        (shortened_usable (length old) limit (whole_row_at old i) (whole_row_at new i) (s.each i j) (u i j))
+    (shortened_usable (length old) limit (whole_row_at old i) (whole_row_at new i) (s.each i j) (u i j))
 
 -- the rows show what they showed
 pub shows_shortened : (p : FeasibilityProblem Rational) (b t : SimplexTable Rational) (columns : List Terms) (limit : ℕ)

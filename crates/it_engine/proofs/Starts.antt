@@ -64,7 +64,7 @@ module _ (cs : List ℕ) (generators : List Terms) (target : Terms) (columns : L
       named = λ k l. subst (λ (d : ℕ). IsRatio ((start_of cs generators target).entry i (length generators + k))
           (number_at (whole_row_at rows i).numbers k) d) (sym r.bottom_is)
           (subst (λ (q : Rational). IsRatio q (number_at (whole_row_at rows i).numbers k) 1) (sym (r.each generators k l).value_is)
-              (whole_names (number_at (whole_row_at rows i).numbers k)));
+          (whole_names (number_at (whole_row_at rows i).numbers k)));
       small = λ k l. (r.each generators k l).small;
     };
     basis_is = λ i l. start_basis field_ℚ (length cs) (length generators) (feasibility_problem cs generators target) i l ∙ sym (s.basis_is i l);

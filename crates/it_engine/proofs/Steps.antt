@@ -67,7 +67,7 @@ module _ (p : FeasibilityProblem Rational) (t : SimplexTable Rational) (columns 
       (number_at (whole_row_at rows (length basis)).numbers)) (whole_row_at rows (length basis)).bottom
       (s.shows.row (length basis) (omega arith)).some
       (price_named (length basis) (length columns) limit s.norm p t columns rows basis s.holds.combines s.shows s.columns_are s.fit s.some
-          (length basis) j (omega arith) l)
+      (length basis) j (omega arith) l)
 
   entry_named : (i c : ℕ) → i ≤ length basis → c < length columns
       → IsRatio (t.entry i c) (value (slice_index_or columns c []) (number_at (whole_row_at rows i).numbers)) (whole_row_at rows i).bottom
@@ -88,7 +88,7 @@ module _ (p : FeasibilityProblem Rational) (t : SimplexTable Rational) (columns 
       → (leaving_row rationals (length basis) (length columns) t c ≡ r) × (r < length basis) × (is_candidate rationals t c r ≡ true)
   leaving_same c r h e = subst (λ (o : Option ℕ). IsBestRowBelow (length basis) (length columns) t c (length basis) o) e
       (best_row_leaves (length basis) (length columns) t c (entry_of (slice_index_or columns c []) rows) (right_side_of (length basis) rows)
-          (λ i. (whole_row_at rows i).bottom) (basic_column_at basis)
+      (λ i. (whole_row_at rows i).bottom) (basic_column_at basis)
       (λ i l. (s.shows.row i (omega (arith, l))).some)
       (λ i l. entry_named i c (omega (arith, l)) h)
       (λ i l. (s.shows.row i (omega (arith, l))).named (length basis) (omega arith))
@@ -117,7 +117,7 @@ module _ (p : FeasibilityProblem Rational) (t : SimplexTable Rational) (columns 
         (bottom (length basis) (length columns) limit s.norm p t columns rows basis s.holds.combines s.shows s.columns_are s.fit s.some)
         (table_is_over (length basis) (length columns) limit s.norm p t columns rows basis s.holds.combines s.shows s.columns_are s.fit s.some)
         (to_step (λ r c. r < length basis) row_leaves.1) (to_step (λ r c. c < length columns) hc)
-            (to_step (λ r c. is_candidate rationals t c r ≡ true) row_leaves.2)
+        (to_step (λ r c. is_candidate rationals t c r ≡ true) row_leaves.2)
 
     pub next_is : pivot rationals t r c ≡ next rationals (length basis) (length columns) t
     next_is = to_step (λ r' c'. pivot rationals t r c ≡ pivot rationals t r' c') refl
@@ -142,30 +142,30 @@ module _ (p : FeasibilityProblem Rational) (t : SimplexTable Rational) (columns 
             (whole_row_at new x).numbers (whole_row_at new x).bottom) (sym e)
             (subst (λ (b : Bool). IsRow (length basis + 1) limit
             (λ k. cond b (Q.times (t.entry r (length columns + k)) (Q.inverse (t.entry r c)))
-                (difference ring_ℚ (t.entry r (length columns + k)) (Q.times (t.entry r (length columns + k))
-                (Q.times (t.entry r c) (Q.inverse (t.entry r c))))))
+            (difference ring_ℚ (t.entry r (length columns + k)) (Q.times (t.entry r (length columns + k))
+            (Q.times (t.entry r c) (Q.inverse (t.entry r c))))))
             (whole_row_at new r).numbers (whole_row_at new r).bottom) (sym (eq-eqb r r refl))
             (subst (λ (w : ℕ). IsRow w limit (λ k. Q.times (t.entry r (length columns + k)) (Q.inverse (t.entry r c)))
-                (whole_row_at new r).numbers (whole_row_at new r).bottom) s.shows.rows_are
+            (whole_row_at new r).numbers (whole_row_at new r).bottom) s.shows.rows_are
             (a.own (λ k. t.entry r (length columns + k)) (t.entry r c)
             (subst (λ (w : ℕ). IsRow w limit (λ k. t.entry r (length columns + k)) (whole_row_at rows r).numbers
-                (whole_row_at rows r).bottom) (sym s.shows.rows_are) leaving_row_is)
+            (whole_row_at rows r).bottom) (sym s.shows.rows_are) leaving_row_is)
             (entry_named r c (omega (arith, row_leaves.1)) hc))))
         row_shown i l (inr d) =
             (subst (λ (b : Bool). IsRow (length basis + 1) limit
             (λ k. cond b (Q.times (t.entry r (length columns + k)) (Q.inverse (t.entry r c)))
-                (difference ring_ℚ (t.entry i (length columns + k)) (Q.times (t.entry r (length columns + k))
-                (Q.times (t.entry i c) (Q.inverse (t.entry r c))))))
+            (difference ring_ℚ (t.entry i (length columns + k)) (Q.times (t.entry r (length columns + k))
+            (Q.times (t.entry i c) (Q.inverse (t.entry r c))))))
             (whole_row_at new i).numbers (whole_row_at new i).bottom) (sym (ne_eqb i r d))
             (subst (λ (w : ℕ). IsRow w limit (λ k. difference ring_ℚ (t.entry i (length columns + k))
-                (Q.times (t.entry r (length columns + k)) (Q.times (t.entry i c) (Q.inverse (t.entry r c))))) (whole_row_at new i).numbers
-                (whole_row_at new i).bottom) s.shows.rows_are
+            (Q.times (t.entry r (length columns + k)) (Q.times (t.entry i c) (Q.inverse (t.entry r c))))) (whole_row_at new i).numbers
+            (whole_row_at new i).bottom) s.shows.rows_are
             ((a.others i (omega (arith, l, s.shows.rows_are)) d).less (λ k. t.entry i (length columns + k))
-                (λ k. t.entry r (length columns + k)) (t.entry i c) (t.entry r c)
+            (λ k. t.entry r (length columns + k)) (t.entry i c) (t.entry r c)
             (subst (λ (w : ℕ). IsRow w limit (λ k. t.entry i (length columns + k)) (whole_row_at rows i).numbers
-                (whole_row_at rows i).bottom) (sym s.shows.rows_are) (s.shows.row i l))
+            (whole_row_at rows i).bottom) (sym s.shows.rows_are) (s.shows.row i l))
             (subst (λ (w : ℕ). IsRow w limit (λ k. t.entry r (length columns + k)) (whole_row_at rows r).numbers
-                (whole_row_at rows r).bottom) (sym s.shows.rows_are) leaving_row_is)
+            (whole_row_at rows r).bottom) (sym s.shows.rows_are) leaving_row_is)
             (entry_named i c (omega (arith, l)) hc) (entry_named r c (omega (arith, row_leaves.1)) hc))))
 
         basis_after : (i : ℕ) → i < length basis → (i ≡ r) ⊎ (i ≡ r → ⊥) → (pivot rationals t r c).basis i ≡ slice_index_or (slice_set basis r c) i 0

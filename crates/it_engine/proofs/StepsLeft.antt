@@ -37,7 +37,7 @@ shown_table_agrees p t columns limit rows basis s = record {
   entries = λ i j hi hj.
       let o = table_is_over (length basis) (length columns) limit s.norm p t columns rows basis s.holds.combines s.shows s.columns_are s.fit s.some in
       sym (quotient_named (t.entry i j) (cond (ltb j (length columns)) (value (slice_index_or columns j [])
-          (number_at (whole_row_at rows i).numbers)) (number_at (whole_row_at rows i).numbers (j - length columns)))
+      (number_at (whole_row_at rows i).numbers)) (number_at (whole_row_at rows i).numbers (j - length columns)))
       (whole_row_at rows i).bottom (o.some i hi) (o.named i j hi hj));
   basics = s.shows.basis_is;
 }
@@ -59,9 +59,9 @@ steps_left_falls p t columns limit old basis new new_basis s g =
     let after = steps_left_is p (next rationals (length basis) (length columns) t) columns limit new new_basis m.stands in
     subst (λ (x : ℕ). x < steps_left_to columns old basis) (sym after)
     (subst (λ (y : ℕ). steps_left field_ℚ (length new_basis) (length columns) (next rationals (length basis) (length columns) t) < y)
-        (sym (steps_left_is p t columns limit old basis s))
+    (sym (steps_left_is p t columns limit old basis s))
     (subst (λ (h : ℕ). steps_left field_ℚ h (length columns) (next rationals (length basis) (length columns) t)
-        < steps_left field_ℚ (length basis) (length columns) t) (sym g.height)
+    < steps_left field_ℚ (length basis) (length columns) t) (sym g.height)
     (steps_fall field_ℚ (length basis) (length columns) p t s.holds m.moves)))
 
 -- several steps don't raise it
@@ -75,5 +75,5 @@ several_steps_left p t columns limit old basis made new new_basis s g =
     let before = steps_left_is p t columns limit old basis s in
     let down = (steps_lead_down (length basis) (length columns) made p t x.0 s.holds x.2).1 in
     let same : steps_left field_ℚ (length new_basis) (length columns) x.0
-        ≡ steps_left field_ℚ (length basis) (length columns) x.0 = ap (λ h. steps_left field_ℚ h (length columns) x.0) g.height in
+    ≡ steps_left field_ℚ (length basis) (length columns) x.0 = ap (λ h. steps_left field_ℚ h (length columns) x.0) g.height in
     omega (arith, after, before, down, same)

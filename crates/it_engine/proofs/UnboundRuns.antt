@@ -43,8 +43,13 @@ pub record IsRunUnderWay (columns : List Terms) (limit : ℕ) (old : List WholeR
 
 pub run_begins : (columns : List Terms) (limit : ℕ) (old : List WholeRowView) (basis : List ℕ) → IsSafe columns limit old basis
     → RepresentsSome columns limit old basis → IsRunUnderWay columns limit old basis old basis
-run_begins columns limit old basis h i = record { engine = h; height = refl; some = i; runs = λ p t s.
-    record { last = t; stands = s; made = 0; serves = λ left e r. (left, r) } }
+run_begins columns limit old basis h i = record {
+  engine = h;
+  height = refl;
+  some = i;
+  runs = λ p t s.
+      record { last = t; stands = s; made = 0; serves = λ left e r. (left, r) };
+}
 
 module _ (columns : List Terms) (limit : ℕ) (old : List WholeRowView) (basis : List ℕ) (now : List WholeRowView) (now_basis : List ℕ)
     (w : IsRunUnderWay columns limit old basis now now_basis) where
@@ -106,7 +111,7 @@ module _ (columns : List Terms) (limit : ℕ) (old : List WholeRowView) (basis :
               (by_same_height (λ m. StepFits m (length columns) r.last) made.fits)
               (ap (λ m. next rationals m (length columns) r.last) w.height)
               (subst (λ (x : ℕ). Reaches (length basis) (length columns) x (r.made + 1)
-                  (next rationals (length now_basis) (length columns) r.last) e) (one_step_less left) q));
+              (next rationals (length now_basis) (length columns) r.last) e) (one_step_less left) q));
         };
   }
     where

@@ -61,7 +61,7 @@ pub never_is_right : (q : ProblemView) (left right : Terms) (values : List ℤ) 
     → HasNoFactor (ground_of q) (value left) (value right) values
 never_is_right q left right values k up complete valid zero_there =
     let refutes : RefutesRow q (negated_terms right) values
-        = ((valid_no_is q (negated_terms right) values k (negated_up (size_of q.space) right up) complete).0 (sym valid)).0 in record {
+    = ((valid_no_is q (negated_terms right) values k (negated_up (size_of q.space) right up) complete).0 (sym valid)).0 in record {
       point = point_is q (negated_terms right) values refutes;
       zero = zero_there;
       above = above_zero (value right (point_of values)) (subst (λ (x : ℤ). x ≤ℤ neg_ℤ (pos 1)) (value-negated_terms right (point_of values)) refutes.violated);

@@ -47,16 +47,16 @@ module _ (q : BodyView) (p : ProblemView) (posed : IsProblemOf q p) where
       let size = size_of p.space in
       let gs = generators p in
       let rows : All (λ g. IsOver size g.row) gs = all_of (λ g. IsOver size g.row) gs
-          (rows_of_space p.space.variables size p.constraints (omega arith) posed.limits.rows) in
+      (rows_of_space p.space.variables size p.constraints (omega arith) posed.limits.rows) in
       adds_up_everywhere (size + 1) (forms_of gs) f w (λ i l. value_linear size (generator_at gs i).row
-          (rows i (record { kind = Inequality; row = [] }) l)) linear c x e
+      (rows i (record { kind = Inequality; row = [] }) l)) linear c x e
 
   certificate_by_text : (f g : Form) (w : CertificateView) → ((x : ℕ → ℤ) → x 0 ≡ pos 0 → f x ≡ g x) → IsLinear (size_of p.space + 1) f
       → IsCertificate (size_of p.space + 1) (generators_of p) f w → CertifiesForm q g w
   certificate_by_text f g w same linear c = in_question_space (λ s. Certifies (all_demands s.variables (question_demands q)) g w)
       (by_forms (all_demands p.space.variables (question_demands q)) (generators p)
-          (generators_speak p.space (question_demands q) p.constraints posed.constraints.stated) (size_of p.space + 1) f g same w c
-          (adds_up_at f w linear c))
+      (generators_speak p.space (question_demands q) p.constraints posed.constraints.stated) (size_of p.space + 1) f g same w c
+      (adds_up_at f w linear c))
 
   point_by_text : (values : List ℤ) → IsPoint (ground_of p) values → IsPoint (question_ground q) values
   point_by_text values i = record {
@@ -108,7 +108,7 @@ module _ (q : BodyView) (p : ProblemView) (posed : IsProblemOf q p) where
       let variables : p.space.variables ≡ variable_count q = ap (λ (s : Space). s.variables) posed.space in
       let left_is : IsRowOf p.space (left_form (variable_count q) r) f.left = subst (λ n. IsRowOf p.space (left_form n r) f.left) variables f.left_is in
       let right_is : IsRowOf p.space (right_form (variable_count q) r) f.right = subst
-          (λ n. IsRowOf p.space (right_form n r) f.right) variables f.right_is in record {
+      (λ n. IsRowOf p.space (right_form n r) f.right) variables f.right_is in record {
         shows = best_by_text (left_form (variable_count q) r) (right_form (variable_count q) r) f.left f.right left_is right_is best f.right_of_rows;
         due = subst (λ (x : ProblemView). FindsFactor x (terms_in q (left_form (variable_count q) r))
             (terms_in q (right_form (variable_count q) r)) effort best) (one_problem q p posed)

@@ -38,7 +38,7 @@ due_within_budget : (effort : Effort) (q : BodyView) (r : RelationView) (k phase
 due_within_budget effort q r k phase none (inl e) = best_never_out_of_steps (problem_of q) (terms_in q (left_form (variable_count q) r))
     (terms_in q (right_form (variable_count q) r)) k phase
     (subst (λ b. EndsWith (problem_of q) (terms_in q (left_form (variable_count q) r)) (terms_in q (right_form (variable_count q) r)) b
-        (Undecided (Pivots k phase))) none e)
+    (Undecided (Pivots k phase))) none e)
 due_within_budget effort q r k phase none (inr (quick, known)) = known
 
 pub never_out_of_steps : NeverOutOfSteps

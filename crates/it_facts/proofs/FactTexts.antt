@@ -34,5 +34,9 @@ item_step separator text items i x some out h is =
 pub point_by_facts : (v : NamesView) (values : List ℤ) (text : List ℕ) (s : Space) (facts : List Fact)
     → s ≡ record { variables = length v.variables; rates = length v.rates } → Determine s.variables s.rates facts (point_of values)
     → text ≡ facts_text v facts → TellsPoint v values text
-point_by_facts v values text s facts e d t = record { facts = facts; determine = subst
-    (λ (z : Space). Determine z.variables z.rates facts (point_of values)) e d; text_is = t }
+point_by_facts v values text s facts e d t = record {
+  facts = facts;
+  determine = subst
+      (λ (z : Space). Determine z.variables z.rates facts (point_of values)) e d;
+  text_is = t;
+}

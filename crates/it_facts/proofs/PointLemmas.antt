@@ -32,7 +32,7 @@ function_adds_nothing n q a from to p l m i e =
     let up : q a ≤ℤ q (bit_or a both) = p.rises a (bit_or a both) (or_lt n a both l below) (inside_left a both) in
     let sub : (q (bit_or a both) +ℤ q (bit_and a both)) ≤ℤ (q a +ℤ q both) = p.submodular a both l below in
     let low : q from ≤ℤ q (bit_and a both) = p.rises from (bit_and a both) (omega (arith, and_le_r a both, below))
-        (inside_meet from a both i (inside_left from to)) in
+    (inside_meet from a both i (inside_left from to)) in
     sym (ap q all) ∙ omega (arith, ints, up, sub, low, e)
 
 -- a set that holds a function of others of its members has the value that it has without it
@@ -89,7 +89,7 @@ union_at_most : (n : ℕ) (q : ℕ → ℤ) (s t : ℕ) → IsPolymatroid n q �
 union_at_most n q s t p l m =
     let sub : (q (bit_or s t) +ℤ q (bit_and s t)) ≤ℤ (q s +ℤ q t) = p.submodular s t l m in
     let least : q 0 ≤ℤ q (bit_and s t) = p.rises 0 (bit_and s t) (omega (arith, and_le_r s t, m))
-        (same_from_bits (bit_and 0 (bit_and s t)) 0 (λ k. let x = bit_at_and 0 (bit_and s t) k in let z = bit_at-zero k in omega arith)) in
+    (same_from_bits (bit_and 0 (bit_and s t)) 0 (λ k. let x = bit_at_and 0 (bit_and s t) k in let z = bit_at-zero k in omega arith)) in
     omega (arith, ints, sub, least, p.empty)
 
 -- the value of a set is at most the sum of its members' values
@@ -125,11 +125,11 @@ part_independent n q s whole few p l i e =
     let rest : ℕ = bit_and whole (2 ^ 16 - 1 - s) in
     let bits : (k : ℕ) → bit_at rest k ≡ bit_at whole k - bit_at s k = λ k. bit_without whole s k (omega arith) (omega arith) in
     let split : sum_of_members n q s +ℤ sum_of_members n q rest ≡ sum_of_members n q whole = sum_of_members-split n q s rest whole
-        (λ k. let b = bits k in let w = at_most_at s whole i k in omega arith) in
+    (λ k. let b = bits k in let w = at_most_at s whole i k in omega arith) in
     let rl : rest < 2 ^ n = inside_below n rest whole l (inside_by rest whole (λ k. let b = bits k in omega arith)) in
     let union : q (bit_or s rest) ≤ℤ (q s +ℤ q rest) = union_at_most n q s rest p sl rl in
     let all : bit_or s rest ≡ whole = same_from_bits (bit_or s rest) whole
-        (λ k. let b = bits k in let w = at_most_at s whole i k in let o = bit_at_or s rest k in let f = bit_at-lt whole k in omega arith) in
+    (λ k. let b = bits k in let w = at_most_at s whole i k in let o = bit_at_or s rest k in let f = bit_at-lt whole k in omega arith) in
     let first : q s ≤ℤ sum_of_members n q s = at_most_sum n q p n (omega arith) s sl in
     let second : q rest ≤ℤ sum_of_members n q rest = at_most_sum n q p n (omega arith) rest rl in
     omega (arith, ints, split, union, ap q all, first, second, e)
@@ -170,10 +170,10 @@ equal_settles n p s x y rest exchanged h j l m bits e is less v q k f agree =
     let w = without_member s x rest m bits e in
     let own : q (bit_or s (2 ^ y)) ≡ q s = function_adds_nothing n q s (2 ^ x) (2 ^ y) k l (pow_below y n j) (w.2) f.1 in
     let other : q (bit_or exchanged (2 ^ x)) ≡ q exchanged = function_adds_nothing n q exchanged (2 ^ y) (2 ^ x) k (omega arith)
-        (pow_below x n h) (subst (IsInside (2 ^ y)) (sym is) (inside_right rest (2 ^ y))) f.0 in
+    (pow_below x n h) (subst (IsInside (2 ^ y)) (sym is) (inside_right rest (2 ^ y))) f.0 in
     let both : bit_or s (2 ^ y) ≡ bit_or exchanged (2 ^ x) = same_from_bits (bit_or s (2 ^ y)) (bit_or exchanged (2 ^ x)) (λ i.
     let a = bit_at_or s (2 ^ y) i in let b = bit_at_or exchanged (2 ^ x) i in let c = bit_at_or rest (2 ^ y) i
-        in let d = ap (λ t. bit_at t i) is in let g = bit_at_or rest (2 ^ x) i in let t = ap (λ t. bit_at t i) w.1 in omega arith) in
+    in let d = ap (λ t. bit_at t i) is in let g = bit_at_or rest (2 ^ x) i in let t = ap (λ t. bit_at t i) w.1 in omega arith) in
     sym own ∙ ap q both ∙ other ∙ agree exchanged less ∙ sym v
 
 pub independent_settles : (n : ℕ) (p : ℕ → ℤ) (s whole : ℕ) → n ≤ 10 → whole < 2 ^ n → IsInside s whole → ((i : ℕ) → i < n → s ≢ 2 ^ i)

@@ -38,8 +38,14 @@ passes_then : (m n k : FlaggedLetters) → Clears m n → Clears n k → Clears 
 passes_then m n k p q = record { prefix = p.prefix ++ q.prefix; is = append_cleaned p.prefix q.prefix m n k p.is q.is }
 
 flags_then : (m n : FlaggedLetters) (f : Fault) → Clears m n → Flags n f → Flags m f
-flags_then m n f p q = record { prefix = p.prefix ++ q.prefix; letter = q.letter; rest = q.rest; is = append_cleaned p.prefix q.prefix m n
-    ((q.letter, Some f.0) ∷ q.rest) p.is q.is; left = q.left }
+flags_then m n f p q = record {
+  prefix = p.prefix ++ q.prefix;
+  letter = q.letter;
+  rest = q.rest;
+  is = append_cleaned p.prefix q.prefix m n
+      ((q.letter, Some f.0) ∷ q.rest) p.is q.is;
+  left = q.left;
+}
 
 -- nothing more to read
 pub answers_ok : {A : Type 0} (x : A) (k : FlaggedLetters) → Answers (Ok (x, letters k)) k x k

@@ -11,8 +11,11 @@ turns_any : {A B : Type 0} (t : A → Terminal B) (Step : A → B → Fact A →
     → ((a : A) (b : B) (P : Fact A) → ((q : List Letter) (c : A) → P q c) → Step a b P) → (n : ℕ) (a : A) (P : Fact A)
     → ((q : List Letter) (c : A) → P q c) → Turns t Step n a P
 turns_any t Step s zero a P h = h [] a
-turns_any t Step s (suc n) a P h = (h [] a, λ l e m. s a ((t a).says l).1 (λ q c. Turns t Step n c (λ r y. P ((l ∷ []) ++ (q ++ r)) y))
-    (λ q c. turns_any t Step s n c (λ r y. P ((l ∷ []) ++ (q ++ r)) y) (λ r y. h ((l ∷ []) ++ (q ++ r)) y)))
+turns_any t Step s (suc n) a P h = (
+  h [] a,
+  λ l e m. s a ((t a).says l).1 (λ q c. Turns t Step n c (λ r y. P ((l ∷ []) ++ (q ++ r)) y))
+      (λ q c. turns_any t Step s n c (λ r y. P ((l ∷ []) ++ (q ++ r)) y) (λ r y. h ((l ∷ []) ++ (q ++ r)) y)),
+)
 
 -- what holds of everything always holds
 pub always_any : {A : Type 0} (f : Form A) (P : Fact A) → ((q : List Letter) (y : A) → P q y) → Always f P

@@ -47,7 +47,7 @@ turn_by : {A B : Type 0} (ks : List Kind) (says : A → Letter → Option Code �
 unfolding Spells
 turn_by {A} {B} ks says step some_step step_by a ls next =
     by_branch (record { kinds = ks; says = says a }) after (λ s. Ok (a, s)) (read (While ks says step a)) (After ks says step a) nothing
-        (Spells (While ks says step a))
+    (Spells (While ks says step a))
     (record {
       is = while_turn ks says step a;
       taken = λ b y m n k t w. one_more_turn ks says step a b w.0 y m n w.1 k t w.2 w.3;
@@ -55,7 +55,7 @@ turn_by {A} {B} ks says step some_step step_by a ls next =
       completes = λ b. after_completes ks says step a b (some_step a b);
     })
     ls (λ l rest e b. by_then (read (step a b)) (λ c. read (While ks says step c)) (after b) (Spells (step a b))
-        (λ c. Spells (While ks says step c)) (After ks says step a b)
+    (λ c. Spells (While ks says step c)) (After ks says step a b)
     (record { is = λ ls. refl; says = λ c y m n k s w. (c, n, s, w); completes = λ c. (c, λ k. (k, (zero, (refl, refl)))) })
     rest (step_by a b rest) (λ c r same. next l rest e c r (subst (NoLonger rest) same (rest_no_longer (step a b) rest))))
     (by_nothing (λ s. Ok (a, s)) nothing a ls (λ s. refl) (λ k. (refl, refl)))
@@ -82,8 +82,12 @@ unfolding read Spells Has
 reading_tells (Give a) o h ls = by_nothing (read (Give a)) (Spells (Give a)) a ls (λ s. refl) (λ k. (refl, refl))
 reading_tells (Take t) o h ls =
     by_branch t (λ a s. Ok (a, s)) no_rule (read (Take t)) (λ a y m k. (a ≡ y) × (m ≡ k)) (IsTaken t) (Spells (Take t))
-    (record { is = λ ls. refl; taken = λ a y m n k t e. (t.0, t.1, t.2 ∙ e.0, rw (← e.1) t.3);
-        else = λ y m k t. t; completes = λ a. (a, λ k. (k, (refl, refl))) })
+    (record {
+      is = λ ls. refl;
+      taken = λ a y m n k t e. (t.0, t.1, t.2 ∙ e.0, rw (← e.1) t.3);
+      else = λ y m k t. t;
+      completes = λ a. (a, λ k. (k, (refl, refl)));
+    })
     ls (λ l rest e a. by_nothing (λ s. Ok (a, s)) (λ y m k. (a ≡ y) × (m ≡ k)) a rest (λ s. refl) (λ k. (refl, refl)))
     (by_no_rule (IsTaken t) ls (form_completes (Take t) o h))
 reading_tells (Then f g) o h ls =

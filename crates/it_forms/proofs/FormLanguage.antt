@@ -48,9 +48,20 @@ turns_move {A} {B} ks says step h (suc n) a y m k s = both (terminal_moves (reco
     both x b c = record {
       prefix = x.0 ∷ (b.prefix ++ c.prefix);
       is = x.1.0 ∙ ap (λ (t : FlaggedLetters). x.0 ∷ t) (b.is ∙ ap (λ (t : FlaggedLetters). b.prefix ++ t) c.is ∙ sym (append_assoc b.prefix c.prefix k));
-      moves = λ q. let w = c.moves q in (suc w.0, (s.0, (b.prefix ++ c.prefix) ++ q, s.2, c.prefix
-          ++ q, x.1.1 ((b.prefix ++ c.prefix) ++ q), subst (λ (t : FlaggedLetters). Spells (step a s.0) s.2 t (c.prefix ++ q))
-          (sym (append_assoc b.prefix c.prefix q)) (b.moves (c.prefix ++ q)), w.1));
+      moves = λ q. let w = c.moves q in (
+        suc w.0,
+        (
+          s.0,
+          (b.prefix ++ c.prefix) ++ q,
+          s.2,
+          c.prefix
+              ++ q,
+          x.1.1 ((b.prefix ++ c.prefix) ++ q),
+          subst (λ (t : FlaggedLetters). Spells (step a s.0) s.2 t (c.prefix ++ q))
+              (sym (append_assoc b.prefix c.prefix q)) (b.moves (c.prefix ++ q)),
+          w.1,
+        ),
+      );
     }
 
 pub prefix_moves : {A : Type 0} (f : Form A) (y : A) (m k : FlaggedLetters) → Spells f y m k → Moves f y m k
@@ -63,13 +74,22 @@ prefix_moves (Then f g) y m k s = both (prefix_moves f s.0 m s.1 s.2) (prefix_mo
     both a b = record {
       prefix = a.prefix ++ b.prefix;
       is = a.is ∙ ap (λ (t : FlaggedLetters). a.prefix ++ t) b.is ∙ sym (append_assoc a.prefix b.prefix k);
-      moves = λ q. (s.0, b.prefix ++ q, subst (λ (t : FlaggedLetters). Spells f s.0 t (b.prefix ++ q))
-          (sym (append_assoc a.prefix b.prefix q)) (a.moves (b.prefix ++ q)), b.moves q);
+      moves = λ q. (
+        s.0,
+        b.prefix ++ q,
+        subst (λ (t : FlaggedLetters). Spells f s.0 t (b.prefix ++ q))
+            (sym (append_assoc a.prefix b.prefix q)) (a.moves (b.prefix ++ q)),
+        b.moves q,
+      );
     }
 prefix_moves (If t g h) y m k (inl s) = both (terminal_moves t s.0 m s.1 s.2) (prefix_moves (g s.0) y s.1 k s.3)
   where
     both : (x : Letter × Option Code) × ((m ≡ x ∷ s.1) × ((q : FlaggedLetters) → IsTaken t s.0 (x ∷ q) q)) → Moves (g s.0) y s.1 k → Moves (If t g h) y m k
-    both x b = record { prefix = x.0 ∷ b.prefix; is = x.1.0 ∙ ap (λ (t : FlaggedLetters). x.0 ∷ t) b.is; moves = λ q. inl
-        (s.0, b.prefix ++ q, x.1.1 (b.prefix ++ q), b.moves q) }
+    both x b = record {
+      prefix = x.0 ∷ b.prefix;
+      is = x.1.0 ∙ ap (λ (t : FlaggedLetters). x.0 ∷ t) b.is;
+      moves = λ q. inl
+          (s.0, b.prefix ++ q, x.1.1 (b.prefix ++ q), b.moves q);
+    }
 prefix_moves (If t g h) y m k (inr s) = let b = prefix_moves h y m k s in record { prefix = b.prefix; is = b.is; moves = λ q. inr (b.moves q) }
 prefix_moves (While ks says step a) y m k s = turns_move ks says step (λ a b c m k t. prefix_moves (step a b) c m k t) s.0 a y m k s.1

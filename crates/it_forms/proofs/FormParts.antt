@@ -45,8 +45,12 @@ read_then : {A B : Type 0} (P : Fact A) (Q : Fact B) (ls : List Letter) (r : Rea
 read_then {A} {B} P Q ls (Ok x) g h e = by_result (g x.0 x.1) (e h.prefix x.0 x.1 h.holds)
   where
     by_result : (r : Reads B) → IfRead (λ q y. Q (h.prefix ++ q) y) x.1 r → IfRead Q ls r
-    by_result (Ok y) k = record { prefix = h.prefix ++ k.prefix; parts = h.parts ∙ ap (λ (t : List Letter). h.prefix ++ t) k.parts
-        ∙ sym (append_assoc h.prefix k.prefix y.1); holds = k.holds }
+    by_result (Ok y) k = record {
+      prefix = h.prefix ++ k.prefix;
+      parts = h.parts ∙ ap (λ (t : List Letter). h.prefix ++ t) k.parts
+          ∙ sym (append_assoc h.prefix k.prefix y.1);
+      holds = k.holds;
+    }
     by_result (Err f) k = tt
 read_then P Q ls (Err f) g h e = tt
 
@@ -71,10 +75,10 @@ read_each : {A B : Type 0} (t : A → Terminal B) (step : A → B → Reader A) 
 read_each t step Step h zero a P ls e = record { prefix = []; parts = refl; holds = e }
 read_each t step Step h (suc n) a P ls e =
     read_taken (t a) (λ p b. Step a b (λ q c. Turns t Step n c (λ r y. P (p ++ (q ++ r)) y))) P ls
-        (λ b rest. step a b rest >>= λ x. read_turns t step n x.0 x.1) (Ok (a, ls)) e.1
+    (λ b rest. step a b rest >>= λ x. read_turns t step n x.0 x.1) (Ok (a, ls)) e.1
     (λ p b s k. read_then (λ q c. Turns t Step n c (λ r y. P (p ++ (q ++ r)) y)) (λ q y. P (p ++ q) y) s (step a b s) (read_turns t step n)
-        (h a b (λ q c. Turns t Step n c (λ r y. P (p ++ (q ++ r)) y)) s k)
-        (λ q c r w. read_each t step Step h n c (λ r y. P (p ++ (q ++ r)) y) r w))
+    (h a b (λ q c. Turns t Step n c (λ r y. P (p ++ (q ++ r)) y)) s k)
+    (λ q c r w. read_each t step Step h n c (λ r y. P (p ++ (q ++ r)) y) r w))
     (record { prefix = []; parts = refl; holds = e.0 })
 
 -- what always holds holds of what is read
@@ -95,10 +99,13 @@ turns_weaker : {A B : Type 0} (t : A → Terminal B) (Step : A → B → Fact A 
     → ((a : A) (b : B) (P Q : Fact A) → ((q : List Letter) (c : A) → P q c → Q q c) → Step a b P → Step a b Q)
     → (n : ℕ) (a : A) (P Q : Fact A) → ((q : List Letter) (c : A) → P q c → Q q c) → Turns t Step n a P → Turns t Step n a Q
 turns_weaker t Step w zero a P Q i h = i [] a h
-turns_weaker t Step w (suc n) a P Q i h = (i [] a h.0, λ l e m. w a ((t a).says l).1
-    (λ q c. Turns t Step n c (λ r y. P ((l ∷ []) ++ (q ++ r)) y)) (λ q c. Turns t Step n c (λ r y. Q ((l ∷ []) ++ (q ++ r)) y))
-    (λ q c k. turns_weaker t Step w n c (λ r y. P ((l ∷ []) ++ (q ++ r)) y) (λ r y. Q ((l ∷ []) ++ (q ++ r)) y)
-    (λ r y. i ((l ∷ []) ++ (q ++ r)) y) k) (h.1 l e m))
+turns_weaker t Step w (suc n) a P Q i h = (
+  i [] a h.0,
+  λ l e m. w a ((t a).says l).1
+      (λ q c. Turns t Step n c (λ r y. P ((l ∷ []) ++ (q ++ r)) y)) (λ q c. Turns t Step n c (λ r y. Q ((l ∷ []) ++ (q ++ r)) y))
+      (λ q c k. turns_weaker t Step w n c (λ r y. P ((l ∷ []) ++ (q ++ r)) y) (λ r y. Q ((l ∷ []) ++ (q ++ r)) y)
+      (λ r y. i ((l ∷ []) ++ (q ++ r)) y) k) (h.1 l e m),
+)
 
 pub always_weaker : {A : Type 0} (f : Form A) (P Q : Fact A) → ((q : List Letter) (a : A) → P q a → Q q a) → Always f P → Always f Q
 unfolding Always
@@ -106,8 +113,11 @@ always_weaker (Give a) P Q i h = i [] a h
 always_weaker (Take t) P Q i h = λ l e m. i (l ∷ []) (t.says l).1 (h l e m)
 always_weaker (Then f g) P Q i h = always_weaker f (λ p a. Always (g a) (λ q y. P (p ++ q) y)) (λ p a. Always (g a) (λ q y. Q (p ++ q) y))
     (λ p a k. always_weaker (g a) (λ q y. P (p ++ q) y) (λ q y. Q (p ++ q) y) (λ q y. i (p ++ q) y) k) h
-always_weaker (If t g other) P Q i h = (λ l e m. always_weaker (g (t.says l).1) (λ q y. P ((l ∷ []) ++ q) y) (λ q y. Q ((l ∷ []) ++ q) y)
-    (λ q y. i ((l ∷ []) ++ q) y) (h.0 l e m), always_weaker other P Q i h.1)
+always_weaker (If t g other) P Q i h = (
+  λ l e m. always_weaker (g (t.says l).1) (λ q y. P ((l ∷ []) ++ q) y) (λ q y. Q ((l ∷ []) ++ q) y)
+      (λ q y. i ((l ∷ []) ++ q) y) (h.0 l e m),
+  always_weaker other P Q i h.1,
+)
 always_weaker (While ks says step a) P Q i h = λ n. turns_weaker (λ c. record { kinds = ks; says = says c }) (λ c b Q. Always (step c b) Q)
     (λ c b P Q i k. always_weaker (step c b) P Q i k) n a P Q i (h n)
 
@@ -131,8 +141,8 @@ loop_keeps {A} {B} ks says step P h p a s n = turns n p a s
           (λ q c. Turns (λ c. record { kinds = ks; says = says c }) (λ c b Q. Always (step c b) Q) n c
           (λ r y. P (p ++ ((l ∷ []) ++ (q ++ r))) y))
           (λ q c k. turns_weaker (λ c. record { kinds = ks; says = says c }) (λ c b Q. Always (step c b) Q)
-              (λ c b P Q i w. always_weaker (step c b) P Q i w) n c (λ r y. P ((p ++ ((l ∷ []) ++ q)) ++ r) y)
-              (λ r y. P (p ++ ((l ∷ []) ++ (q ++ r))) y)
+          (λ c b P Q i w. always_weaker (step c b) P Q i w) n c (λ r y. P ((p ++ ((l ∷ []) ++ q)) ++ r) y)
+          (λ r y. P (p ++ ((l ∷ []) ++ (q ++ r))) y)
           (λ r y w. subst (λ (x : List Letter). P x y) (append_assoc p ((l ∷ []) ++ q) r) w) (turns n (p ++ ((l ∷ []) ++ q)) c k)) (h p a s l e m),
     )
 

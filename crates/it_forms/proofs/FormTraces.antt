@@ -86,9 +86,13 @@ second_then f g h first second both c ls a r w (Err x) v = record {
   prefix = w.prefix ++ v.prefix;
   parts = w.parts ∙ ap (λ (t : List Letter). w.prefix ++ t) v.parts ∙ sym (append_assoc w.prefix v.prefix x.1);
   value = v.value;
-  spells = λ k. let q = v.spells k in (q.0, subst (λ (m : FlaggedLetters). both v.value m k) (unflagged_all_append w.prefix v.prefix q.0)
-      (c.says a v.value (without_flags w.prefix ++ (without_flags v.prefix ++ q.0)) (without_flags v.prefix ++ q.0) k
-      (w.spells (without_flags v.prefix ++ q.0)) q.1), q.2);
+  spells = λ k. let q = v.spells k in (
+    q.0,
+    subst (λ (m : FlaggedLetters). both v.value m k) (unflagged_all_append w.prefix v.prefix q.0)
+        (c.says a v.value (without_flags w.prefix ++ (without_flags v.prefix ++ q.0)) (without_flags v.prefix ++ q.0) k
+        (w.spells (without_flags v.prefix ++ q.0)) q.1),
+    q.2,
+  );
   stays = λ s e. ap h (append_assoc w.prefix v.prefix s) ∙ c.is (w.prefix ++ (v.prefix ++ s))
       ∙ bind_ok f g w.prefix a (v.prefix ++ s) (Err (x.0, s)) (w.stays (v.prefix ++ s)
       (head_same v.prefix s x.1 e ∙ ap (λ (ls : List Letter). slice_get ls 0) (sym v.parts))) (v.stays s e);
@@ -157,17 +161,25 @@ by_terminal t g other h left right both c l rest e (None, a) same next = by_resu
       prefix = l ∷ w.prefix;
       parts = ap (λ (s : List Letter). l ∷ s) w.parts;
       value = w.value;
-      spells = λ k. let q = w.spells k in (q.0, c.taken a w.value ((l, None) ∷ (without_flags w.prefix ++ q.0))
-          (without_flags w.prefix ++ q.0) k (token (without_flags w.prefix ++ q.0)) q.1, q.2);
+      spells = λ k. let q = w.spells k in (
+        q.0,
+        c.taken a w.value ((l, None) ∷ (without_flags w.prefix ++ q.0))
+            (without_flags w.prefix ++ q.0) k (token (without_flags w.prefix ++ q.0)) q.1,
+        q.2,
+      );
       stays = λ s h. reads (w.prefix ++ s) ∙ w.stays s h;
     }
 by_terminal t g other h left right both c l rest e (Some x, a) same next = record {
   prefix = [];
   parts = refl;
   value = (c.completes a).0;
-  spells = λ k. let m = (c.completes a).1 k in ((l, Some x) ∷ m.0, c.taken a (c.completes a).0 ((l, Some x) ∷ m.0) m.0 k
-      (l, e, ap (λ (q : Option Code × _). q.1) same, ap (λ (q : Option Code × _). (l, q.0) ∷ m.0) (sym same)) m.1, inr
-      (l, m.0, (refl, refl)));
+  spells = λ k. let m = (c.completes a).1 k in (
+    (l, Some x) ∷ m.0,
+    c.taken a (c.completes a).0 ((l, Some x) ∷ m.0) m.0 k
+        (l, e, ap (λ (q : Option Code × _). q.1) same, ap (λ (q : Option Code × _). (l, q.0) ∷ m.0) (sym same)) m.1,
+    inr
+        (l, m.0, (refl, refl)),
+  );
   stays = for_head (λ s. h s ≡ Err (x, s)) l (λ s. c.is (l ∷ s) ∙ taken_is t l (Some x, a) e same g s (other (l ∷ s)));
 }
 
@@ -194,11 +206,11 @@ branch_by : {A B : Type 0} (t : Terminal A) (g : A → Reader B) (other : Reader
     → (b : Bool) → is_among t.kinds l ≡ b → By h both (l ∷ rest) (h (l ∷ rest))
 branch_by t g other h left right both c l rest next w true e =
     subst (λ (r : Reads _). By h both (l ∷ rest) r) (sym (c.is (l ∷ rest) ∙ taken_is t l (t.says l) e refl g rest (other (l ∷ rest))))
-        (by_terminal t g other h left right both c l rest e (t.says l) refl next)
+    (by_terminal t g other h left right both c l rest e (t.says l) refl next)
 branch_by t g other h left right both c l rest next w false e =
     let here : (s : List Letter) → h (l ∷ s) ≡ other (l ∷ s) = λ s. c.is (l ∷ s) ∙ other_is t l e g s (other (l ∷ s)) in
     subst (λ (r : Reads _). By h both (l ∷ rest) r) (sym (here rest)) (else_then t g other h left right both c (l ∷ rest)
-        (for_head (λ s. h s ≡ other s) l here) (other (l ∷ rest)) w)
+    (for_head (λ s. h s ≡ other s) l here) (other (l ∷ rest)) w)
 
 pub by_branch : {A B : Type 0} (t : Terminal A) (g : A → Reader B) (other : Reader B) (h : Reader B) (left : A → Language B)
     (right : Language B) (both : Language B) → Branch t g other h left right both
@@ -206,7 +218,7 @@ pub by_branch : {A B : Type 0} (t : Terminal A) (g : A → Reader B) (other : Re
     → By other right ls (other ls) → By h both ls (h ls)
 by_branch t g other h left right both c [] next w =
     subst (λ (r : Reads _). By h both [] r) (sym (c.is [])) (else_then t g other h left right both c []
-        (for_no_head (λ s. h s ≡ other s) (c.is [])) (other []) w)
+    (for_no_head (λ s. h s ≡ other s) (c.is [])) (other []) w)
 by_branch t g other h left right both c (l ∷ rest) next w = branch_by t g other h left right both c l rest (next l rest refl) w (is_among t.kinds l) refl
 
 -- nothing is read

@@ -99,13 +99,13 @@ turns_answer : {A B : Type 0} (ks : List Kind) (says : A → Letter → Option C
 turns_answer {A} ks says step is p h zero a y m k s f fi =
     subst (λ (r : Reads A). Answers r m y k) (sym (while_turn ks says step a (letters m)))
     (free_answers (record { kinds = ks; says = says a }) m k (λ b rest. read (step a b) rest >>= λ x. read (While ks says step x.0) x.1)
-        (Ok (a, letters m)) y (subst (IsFree ks) (sym s.1) f)
+    (Ok (a, letters m)) y (subst (IsFree ks) (sym s.1) f)
     (subst (λ (b : A). Answers (Ok (a, letters m)) m b k) s.0 (subst (λ (q : FlaggedLetters). Answers (Ok (a, letters m)) m a q) s.1 (answers_ok a m))))
 turns_answer {A} ks says step is p h (suc n) a y m k s f fi =
     let q = s.3 in
     subst (λ (r : Reads A). Answers r m y k) (sym (while_turn ks says step a (letters m)))
     (taken_answers (record { kinds = ks; says = says a }) s.0 m s.1 k (λ b rest. read (step a b) rest >>= λ x. read
-        (While ks says step x.0) x.1) (Ok (a, letters m)) y s.4
+    (While ks says step x.0) x.1) (Ok (a, letters m)) y s.4
     (answers_bind (read (step a s.0) (letters s.1)) (λ x. read (While ks says step x.0) x.1) s.1 q k s.2 y
     (h a s.0 s.2 s.1 q s.5 (free_turns ks is (λ a. record { kinds = ks; says = says a }) (λ a b. Spells (step a b)) (λ a. refl) n s.2 y q k s.6 p fi))
     (turns_answer ks says step is p h n s.2 y q k s.6 f fi)))
@@ -130,18 +130,18 @@ written_is_read (Then f g) o h y m k s e =
     let j = h.1 in
     let p = free_as (one_then i j) o k h.5 e in
     answers_bind (read f (letters m)) (λ x. read (g x.0) x.1) m s.1 k s.0 y
-        (written_is_read f i h.2 s.0 m s.1 s.2 (free_second i j s.1 k j.goes (form_begins (g s.0) j (h.3 s.0) y s.1 k s.3) h.4 p))
+    (written_is_read f i h.2 s.0 m s.1 s.2 (free_second i j s.1 k j.goes (form_begins (g s.0) j (h.3 s.0) y s.1 k s.3) h.4 p))
     (written_is_read (g s.0) j (h.3 s.0) y s.1 k s.3 (free_both j.goes (kinds_if j.skips i.goes) k p).0)
 written_is_read (If t g other) o h y m k (inl s) e =
     taken_answers t s.0 m s.1 k (λ a. read (g a)) (read other (letters m)) y s.2
     (written_is_read (g s.0) h.0 (h.2 s.0) y s.1 k s.3 (free_both h.0.goes (h.1.goes ++ kinds_if h.1.skips t.kinds) k
-        (free_as (one_or t.kinds h.0 h.1) o k h.5 e)).0)
+    (free_as (one_or t.kinds h.0 h.1) o k h.5 e)).0)
 written_is_read (If t g other) o h y m k (inr s) e =
     let j = h.1 in
     let f = free_both j.goes (kinds_if j.skips t.kinds) k (free_both h.0.goes (j.goes ++ kinds_if j.skips t.kinds) k
-        (free_as (one_or t.kinds h.0 j) o k h.5 e)).1 in
+    (free_as (one_or t.kinds h.0 j) o k h.5 e)).1 in
     free_answers t m k (λ a. read (g a)) (read other (letters m)) y (free_other t.kinds j m k (form_begins other j h.3 y m k s) h.4 f.1)
-        (written_is_read other j h.3 y m k s f.0)
+    (written_is_read other j h.3 y m k s f.0)
 written_is_read (While ks says step a) o h y m k s e =
     let i = h.0 in
     let f = free_both ks i.goes k (free_as (repeated ks i) o k h.3 e) in

@@ -23,7 +23,7 @@ sum_across : (a c : ℤ) (b d g b' d' g' : ℕ) → 0 < g → 0 < g' → b' * g 
 sum_across a c b d g b' d' g' some some' eb ed e t et back = cancel_factor (int_quotient t g' *ℤ pos (b * d))
     ((a *ℤ pos d +ℤ c *ℤ pos b) *ℤ pos (b' * (d / g'))) g' some'
     (factors_swap (int_quotient t g') (pos b) (pos d) (pos g') ∙ ap (λ x. x *ℤ (pos b *ℤ pos d)) (back ∙ et)
-        ∙ ap (λ n. (a *ℤ pos d' +ℤ c *ℤ pos b') *ℤ (pos n *ℤ pos d)) (sym eb)
+    ∙ ap (λ n. (a *ℤ pos d' +ℤ c *ℤ pos b') *ℤ (pos n *ℤ pos d)) (sym eb)
     ∙ sums_cross a c (pos b') (pos d') (pos g) (pos d)
     ∙ ap (λ n. (a *ℤ pos n +ℤ c *ℤ (pos b' *ℤ pos g)) *ℤ (pos b' *ℤ pos d)) ed ∙ ap₂ (λ n m. (a *ℤ pos d +ℤ c *ℤ pos n) *ℤ (pos b' *ℤ pos m)) eb (sym e)
     ∙ factors_join (a *ℤ pos d +ℤ c *ℤ pos b) (pos b') (pos (d / g')) (pos g'))

@@ -42,8 +42,13 @@ new_written : (v : NamesView) (w : List ℕ) → IsText kinds.Word w
     → new_flag (is_measure w) (is_taken v w) (most_variables - length v.variables) ≡ None
     → IsWritten (Stops is_word_byte) w (new_name Variable most_variables v)
 unfolding new_name
-new_written v w h e = letter_written (record { letter = Word w; writes = writes_word w h; among = refl; says = ap
-    (λ (flag : Option Code). (flag, with_name Variable v w)) e })
+new_written v w h e = letter_written (record {
+  letter = Word w;
+  writes = writes_word w h;
+  among = refl;
+  says = ap
+      (λ (flag : Option Code). (flag, with_name Variable v w)) e;
+})
 
 comma : IsLetter Anything (codes ", ") (record { kinds = Punctuation symbols.Comma ∷ []; says = λ l. (None, tt {0}) }) tt
 comma = record { letter = Sym symbols.Comma; writes = writes_then (writes_symbol symbols.Comma) writes_space (λ rest d. tt); among = refl; says = refl }
@@ -104,8 +109,15 @@ line_read n line more w k tail h r =
     record {
       lines = l ∷ r.lines;
       cut = subst (λ (split : List (List ℕ)). AreLines n split (l ∷ r.lines)) (sym (plain_first line more plain))
-          (inr (l, r.lines, refl, record { number = refl; text = sym (plain_same line plain); spelled = h.spelled }, line_is_filled line
-              h.tokens tail k w h.same, r.cut));
+          (inr (
+            l,
+            r.lines,
+            refl,
+            record { number = refl; text = sym (plain_same line plain); spelled = h.spelled },
+            line_is_filled line
+                h.tokens tail k w h.same,
+            r.cut,
+          ));
       same = sym h.same ∙ ap (λ (t : FlaggedLetters). without_flags (letters_until line h.tokens End) ++ t) r.same
           ∙ sym (cleaned_append (letters_until line h.tokens End) (letters_of_lines r.lines));
     }
@@ -143,8 +155,18 @@ question_says x k =
       tt,
       r,
       (Word (codes "prove"), refl, refl, ap (λ (c : Option Code). (Word (codes "prove"), c) ∷ r) (sym four_small)),
-      ((relation_written x).value, k, ((relation_written x).value, (End, None)
-          ∷ k, (relation_written x).says ((End, None) ∷ k), (tt, k, end_says k, (refl, refl))), (refl, refl)),
+      (
+        (relation_written x).value,
+        k,
+        (
+          (relation_written x).value,
+          (End, None)
+              ∷ k,
+          (relation_written x).says ((End, None) ∷ k),
+          (tt, k, end_says k, (refl, refl)),
+        ),
+        (refl, refl),
+      ),
     ) in
     (four_variables, p, names_say p, (four_variables, p, inr (refl, refl), (no_lines, p, own, (Prove (relation_written x).value, k, aim, (refl, refl)))))
 
@@ -188,14 +210,18 @@ questions_say seed (suc count) qs few =
     let next = file_letters (state_after 8 seed) count in
     let m = question_letters seed next in
     let w = subst (λ (all : List BodyView). Spells (more_questions (qs ++ q ∷ [])) all next ((file_end, None) ∷ []))
-        (append_assoc qs (q ∷ []) (bodies (state_after 8 seed) count))
+    (append_assoc qs (q ∷ []) (bodies (state_after 8 seed) count))
     (questions_say (state_after 8 seed) count (qs ++ q ∷ []) (omega (arith, few, length-append qs (q ∷ [])))) in
     (suc w.0, (tt, m, qs ++ q ∷ [], next, (Word (codes "vars"), refl, refl, ap (λ (c : Option Code). (Word (codes "vars"), c) ∷ m) (sym (not_many (length qs) (omega (arith, few))))), (q, next, question_says seed next, (refl, refl)), w.1))
 
 file_says : (seed count : ℕ) → count ≤ most_questions → Spells file (bodies seed count) (file_letters seed count) []
 unfolding Spells file
-file_says seed count few = (bodies seed count, (file_end, None) ∷ [], questions_say seed count [] (omega (arith, few)),
-    (tt, [], (file_end, refl, refl, refl), (refl, refl)))
+file_says seed count few = (
+  bodies seed count,
+  (file_end, None) ∷ [],
+  questions_say seed count [] (omega (arith, few)),
+  (tt, [], (file_end, refl, refl, refl), (refl, refl)),
+)
 
 question_count : (seed count : ℕ) (lines : List LineView) → length (with_texts lines (bodies seed count)) ≡ count
 unfolding bodies
@@ -211,7 +237,19 @@ pub generated_is_file : GeneratedIsFile
 generated_is_file seed count few =
     let r = file_read seed count 1 in
     let qs = with_texts r.lines (bodies seed count) in
-    let asked : IsFile (generated_file seed count) qs = record { lines = r.lines; cut = r.cut; tree
-        = (bodies seed count, file_letters seed count, file_says seed count few); spelled = r.same; says = refl } in
-    record { questions = qs; asked = asked; counted = question_count seed count r.lines; prove = all_prove seed count r.lines; short
-        = generated_short seed count few }
+    let asked : IsFile (generated_file seed count) qs = record {
+      lines = r.lines;
+      cut = r.cut;
+      tree
+          = (bodies seed count, file_letters seed count, file_says seed count few);
+      spelled = r.same;
+      says = refl;
+    } in
+    record {
+      questions = qs;
+      asked = asked;
+      counted = question_count seed count r.lines;
+      prove = all_prove seed count r.lines;
+      short
+          = generated_short seed count few;
+    }

@@ -105,8 +105,13 @@ question_short x =
 
 questions_short : (seed count : ℕ) → length (generated_file seed count) ≤ 139 * count
 questions_short seed zero = omega arith
-questions_short seed (suc count) = omega (arith, length-append (question_text seed)
-    (generated_file (state_after 8 seed) count), question_short seed, questions_short (state_after 8 seed) count)
+questions_short seed (suc count) = omega (
+  arith,
+  length-append (question_text seed)
+      (generated_file (state_after 8 seed) count),
+  question_short seed,
+  questions_short (state_after 8 seed) count,
+)
 
 pub generated_short : (seed count : ℕ) → count ≤ 1000 → length (generated_file seed count) ≤ 1048576
 generated_short seed count few = omega (arith, questions_short seed count, few)

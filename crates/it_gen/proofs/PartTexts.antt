@@ -85,7 +85,7 @@ more_written [] set h = none_written set
 more_written (w ∷ ws) set h =
     let name = variable_written w h.0 in
     one_written (record { letter = Sym symbols.Comma; writes = writes_symbol symbols.Comma; among = refl; says = refl }) name
-        (more_written ws (bit_or set (2 ^ name.value)) h.1) (after_name ws)
+    (more_written ws (bit_or set (2 ^ name.value)) h.1) (after_name ws)
 
 names_written : (w : List ℕ) (ws : List (List ℕ)) → AreKnown (w ∷ ws) → IsWritten (Stops is_word_byte) (joined_texts (codes ",") false (w ∷ ws)) (names env)
 unfolding names
@@ -179,8 +179,8 @@ entropy_written : (a c : ℕ) → IsSome a → c < 16 → (z : Bool) → (c == 0
 unfolding entropy is_word_byte
 entropy_written a c h l z e other =
     first_written entropy_letter (then_written (letter_written left_paren)
-        (then_written (set_written a h) (last_written (given_written c l z e)) (λ rest d. set_ends z c rest)) (λ rest d. tt))
-        (λ rest d. refl)
+    (then_written (set_written a h) (last_written (given_written c l z e)) (λ rest d. set_ends z c rest)) (λ rest d. tt))
+    (λ rest d. refl)
 
 mutual_written : (a b c : ℕ) → IsSome a → IsSome b → c < 16 → (z : Bool) → (c == 0) ≡ z → (other : Form Atom)
     → IsWritten Anything (codes "I(" ++ (set_text four_names a ++ (codes ";" ++ (set_text four_names b ++ (given_or_nothing z c ++ codes ")"))))) (measure_or env other)
@@ -188,9 +188,9 @@ unfolding mutual_information is_word_byte
 mutual_written a b c h g l z e other =
     other_written
     (first_written mutual_letter (then_written (letter_written left_paren)
-        (then_written (set_written a h) (then_written (letter_written semicolon)
-        (then_written (set_written b g) (last_written (given_written c l z e)) (λ rest d. set_ends z c rest)) (λ rest d. tt))
-        (λ rest d. refl)) (λ rest d. tt)) (λ rest d. refl))
+    (then_written (set_written a h) (then_written (letter_written semicolon)
+    (then_written (set_written b g) (last_written (given_written c l z e)) (λ rest d. set_ends z c rest)) (λ rest d. tt))
+    (λ rest d. refl)) (λ rest d. tt)) (λ rest d. refl))
 
 power_some : (i : ℕ) → i < 4 → IsSome (2 ^ i)
 power_some i h = (pow_mono {i = 0} {j = i} (omega arith), pow_below i 4 h)
@@ -243,7 +243,7 @@ unfolding generated_term_text
 term_written m x =
     let e = elemental_at 4 (draw 2 28 x) in
     counted_written m (1 + draw 1 4 x) (omega (arith, drawn_below 1 4 x (omega arith))) (elemental_text four_names e)
-        (elemental_written e (is_elemental 4 (draw 2 28 x) (drawn_listed x)))
+    (elemental_written e (is_elemental 4 (draw 2 28 x) (drawn_listed x)))
 
 -- the drawn bound
 bound_written : (m x : ℕ) → IsWritten Anything (bound_text x) (flagged None (term m scope false))
@@ -256,8 +256,13 @@ bound_written m x =
 -- ---- the relation
 
 plus : IsLetter Anything (codes " + ") (record { kinds = signs; says = λ l. (None, is_of (Punctuation Minus) l) }) false
-plus = record { letter = Sym symbols.Plus; writes = writes_then writes_space
-    (writes_then (writes_symbol symbols.Plus) writes_space (λ rest d. tt)) (λ rest d. tt); among = refl; says = refl }
+plus = record {
+  letter = Sym symbols.Plus;
+  writes = writes_then writes_space
+      (writes_then (writes_symbol symbols.Plus) writes_space (λ rest d. tt)) (λ rest d. tt);
+  among = refl;
+  says = refl;
+}
 
 -- three terms with plus signs between them
 three_text : ℕ → List ℕ
@@ -269,7 +274,7 @@ three_written x =
     same_text (simp (append_assoc, append-nil))
     (other_written (other_written (then_written (term_written 1 x)
     (one_written plus (term_written _ (state_after 2 x)) (one_written plus (term_written _ (state_after 4 x)) (none_written _)
-        (λ rest d. d)) (λ rest d. tt)) (λ rest d. tt))))
+    (λ rest d. d)) (λ rest d. tt)) (λ rest d. tt))))
 
 three_long : (x : ℕ) → length (three_written x).value ≡ 3
 unfolding three_written same_text other_written then_written one_written none_written
@@ -278,8 +283,13 @@ three_long x = refl
 at_least_written : IsWritten Anything (codes " >= ") compare
 unfolding compare
 at_least_written = same_text refl (first_written
-    (record { letter = Sym symbols.AtLeast; writes = writes_then writes_space
-    (writes_then (writes_symbol symbols.AtLeast) writes_space (λ rest d. tt)) (λ rest d. tt); among = refl; says = refl })
+    (record {
+      letter = Sym symbols.AtLeast;
+      writes = writes_then writes_space
+          (writes_then (writes_symbol symbols.AtLeast) writes_space (λ rest d. tt)) (λ rest d. tt);
+      among = refl;
+      says = refl;
+    })
     (give_written AtLeast) (λ rest d. tt))
 
 -- a sum of the drawn bound alone
@@ -296,5 +306,5 @@ relation_written x =
     let m = multiple_from 1 (three_written x).value in
     let right : IsWritten Anything (bound_text (state_after 6 x)) (sum (most_terms - length (three_written x).value) m scope) =
     subst (λ (n : ℕ). IsWritten Anything (bound_text (state_after 6 x)) (sum (most_terms - n) m scope)) (sym (three_long x))
-        (one_term_written 252 m (state_after 6 x)) in
+    (one_term_written 252 m (state_after 6 x)) in
     same_text (simp append_assoc) (then_written (three_written x) (then_written at_least_written (last_written right) (λ rest d. tt)) (λ rest d. tt))

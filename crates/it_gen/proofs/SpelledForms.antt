@@ -34,8 +34,13 @@ letter_written {t = t} {a = a} x = record { value = a; prefix = λ k. (x.letter,
 unfoldable pub then_written : {A B : Type 0} {C D : List ℕ → Type 0} {a b : List ℕ} {f : Form A} {g : A → Form B} → (p : IsWritten C a f)
     → IsWritten D b (g p.value) → ((rest : List ℕ) → D rest → C (b ++ rest)) → IsWritten D (a ++ b) (Then f g)
 unfolding Spells
-then_written p q fits = record { value = q.value; prefix = λ k. p.prefix
-    (q.prefix k); writes = writes_then p.writes q.writes fits; says = λ k. (p.value, q.prefix k, p.says (q.prefix k), q.says k) }
+then_written p q fits = record {
+  value = q.value;
+  prefix = λ k. p.prefix
+      (q.prefix k);
+  writes = writes_then p.writes q.writes fits;
+  says = λ k. (p.value, q.prefix k, p.says (q.prefix k), q.says k);
+}
 
 -- a form, and what its value gives
 unfoldable pub last_written : {A B : Type 0} {C : List ℕ → Type 0} {a : List ℕ} {f : Form A} {g : A → B} → IsWritten C a f
@@ -46,8 +51,13 @@ last_written {g = g} p = record { value = g p.value; prefix = p.prefix; writes =
 unfoldable pub first_written : {A B : Type 0} {C D : List ℕ → Type 0} {a b : List ℕ} {t : Terminal A} {x : A} {g : A → Form B} {h : Form B}
     → IsLetter C a t x → IsWritten D b (g x) → ((rest : List ℕ) → D rest → C (b ++ rest)) → IsWritten D (a ++ b) (If t g h)
 unfolding Spells
-first_written {t = t} {x = x} p q fits = record { value = q.value; prefix = λ k. (p.letter, None)
-    ∷ q.prefix k; writes = writes_then p.writes q.writes fits; says = λ k. inl (x, q.prefix k, is_taken t x p (q.prefix k), q.says k) }
+first_written {t = t} {x = x} p q fits = record {
+  value = q.value;
+  prefix = λ k. (p.letter, None)
+      ∷ q.prefix k;
+  writes = writes_then p.writes q.writes fits;
+  says = λ k. inl (x, q.prefix k, is_taken t x p (q.prefix k), q.says k);
+}
 
 unfoldable pub other_written : {A B : Type 0} {C : List ℕ → Type 0} {a : List ℕ} {t : Terminal A} {g : A → Form B} {h : Form B}
     → IsWritten C a h → IsWritten C a (If t g h)
@@ -73,8 +83,18 @@ one_written {ks = ks} {says = says} {put = put} {x = x} {y = y} p q r fits = rec
   writes = writes_then p.writes (writes_then q.writes r.writes fits) (λ rest d. tt);
   says = λ k.
       let m = r.prefix k in
-      let w = r.says k in (suc w.0, (y, q.prefix m, put x q.value, m, is_taken (record { kinds = ks; says = says x }) y p (q.prefix m),
-          (q.value, m, q.says m, (refl, refl)), w.1));
+      let w = r.says k in (
+        suc w.0,
+        (
+          y,
+          q.prefix m,
+          put x q.value,
+          m,
+          is_taken (record { kinds = ks; says = says x }) y p (q.prefix m),
+          (q.value, m, q.says m, (refl, refl)),
+          w.1,
+        ),
+      );
 }
 
 -- nothing more

@@ -39,8 +39,14 @@ sum_of_points f w g h x r y p q a b c =
 spanned_attained : (Holds : (ℕ → ℤ) → Type 0) (kept : List ℕ) (rays : List (List ℤ)) (x : ℕ → ℤ) → IsCone Holds
     → Every (λ ray. IsAttained kept Holds (point_of ray)) rays
     → IsSpanned kept rays x → IsAttained kept Holds x
-spanned_attained Holds kept [] x cone held s = record { factor = 1; some = omega arith; point = λ c. pos 0; same = λ c m. let z = s c m
-    in omega (arith, ints, z); holds = cone.zero }
+spanned_attained Holds kept [] x cone held s = record {
+  factor = 1;
+  some = omega arith;
+  point = λ c. pos 0;
+  same = λ c m. let z = s c m
+      in omega (arith, ints, z);
+  holds = cone.zero;
+}
 spanned_attained Holds kept (ray ∷ rays) x cone held (f, w, y, some, sum, s) =
     let r = held.0 in
     let a = spanned_attained Holds kept rays y cone held.1 s in record {
@@ -84,7 +90,7 @@ module _ (k : ℕ) (p q : ℕ → ℤ) where
   are_met_more [] a b = All-nil (IsMet sum)
   are_met_more (c ∷ cs) a b = All-cons (IsMet sum) c cs
       (meets_more c.kind k (value c.row p) (value c.row q) (value c.row sum) (value_linear (pos k) c.row p q) (All-head (IsMet p) c cs a)
-          (All-head (IsMet q) c cs b))
+      (All-head (IsMet q) c cs b))
       (are_met_more cs (All-tail (IsMet p) c cs a) (All-tail (IsMet q) c cs b))
 
   in_order : (x y u v : ℤ) → x ≤ℤ y → u ≤ℤ v → (pos k *ℤ x +ℤ u) ≤ℤ (pos k *ℤ y +ℤ v)
@@ -99,7 +105,7 @@ module _ (k : ℕ) (p q : ℕ → ℤ) where
     rises = λ s t l i. in_order (p s) (p t) (q s) (q t) (a.rises s t l i) (b.rises s t l i);
     submodular = λ s t l m.
         let h = in_order (p (bit_or s t) +ℤ p (bit_and s t)) (p s +ℤ p t) (q (bit_or s t) +ℤ q (bit_and s t)) (q s +ℤ q t)
-            (a.submodular s t l m) (b.submodular s t l m) in
+        (a.submodular s t l m) (b.submodular s t l m) in
         let u : pos k *ℤ (p (bit_or s t) +ℤ p (bit_and s t)) ≡ pos k *ℤ p (bit_or s t) +ℤ pos k *ℤ p (bit_and s t) = omega (arith, zring) in
         let v : pos k *ℤ (p s +ℤ p t) ≡ pos k *ℤ p s +ℤ pos k *ℤ p t = omega (arith, zring) in
         omega (arith, ints, h, u, v);

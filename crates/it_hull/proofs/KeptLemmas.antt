@@ -83,8 +83,12 @@ gone_away s gone rate g m = by_kept (member_mapped (λ r. 2 ^ s.variables + r) (
 
 -- the first rate that goes isn't among them, and each is a rate's
 pub first_away : (s : Space) (gone : List ℕ) → 1 ≤ length gone → ¬ (Contains (kept_coordinates s gone) (2 ^ s.variables + slice_index_or gone 0 0))
-first_away s gone some = gone_away s gone (slice_index_or gone 0 0) (0, omega (arith, some), get_or_default gone 0
-    (slice_index_or gone 0 0) 0 (omega (arith, some)))
+first_away s gone some = gone_away s gone (slice_index_or gone 0 0) (
+  0,
+  omega (arith, some),
+  get_or_default gone 0
+      (slice_index_or gone 0 0) 0 (omega (arith, some)),
+)
 
 pub kept_rates : (s : Space) (gone : List ℕ) → All (λ c. (2 ^ s.variables ≤ c) × (c ≤ size_of s)) (kept_coordinates s gone)
 kept_rates s gone = all_of (λ (c : ℕ). (2 ^ s.variables ≤ c) × (c ≤ size_of s)) (kept_coordinates s gone) (kept_within s gone)

@@ -46,7 +46,7 @@ multiplier_over size at ray rows some few o = all_of (IsOver size) (rows_with_mu
     (every-append (IsOver size) (map (with_multiplier at ray) rows) (((at, pos 1) ∷ []) ∷ [])
     (every-map (IsOver size) (with_multiplier at ray) rows (every-same (IsOver size) (λ row. IsOver size (with_multiplier at ray row)) rows
     (λ row. over-with_term size at (neg_ℤ (value row ray)) row some few) (every_of (IsOver size) rows o)))
-        (all_of (λ (t : ℕ × ℤ). (1 ≤ t.0) × (t.0 ≤ size)) ((at, pos 1) ∷ []) ((some, few), tt), tt))
+    (all_of (λ (t : ℕ × ℤ). (1 ≤ t.0) × (t.0 ≤ size)) ((at, pos 1) ∷ []) ((some, few), tt), tt))
 
 -- ---- and lack what the rows lack, but for the multiplier's coordinate
 
@@ -54,7 +54,7 @@ multiplier_lacks : (c at : ℕ) (ray : ℕ → ℤ) (rows : List Terms) → c �
 multiplier_lacks c at ray rows n o = all_of (λ (row : Terms). coefficient row c ≡ pos 0) (rows_with_multiplier at ray rows)
     (every-append (λ (row : Terms). coefficient row c ≡ pos 0) (map (with_multiplier at ray) rows) (((at, pos 1) ∷ []) ∷ [])
     (every-map (λ (row : Terms). coefficient row c ≡ pos 0) (with_multiplier at ray) rows
-        (every-same (λ (row : Terms). coefficient row c ≡ pos 0) (λ row. coefficient (with_multiplier at ray row) c ≡ pos 0) rows own
+    (every-same (λ (row : Terms). coefficient row c ≡ pos 0) (λ row. coefficient (with_multiplier at ray row) c ≡ pos 0) rows own
     (every_of (λ (row : Terms). coefficient row c ≡ pos 0) rows o))) (by_test (nat_eq at c) refl, tt))
   where
     by_test : (b : Bool) → nat_eq at c ≡ b → cond b (pos 1) (pos 0) +ℤ pos 0 ≡ pos 0
@@ -98,7 +98,7 @@ one_more_ray base most ray rate kept rows next rays away h (inl e) = absurd (not
 one_more_ray base most ray rate kept rows next rays away h (inr e) =
     let at : ℕ = base + rate in
     let list : next ≡ next_list at (ordered_rows (rows_with_multiplier at (point_of ray) rows))
-        = (step_list base most (ordered_rows (rows_with_multiplier at (point_of ray) rows)) rate next e.1).0 in
+    = (step_list base most (ordered_rows (rows_with_multiplier at (point_of ray) rows)) rate next e.1).0 in
     eliminated_is_hull kept rows next rays ray at away h (next_over at (point_of ray) rows next list kept h.over) (next_exact at (point_of ray) rows next list)
 
 -- its rows lack the multiplier's coordinate
@@ -153,7 +153,7 @@ pub multiplier_rows : (hull : System) (ray : List ℤ) (rate at : ℕ) (list : L
     → list ≡ rows_with_multiplier at (point_of ray) hull.rows.items → All (IsOver (size_of hull.space)) list
 multiplier_rows hull ray rate at list h few place are = subst (λ (rs : List Terms). All (IsOver (size_of hull.space)) rs) (sym are)
     (multiplier_over (size_of hull.space) at (point_of ray) hull.rows.items (omega (arith, place, pow_pos hull.space.variables))
-        (omega (arith, place, few, pow_pos hull.space.variables)) h.rows)
+    (omega (arith, place, few, pow_pos hull.space.variables)) h.rows)
 
 pub ray_ends : (base most : ℕ) (ray : List ℤ) (rate at : ℕ) (rows list : List Terms) (end : EliminatedView) → ValuesFit ray rows
     → at ≡ base + rate → list ≡ rows_with_multiplier at (point_of ray) rows

@@ -34,7 +34,7 @@ module _ (kept : List ℕ) (at : ℕ) (away : ¬ (Contains kept at)) (ray : ℕ 
   rows_left (row ∷ rows) q y o e =
       let one : value (with_multiplier at ray row) q ≡ value row y =
       (let a = value-with_multiplier at ray row q in let b = value_sum kept (q at) row q ray y o.0 e in let c : q at *ℤ value row ray
-          ≡ value row ray *ℤ q at = omega (arith, zring) in omega (arith, ints, a, b, c)) in
+      ≡ value row ray *ℤ q at = omega (arith, zring) in omega (arith, ints, a, b, c)) in
       let more = rows_left rows q y o.1 e in (
         λ a. (subst (λ (z : ℤ). pos 0 ≤ℤ z) one a.0, more.0 a.1),
         λ a. (subst (λ (z : ℤ). pos 0 ≤ℤ z) (sym one) a.0, more.1 a.1),
@@ -75,7 +75,7 @@ module _ (kept : List ℕ) (at : ℕ) (away : ¬ (Contains kept at)) (ray : ℕ 
         sum = λ c m. omega (arith, ints);
         holds = (rows_left rows e.point (λ c. pos e.factor *ℤ x c -ℤ pos w *ℤ ray c) o
             (λ c m. let k = e.kept c (other c m) in let i : e.point at *ℤ ray c ≡ pos w *ℤ ray c = ap (λ z. z *ℤ ray c) is
-                in omega (arith, ints, k, i))).0 front;
+            in omega (arith, ints, k, i))).0 front;
       }
 
   extends : (rows : List Terms) (x : ℕ → ℤ) → Every (UsesOnly kept) rows → Left rows x → Extends (at ∷ []) (rows_with_multiplier at ray rows) x
@@ -87,7 +87,7 @@ module _ (kept : List ℕ) (at : ℕ) (away : ¬ (Contains kept at)) (ray : ℕ 
     meets = all_of (RowHolds q) (rows_with_multiplier at ray rows) (every-append (RowHolds q) (map (with_multiplier at ray) rows) (((at, pos 1) ∷ []) ∷ [])
         (every-map (RowHolds q) (with_multiplier at ray) rows
         ((rows_left rows q l.rest o (λ c m. off c (λ e. away (subst (λ (d : ℕ). Contains kept d) e m)) ∙ l.sum c m
-            ∙ ap (λ z. z *ℤ ray c +ℤ l.rest c) (sym on))).1 l.holds))
+        ∙ ap (λ z. z *ℤ ray c +ℤ l.rest c) (sym on))).1 l.holds))
         (omega (arith, ints, on), tt));
   }
     where
@@ -112,8 +112,15 @@ eliminated_is_hull kept rows next rays ray at away h over exact = record {
     λ a. let l = leaves kept at away (point_of ray) rows x only ((exact x).0 a) in
         spanned_more kept rays ray x l.factor l.weight l.rest l.some l.sum ((h.exact l.rest).0 (all_of (RowHolds l.rest) rows l.holds)),
     λ s. let p = spanned_parts kept rays ray x s in (exact x).1 (extends kept at away (point_of ray) rows x only
-        (record { factor = p.factor; weight = p.weight; rest = p.rest; some = p.some; sum = p.sum; holds = every_of (RowHolds p.rest) rows
-            ((h.exact p.rest).1 p.spanned) })),
+        (record {
+          factor = p.factor;
+          weight = p.weight;
+          rest = p.rest;
+          some = p.some;
+          sum = p.sum;
+          holds = every_of (RowHolds p.rest) rows
+              ((h.exact p.rest).1 p.spanned);
+        })),
   );
 }
   where

@@ -60,8 +60,12 @@ none_put at ts i p = sym (take-append-drop i ts) ∙ sym (term_at_place at (pos 
 -- the place that a binary search finds
 pub place_found : (at : ℕ) (ts : Terms) (i : ℕ) → i ≤ length ts
     → IsPartitionPoint (λ (t : ℕ × ℤ). nat_cmp t.0 at ≡ Less) (λ (t : ℕ × ℤ). nat_cmp t.0 at ≡ Greater) ts i → IsPlaceFor at ts i
-place_found at ts i l p = record { within = l; lower = λ k d a b. is_less (get_or ts k d).0 (p.0 k d a b); higher = λ k d a b. is_greater
-    (get_or ts k d).0 (p.1 k d a b) }
+place_found at ts i l p = record {
+  within = l;
+  lower = λ k d a b. is_less (get_or ts k d).0 (p.0 k d a b);
+  higher = λ k d a b. is_greater
+      (get_or ts k d).0 (p.1 k d a b);
+}
   where
     is_less : (x : ℕ) → nat_cmp x at ≡ Less → x < at
     is_less x e = grind (arith, nat_tests)

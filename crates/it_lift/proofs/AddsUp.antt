@@ -39,7 +39,7 @@ left_over_linear : (size : ℕ) (target : Form) (g : Generators) (w : Certificat
     → (h : ℕ → ℤ) → h 0 ≡ pos 0 → left_over w target g h ≡ dot size (excess w target g) h
 left_over_linear size target g w l m a h z =
     (Rattle.it_polymatroid.proofs.Forms.linear-sub size (λ h. w.scale *ℤ target h) (λ h. combination w.weights (λ i. g.form i h))
-        (linear-scale size w.scale target l) (weighted_linear size g m w.weights a)).sum h z
+    (linear-scale size w.scale target l) (weighted_linear size g m w.weights a)).sum h z
 
 -- a sum of products with differences
 dot-less : (n : ℕ) (f p q : ℕ → ℤ) → dot n f (λ c. p c -ℤ q c) ≡ dot n f p -ℤ dot n f q
@@ -174,7 +174,7 @@ linear_spread size n ds f k r l =
     sums (suc m) h =
         linear-add size (λ h. f (one_at m) *ℤ h (place n ds m)) (λ h. dot m (λ c. f (one_at c)) (spread_out n ds h))
         (linear-scale size (f (one_at m)) (λ h. h (place n ds m)) (linear_at size (place n ds m)
-            (place_below size n ds k r m (omega arith)))) (sums m (omega arith))
+        (place_below size n ds k r m (omega arith)))) (sums m (omega arith))
 
 no_difference : (x y : ℤ) → x ≡ y → x -ℤ y ≡ pos 0
 no_difference x y e = omega (arith, ints, e)
@@ -202,10 +202,10 @@ lift_adds_up size n ds target g w k r d l m a up h z =
     let size_is : (size - 2 ^ n) + 2 ^ n ≡ size = omega arith in
     let short : dot size e (λ c. h c -ℤ h (place n ds c)) ≡ dot (2 ^ n) e (λ c. h c -ℤ h (place n ds c)) =
     ap (λ s. dot s e (λ c. h c -ℤ h (place n ds c))) (sym size_is) ∙ dot_short (2 ^ n) (size - 2 ^ n) e (λ c. h c -ℤ h (place n ds c))
-        (λ c q. no_difference (h c) (h (place n ds c)) (ap h (sym (place-rate n ds c q)))) in
+    (λ c q. no_difference (h c) (h (place n ds c)) (ap h (sym (place-rate n ds c q)))) in
     let elemental_value : combination (moves n ds e) v ≡ dot (2 ^ n) (with_empty n ds e) (λ c. h c -ℤ h (closure n ds c)) =
     moves-value n ds h v (with_empty n ds e) r (record { elemental = λ i q. d.elemental i q h z; equation = λ i x q. d.equation i x q h z })
-        (2 ^ n) (omega arith) in
+    (2 ^ n) (omega arith) in
     let even = all_evened n ds e h z in
     let whole = weighted-append w.weights (moves n ds e) v in
     whole_is (w.scale *ℤ target h) (combination w.weights v) (combination (moves n ds e) v) (combination (w.weights ++ moves n ds e) v) (dot size e h)

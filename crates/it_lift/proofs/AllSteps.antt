@@ -20,7 +20,7 @@ others-more F m a b c h k l =
     let f : 1 + (m - 1) ≡ m = omega arith in
     let split : flat_map F (span 1 (m + 1 - 1)) ≡ flat_map F (span 1 (m - 1)) ++ F m =
     ap (λ x. flat_map F (span 1 x)) e ∙ ap (flat_map F) (span-last 1 (m - 1) ∙ ap (λ x. span 1 (m - 1) ++ x ∷ []) f)
-        ∙ flat_map-append F (span 1 (m - 1)) (m ∷ [])
+    ∙ flat_map-append F (span 1 (m - 1)) (m ∷ [])
     ∙ ap (λ y. flat_map F (span 1 (m - 1)) ++ y) (append-nil (F m)) in
     subst (AreWeightsAdded a c) (sym split) (added-append a b c (flat_map F (span 1 (m - 1))) (F m) k l)
 
@@ -32,10 +32,10 @@ others-stop F m n a b h l k w =
     let rest : List (ℕ × ℤ) = flat_map F (span (m + 1) (2 ^ n - (m + 1))) in
     let split : flat_map F (span 1 (2 ^ n - 1)) ≡ flat_map F (span 1 (m - 1)) ++ (F m ++ rest) =
     ap (λ x. flat_map F (span 1 x)) e ∙ ap (flat_map F) (span-append 1 (m - 1) (suc (2 ^ n - (m + 1)))
-        ∙ ap (λ x. span 1 (m - 1) ++ span x (suc (2 ^ n - (m + 1)))) f)
+    ∙ ap (λ x. span 1 (m - 1) ++ span x (suc (2 ^ n - (m + 1)))) f)
     ∙ flat_map-append F (span 1 (m - 1)) (span m (suc (2 ^ n - (m + 1)))) in
     subst (λ (ms : List (ℕ × ℤ)). ¬ (WeightSumsFit (number_at a) ms)) (sym split)
-        (stops-after a b (flat_map F (span 1 (m - 1))) (F m ++ rest) k (stops-before (number_at b) (F m) rest w))
+    (stops-after a b (flat_map F (span 1 (m - 1))) (F m ++ rest) k (stops-before (number_at b) (F m) rest w))
 
 all-split : (F : ℕ → List (ℕ × ℤ)) (n : ℕ) → flat_map F (span 0 (2 ^ n)) ≡ F 0 ++ flat_map F (span 1 (2 ^ n - 1))
 all-split F n = let e : 2 ^ n ≡ suc (2 ^ n - 1) = omega (arith, pow_pos n) in ap (λ x. flat_map F (span 0 x)) e

@@ -106,8 +106,11 @@ own_way from (d ∷ ds) a = (
     later_ways_stay : (from : ℕ) (es : List Dependence) → GeneratorsAscend from es → d.generator < from
         → Every (λ e. goes_up ds e.generator ≡ e.negated) es → Every (λ e. goes_up (d ∷ ds) e.generator ≡ e.negated) es
     later_ways_stay from [] a h v = tt
-    later_ways_stay from (e ∷ es) a h v = (ap (λ b. cond b d.negated (goes_up ds e.generator))
-        (ne_eqb d.generator e.generator (λ q. omega (arith, a.0))) ∙ v.0, later_ways_stay (e.generator + 1) es a.1 (omega (arith, a.0)) v.1)
+    later_ways_stay from (e ∷ es) a h v = (
+      ap (λ b. cond b d.negated (goes_up ds e.generator))
+          (ne_eqb d.generator e.generator (λ q. omega (arith, a.0))) ∙ v.0,
+      later_ways_stay (e.generator + 1) es a.1 (omega (arith, a.0)) v.1,
+    )
 
 -- ---- what holds of each weight that is moved: of weights of inequalities that aren't below 0, and of the dependences' own
 
@@ -131,7 +134,7 @@ module _ (n : ℕ) (P : ℕ × ℤ → Type 0) (low : (i : ℕ) (x : ℤ) → i 
       (every-append P xs ys
       (each-have x (mutual_expansion (members n (set_difference d.to a)) (members n (set_difference a d.to)) (bit_and a d.to)) p
       (mutual_valid n (set_difference d.to a) (set_difference a d.to) (bit_and a d.to) low' (less_meet_right n d.to a ht ha)
-          (less_meet n a d.to ha ht) (less_less n d.to a ht ha)))
+      (less_meet n a d.to ha ht) (less_less n d.to a ht ha)))
       (each-have x (conditional_expansion n (members n (set_difference (bit_and a d.to) d.from)) d.from) p
       (conditional_valid n (set_difference (bit_and a d.to) d.from) d.from from (less_apart n (bit_and a d.to) d.from low' from))))
       (m.own x p, tt)
@@ -149,14 +152,14 @@ module _ (n : ℕ) (P : ℕ × ℤ → Type 0) (low : (i : ℕ) (x : ℤ) → i 
             let more : a < bit_or a d.to = grows a d.to q.new in
             subst (λ (ts : List (ℕ × Dependence)). Every P (flat_map (turn_moves n x) ts)) (sym (way-more n ds a d r.below l e))
             (every-append P (turn_moves n x (a, d)) (flat_map (turn_moves n x) (way n ds (bit_or a d.to)))
-                (turn-have x a d p l q.below q.known (some_open (HasMove P) ds a d w e).0)
+            (turn-have x a d p l q.below q.known (some_open (HasMove P) ds a d w e).0)
             (ih (bit_or a d.to) (omega arith) (or_lt n a d.to l q.below)))
 
     at-have : (s : ℕ) (x : ℤ) → s < 2 ^ n → Every P (moves_at n ds s x)
     at-have s (negsuc k) l =
         let i : IsClosureOf n ds s (closure n ds s) = closure_is n ds s r.below l in
         each-have (pos (suc k)) (conditional_expansion n (members n (set_difference (closure n ds s) s)) s) (omega (arith, ints))
-            (conditional_valid n (set_difference (closure n ds s) s) s l (less_apart n (closure n ds s) s i.below l))
+        (conditional_valid n (set_difference (closure n ds s) s) s l (less_apart n (closure n ds s) s i.below l))
     at-have s (pos zero) l = tt
     at-have s (pos (suc k)) l = way-have (pos (suc k)) (omega (arith, ints)) (2 ^ n) s (omega arith) l
 
@@ -178,9 +181,9 @@ pub moves_go : (n : ℕ) (ds : List Dependence) (e : ℕ → ℤ) → AreDepende
 moves_go n ds e r o = moves_have n (λ m. Goes (goes_up ds m.0) m.1) (λ i x l p. subst (λ (b : Bool). Goes b x)
     (sym (up_before (length (elementals n)) ds i o l)) p) ds r
     (have_moves (λ m. Goes (goes_up ds m.0) m.1) n ds r (every-same (λ d. goes_up ds d.generator ≡ d.negated)
-        (λ d. (x : ℤ) → pos 0 ≤ℤ x → Goes (goes_up ds d.generator) (cond d.negated x (neg_ℤ x))) ds
+    (λ d. (x : ℤ) → pos 0 ≤ℤ x → Goes (goes_up ds d.generator) (cond d.negated x (neg_ℤ x))) ds
     (λ d is x p. subst (λ (b : Bool). Goes b (cond d.negated x (neg_ℤ x))) (sym is) (signed_value_goes d.negated x p))
-        (own_way (length (elementals n)) ds o))) e
+    (own_way (length (elementals n)) ds o))) e
   where
     signed_value_goes : (b : Bool) (x : ℤ) → pos 0 ≤ℤ x → Goes b (cond b x (neg_ℤ x))
     signed_value_goes true x p = p

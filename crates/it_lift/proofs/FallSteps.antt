@@ -17,7 +17,7 @@ falling-more ws f whole i left next x w h is at v e u =
     let split = drop_item ws i w h is in
     let g : FallFits left (w ∷ drop (i + 1) ws) f ↔ FallFits whole ws f = subst (λ (r : List (ℕ × ℤ)). FallFits left r f ↔ FallFits whole ws f) split u.fits in
     let t : left -ℤ combination (w ∷ drop (i + 1) ws) f
-        ≡ whole -ℤ combination ws f = subst (λ (r : List (ℕ × ℤ)). left -ℤ combination r f ≡ whole -ℤ combination ws f) split u.total in
+    ≡ whole -ℤ combination ws f = subst (λ (r : List (ℕ × ℤ)). left -ℤ combination r f ≡ whole -ℤ combination ws f) split u.total in
     let e' : next ≡ left -ℤ w.1 *ℤ f w.0 = e ∙ ap (λ y. left -ℤ w.1 *ℤ y) at in
     let v' : IsWithin (w.1 *ℤ f w.0) × IsWithin (left -ℤ w.1 *ℤ f w.0) = subst (λ (y : ℤ). IsWithin (w.1 *ℤ y) × IsWithin (left -ℤ w.1 *ℤ y)) at v in
     record {

@@ -18,7 +18,7 @@ pub form_own : (q : ProblemView) (i : ℕ) (h : ℕ → ℤ) → h 0 ≡ pos 0 �
     → (generators_of q).form i h ≡ elemental_value q.space.variables h (elemental_at q.space.variables i)
 form_own q i h z l =
     ap (λ (g : Generator). value g.row h) (front_is_elemental q.space.variables q.constraints i (omega arith))
-        ∙ value-row q.space.variables (elemental_at q.space.variables i) h z
+    ∙ value-row q.space.variables (elemental_at q.space.variables i) h z
 
 -- the generator of a constraint
 pub constraint_is : (q : ProblemView) (i own : ℕ) (c : Constraint) → own ≡ length (elementals q.space.variables) → own ≤ i

@@ -61,7 +61,7 @@ mutual-value n ds h v x a t w ha ht =
     let es : List Elemental = mutual_expansion (members n (set_difference t a)) (members n (set_difference a t)) (bit_and a t) in
     let low : bit_and a t < 2 ^ n = omega (arith, and_le_r a t) in
     let valid : Every (IsElemental n) es = mutual_valid n (set_difference t a) (set_difference a t) (bit_and a t) low
-        (less_meet_right n t a ht ha) (less_meet n a t ha ht) (less_less n t a ht ha) in
+    (less_meet_right n t a ht ha) (less_meet n a t ha ht) (less_less n t a ht ha) in
     each-value n ds h v x es w valid
     ∙ ap (λ z. x *ℤ z) (mutual_total n h (set_difference t a) (set_difference a t) (bit_and a t) (map (elemental_index n) es)
     (less_below n t a ht) (less_below n a t ha) (less_less n t a ht ha)
@@ -104,7 +104,7 @@ same_closure n ds a d b l o =
     let j : IsClosureOf n ds (bit_or a d.to) (closure n ds (bit_or a d.to)) = closure_is n ds (bit_or a d.to) b (or_lt n a d.to l o.below) in
     inside-antisym (closure n ds (bit_or a d.to)) (closure n ds a)
     (j.least (closure n ds a) i.below (or_inside a d.to (closure n ds a) i.holds
-        (o.kept (closure n ds a) i.closed (inside-trans d.from a (closure n ds a) o.known i.holds))) i.closed)
+    (o.kept (closure n ds a) i.closed (inside-trans d.from a (closure n ds a) o.known i.holds))) i.closed)
     (i.least (closure n ds (bit_or a d.to)) j.below (inside-trans a (bit_or a d.to) (closure n ds (bit_or a d.to)) (inside_left a d.to) j.holds) j.closed)
 
 pub own_closure : (n : ℕ) (ds : List Dependence) (a : ℕ) → All (λ d. d.to < 2 ^ n) ds → a < 2 ^ n → first_open ds a ≡ None → closure n ds a ≡ a
@@ -138,7 +138,7 @@ way-value n ds h v x r w (suc turns) a k l = by_option (first_open ds a) refl (�
         let o : IsOpenOf n ds a d = open_where n ds a d r.below e in
         let more : a < bit_or a d.to = grows a d.to o.new in
         let t : IsTurnable h v d = (some_open (IsTurnable h v) ds a d (every_of (IsTurnable h v) ds
-            (λ i d k. record { inside = r.inside i d k; value_is = w.equation i d k })) e).0 in
+        (λ i d k. record { inside = r.inside i d k; value_is = w.equation i d k })) e).0 in
         let next = ih (bit_or a d.to) (omega arith) (or_lt n a d.to l o.below) in
         ap (λ ts. combination (flat_map (turn_moves n x) ts) v) (way-more n ds a d r.below l e)
         ∙ weighted-append (turn_moves n x (a, d)) (flat_map (turn_moves n x) (way n ds (bit_or a d.to))) v

@@ -67,7 +67,7 @@ equation_of q d r =
     let place : d.generator - length (elementals q.space.variables) ≡ r.place = omega (arith, r.number) in
     let is : generator_at (generators q) d.generator ≡ record { kind = c.kind; row = c.row } =
     constraint_is q d.generator (length (elementals q.space.variables)) c refl (omega (arith, r.number)) (omega (arith, place, r.inside))
-        (get_or_default q.constraints r.place x c r.inside ∙ ap (λ k. get_or q.constraints k c) (sym place)) in
+    (get_or_default q.constraints r.place x c r.inside ∙ ap (λ k. get_or q.constraints k c) (sym place)) in
     record {
       placed = omega (arith, r.number, r.inside, total_is q);
       kind = ap (λ (g : Generator). is_equation g.kind) is ∙ ap is_equation (r.is x).equation;
@@ -79,7 +79,7 @@ reading_gives_dependences q d p s e =
     let g : ℕ = length (elementals q.space.variables) in
     let n : q.space.variables ≡ d.space.variables = ap (λ t. t.variables) (sym s) in
     let equations : Every (IsEquation q) (dependences_of q) = every-same (IsRead q.space q.constraints g) (IsEquation q) (dependences_of q)
-        (λ x r. equation_of q x r) (all_read q.space (size_of q.space) g q.constraints p.rows) in
+    (λ x r. equation_of q x r) (all_read q.space (size_of q.space) g q.constraints p.rows) in
     let all : All (IsEquation q) d.list = subst (All (IsEquation q)) (sym e) (all_of (IsEquation q) (dependences_of q) equations) in
     record {
       shape = rw (s, e) (read_of_space q g p);

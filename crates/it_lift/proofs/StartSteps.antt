@@ -27,7 +27,7 @@ no_earlier_weight from (w ∷ ws) zero d o h = refl
 no_earlier_weight from (w ∷ ws) (suc k) d o h =
     let later : w.0 + 1 ≤ (get_or ws k d).0 = order_at (w.0 + 1) ws k d o.1 (omega arith) in
     ap (λ b. cond b w.1 (pos 0) +ℤ coefficient (take k ws) (get_or ws k d).0) (ne_eqb w.0 (get_or ws k d).0 (λ e. omega arith))
-        ∙ ap (λ y. pos 0 +ℤ y) (no_earlier_weight (w.0 + 1) ws k d o.1 (omega arith)) ∙ omega (arith, ints)
+    ∙ ap (λ y. pos 0 +ℤ y) (no_earlier_weight (w.0 + 1) ws k d o.1 (omega arith)) ∙ omega (arith, ints)
 
 pub start-more : (ws : List (ℕ × ℤ)) (k : ℕ) (d : ℕ × ℤ) (xs : List ℤ) → WeightsAscend 0 ws → k < length ws → (get_or ws k d).0 < length xs
     → ((i : ℕ) → number_at xs i ≡ coefficient (take k ws) i)

@@ -25,7 +25,7 @@ at-none n s (pos zero) l = refl
 at-none n s (pos (suc k)) l = ap (flat_map (turn_moves n (pos (suc k)))) (way-end n [] s l refl)
 at-none n s (negsuc k) l =
     ap (λ m. each_weight n (pos (suc k)) (conditional_expansion n (members n m) s))
-        (ap (λ c. set_difference c s) (own_closure n [] s (λ i d h. absurd (omega arith)) l refl) ∙ difference_is_empty)
+    (ap (λ c. set_difference c s) (own_closure n [] s (λ i d h. absurd (omega arith)) l refl) ∙ difference_is_empty)
     ∙ ap (λ ms. each_weight n (pos (suc k)) (conditional_expansion n ms s)) (keep_none (has_member 0) 0 n (λ i h. ap (λ b. nat_eq b 1) (bit_at-zero (0 + i))))
   where
     difference_is_empty : set_difference s s ≡ 0

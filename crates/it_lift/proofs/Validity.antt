@@ -47,9 +47,11 @@ variable_expansion_valid n x b (suc count) i c e h f bx cx = by_test (has_member
         let one : bit_at b i ≡ 1 = member_bit b i m in
         let lacks : bit_at c i ≡ 0 = f.without_later i (omega arith) one in
         let diff : i ≢ x = member_differs b x i bx one in
-        subst (λ (t : Bool). Every (IsElemental n) (variable_expansion x (cond t (i ∷ rest) rest) c)) (sym m)
-        (mutual_is_elemental n x i c h (omega arith) f.below cx lacks (λ q. diff (sym q)), ih (c + 2 ^ i)
-            (filling-with n b i c (omega arith) one f) (with_other c i x lacks diff ∙ cx))
+        subst (λ (t : Bool). Every (IsElemental n) (variable_expansion x (cond t (i ∷ rest) rest) c)) (sym m) (
+          mutual_is_elemental n x i c h (omega arith) f.below cx lacks (λ q. diff (sym q)),
+          ih (c + 2 ^ i)
+              (filling-with n b i c (omega arith) one f) (with_other c i x lacks diff ∙ cx),
+        )
     by_test false m ih = subst (λ (t : Bool). Every (IsElemental n) (variable_expansion x (cond t (i ∷ rest) rest) c)) (sym m)
         (ih c (filling-without n b i c f) cx)
 
@@ -99,7 +101,7 @@ conditional_valid_from n a (suc count) i c e f = by_test (has_member a i) refl (
           omega arith,
           every-append (IsElemental n) (variable_expansion i (members n o) c) (conditional_expansion n rest (c + 2 ^ i))
               (variable_expansion_valid n i o n 0 c (omega arith) (omega arith) (filling-start n o c f.below (apart-less o c i lacks apart))
-                  (not_both (c + 2 ^ i) o i (apart-comm o (c + 2 ^ i) apart) (with_same c i lacks)) lacks)
+              (not_both (c + 2 ^ i) o i (apart-comm o (c + 2 ^ i) apart) (with_same c i lacks)) lacks)
               (ih (c + 2 ^ i) (filling-with n a i c (omega arith) one f)),
         )
     by_test false m ih = subst (λ (t : Bool). Every (IsElemental n) (conditional_expansion n (cond t (i ∷ rest) rest) c)) (sym m)

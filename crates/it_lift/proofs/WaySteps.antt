@@ -69,7 +69,7 @@ pub way_stops : (n : ℕ) (ds : List Dependence) (x : ℤ) (s : ℕ) (old now : 
 way_stops n ds x s old now a d r e u h =
     subst (λ (m : List (ℕ × ℤ)). ¬ (WeightSumsFit (number_at old) m)) (ap (λ y. u.done ++ y) (sym (turn_then_way n ds x a d r u.below e)) ∙ u.rest)
     (stops-after old now u.done (turn_moves n x (a, d) ++ on_way n ds x (bit_or a d.to)) u.added
-        (stops-before (number_at now) (turn_moves n x (a, d)) (on_way n ds x (bit_or a d.to)) h))
+    (stops-before (number_at now) (turn_moves n x (a, d)) (on_way n ds x (bit_or a d.to)) h))
 
 pub way_ends : (n : ℕ) (ds : List Dependence) (x : ℤ) (s : ℕ) (old now : List ℤ) (a : ℕ) → first_open ds a ≡ None
     → IsWayUnderWay n ds x s old now a → AreWeightsAdded old now (on_way n ds x s)

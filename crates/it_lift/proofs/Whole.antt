@@ -65,7 +65,7 @@ weights_parts first [] P f = tt
 weights_parts first (x ∷ xs) P f =
     let z : first + 0 ≡ first = omega arith in
     first_and_rest x (subst (λ (m : ℕ). P m x) z (f 0 (omega arith))) (weights_parts (first + 1) xs P
-        (λ k l. let e : first + suc k ≡ first + 1 + k = omega arith in subst (λ (m : ℕ). P m (number_at xs k)) e (f (suc k) (omega arith))))
+    (λ k l. let e : first + suc k ≡ first + 1 + k = omega arith in subst (λ (m : ℕ). P m (number_at xs k)) e (f (suc k) (omega arith))))
   where
     first_and_rest : (y : ℤ) → P first y → Every (λ w. P w.0 w.1) (terms_from (first + 1) xs)
         → Every (λ w. P w.0 w.1) (single_term first y ++ terms_from (first + 1) xs)
@@ -95,19 +95,19 @@ module _ (q : ProblemView) (d : DependencesView) (target : Terms) (old : Certifi
   lifted_least i e = subst (λ (x : ℤ). pos 0 ≤ℤ x) (sym (coefficient-append old.weights moved_parts i))
       (sum_least (coefficient old.weights i) (coefficient moved_parts i)
       (parts_least i old.weights (every-same (IsAllowed (generators_of q)) (λ w. w.0 ≡ i → pos 0 ≤ℤ w.1) old.weights
-          (λ w v q'. v.1 (ap (generators_of q).is_equation q' ∙ e)) (every_of (IsAllowed (generators_of q)) old.weights c.allowed)))
+      (λ w v q'. v.1 (ap (generators_of q).is_equation q' ∙ e)) (every_of (IsAllowed (generators_of q)) old.weights c.allowed)))
       (subst (λ (b : Bool). Goes b (coefficient moved_parts i))
       (none_goes i d.list (every-same (λ x. (generators_of q).is_equation x.generator ≡ true) (λ x. x.generator ≢ i) d.list
-          (λ x v q'. false≢true (sym e ∙ ap (generators_of q).is_equation (sym q') ∙ v))
-          (every_of (λ x. (generators_of q).is_equation x.generator ≡ true) d.list a.kinds)))
+      (λ x v q'. false≢true (sym e ∙ ap (generators_of q).is_equation (sym q') ∙ v))
+      (every_of (λ x. (generators_of q).is_equation x.generator ≡ true) d.list a.kinds)))
       (goes-total (goes_up d.list) moved_parts (moves_go d.space.variables d.list (excess old (value target) (generators_of q))
-          (of_space d a.shape) a.numbered) i)))
+      (of_space d a.shape) a.numbered) i)))
 
   pub lifted_adds_up : (ws : List (ℕ × ℤ)) → ((i : ℕ) → coefficient ws i ≡ coefficient lifted_parts i) → (h : ℕ → ℤ) → h 0 ≡ pos 0
       → old.scale *ℤ value target h ≡ combination ws (λ i. (generators_of q).form i h)
   lifted_adds_up ws same h z =
       lift_adds_up (size_of q.space + 1) d.space.variables d.list (value target) (generators_of q) old (sets_here q d p a)
-          (of_space d a.shape) (have_dependences q d a) (value_linear (size_of q.space) target t)
+      (of_space d a.shape) (have_dependences q d a) (value_linear (size_of q.space) target t)
       (λ i l. form_linear q i p) (λ i x l. (c.allowed i x l).0) c.sums h z ∙ weighted_same lifted_parts ws (λ i. (generators_of q).form i h) (λ i. sym (same i))
 
   -- so canonical weights that have the coefficients of the lifted ones are a lift
@@ -128,10 +128,10 @@ module _ (q : ProblemView) (d : DependencesView) (target : Terms) (old : Certifi
       lifted_below_count : Every (λ w. w.0 < (generators_of q).count) lifted_parts
       lifted_below_count = every-append (λ w. w.0 < (generators_of q).count) old.weights moved_parts
           (every-same (IsAllowed (generators_of q)) (λ w. w.0 < (generators_of q).count) old.weights (λ w v. v.0)
-              (every_of (IsAllowed (generators_of q)) old.weights c.allowed))
+          (every_of (IsAllowed (generators_of q)) old.weights c.allowed))
           (moves_placed d.space.variables (generators_of q).count d.list (excess old (value target) (generators_of q)) (of_space d a.shape)
           (omega (arith, total_is q, ap (λ s. length (elementals s.variables)) a.space))
-              (every_of (λ x. x.generator < (generators_of q).count) d.list a.placed))
+          (every_of (λ x. x.generator < (generators_of q).count) d.list a.placed))
 
       some_allowed : (i : ℕ) (x : ℤ) → x ≢ pos 0 → coefficient lifted_parts i ≡ x → IsAllowed (generators_of q) (i, x)
       some_allowed i x some is = (by_cases (cases_lt i (generators_of q).count), λ e. subst (λ (y : ℤ). pos 0 ≤ℤ y) is (lifted_least i e))
@@ -173,9 +173,11 @@ is_lift q d target old start end p a t c len is added = record {
     allowed_at : (k : ℕ) → k < length end → IsAllowed (generators_of q) (0 + k, number_at end k)
     allowed_at k l =
         let z : 0 + k ≡ k = omega arith in
-        subst (λ (m : ℕ). IsAllowed (generators_of q) (m, number_at end k)) (sym z)
-        (omega (arith, len, added.complete), λ e. subst (λ (x : ℤ). pos 0 ≤ℤ x) (sym (same_coefficients k) ∙ terms_from_zero end k)
-            (lifted_least q d target old p a t c k e))
+        subst (λ (m : ℕ). IsAllowed (generators_of q) (m, number_at end k)) (sym z) (
+          omega (arith, len, added.complete),
+          λ e. subst (λ (x : ℤ). pos 0 ≤ℤ x) (sym (same_coefficients k) ∙ terms_from_zero end k)
+              (lifted_least q d target old p a t c k e),
+        )
 
 -- where all numbers are within the limit, and where they aren't
 pub lift_fits : (q : ProblemView) (d : DependencesView) (target : Terms) (old : CertificateView) (start : List ℤ) → AreOfSpace d
@@ -185,11 +187,17 @@ pub lift_fits : (q : ProblemView) (d : DependencesView) (target : Terms) (old : 
     old
 lift_fits q d target old start s a c is =
     let both = weight_sums_fit_as_end d.space.variables d.list (value target) (generators_of q) old (of_space d s) a.numbered
-        (parts_within old.weights c.order c.within) in (
-      λ e. record { before = e.0; weights = both.0 (subst (λ (f : ℕ → ℤ). WeightSumsFit f
-          (moves d.space.variables d.list (excess old (value target) (generators_of q)))) is e.1) },
-      λ l. (l.before, subst (λ (f : ℕ → ℤ). WeightSumsFit f (moves d.space.variables d.list (excess old (value target) (generators_of q))))
-          (sym is) (both.1 l.weights)),
+    (parts_within old.weights c.order c.within) in (
+      λ e. record {
+        before = e.0;
+        weights = both.0 (subst (λ (f : ℕ → ℤ). WeightSumsFit f
+            (moves d.space.variables d.list (excess old (value target) (generators_of q)))) is e.1);
+      },
+      λ l. (
+        l.before,
+        subst (λ (f : ℕ → ℤ). WeightSumsFit f (moves d.space.variables d.list (excess old (value target) (generators_of q))))
+            (sym is) (both.1 l.weights),
+      ),
     )
 
 -- none of the weights is 0

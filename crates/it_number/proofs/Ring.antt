@@ -41,7 +41,7 @@ add-mul R a b c = R.mul_comm (R.add a b) c ∙ R.mul-add c a b ∙ ap₂ R.add (
 pub neg-add : {A : Type 0} (R : Ring A) (a b : A) → R.neg (R.add a b) ≡ R.add (R.neg a) (R.neg b)
 neg-add R a b = sym (neg_unique R (R.add a b) (R.add (R.neg a) (R.neg b))
     (R.add_assoc a b (R.add (R.neg a) (R.neg b)) ∙ ap (R.add a) (add_left_comm R b (R.neg a) (R.neg b) ∙ ap (R.add (R.neg a)) (R.add-neg b)
-        ∙ add-null R (R.neg a)) ∙ R.add-neg a))
+    ∙ add-null R (R.neg a)) ∙ R.add-neg a))
 
 pub neg-null : {A : Type 0} (R : Ring A) → R.neg R.null ≡ R.null
 neg-null R = sym (neg_unique R R.null R.null (R.null-add R.null))

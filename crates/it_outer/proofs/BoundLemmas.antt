@@ -56,8 +56,8 @@ pub refuting_point : (q : ProblemView) (effort : Effort) (rows : List Terms) (ro
     → IsFirstWith q effort rows row (proofs.No values) → IsRay q values
 refuting_point q effort rows row values h u first =
     let own : IsOver (size_of q.space) row = All-head (IsOver (size_of q.space)) row first.after
-        (all_back (IsOver (size_of q.space)) first.before (row ∷ first.after)
-        (subst (λ (rs : List Terms). All (IsOver (size_of q.space)) rs) first.rows_are u)) in
+    (all_back (IsOver (size_of q.space)) first.before (row ∷ first.after)
+    (subst (λ (rs : List Terms). All (IsOver (size_of q.space)) rs) first.rows_are u)) in
     let r = (ends_are_right q row effort (proofs.No values) h own first.ends).0 in
     record { complete = r.complete; met = (r.polymatroid, r.met) }
 
@@ -82,9 +82,9 @@ module _ (s : Search) (h : IsSearch s) where
           let left = next_of_space s.problem.space s.limits.rows s.spare ray rows list h.spare g.over e in
           let few : length list ≤ 65535 = let k = left.1 in omega (arith, k, h.few_rows) in
           let whole : IsHull s.kept list (rays ++ ray ∷ []) = one_more_ray (2 ^ s.problem.space.variables) s.limits.rows ray s.spare s.kept
-              rows list rays h.away g.hull e in
+          rows list rays h.away g.hull e in
           let alike = hold_alike q s.limits.effort (constants_are_problem s.problem.space h.problem.space)
-              (let k = few_constants s.problem.space h.problem.space in omega (arith, k)) list kept dropped few left.0 red in
+          (let k = few_constants s.problem.space h.problem.space in omega (arith, k)) list kept dropped few left.0 red in
           let same : next ≡ kept_rows kept = rows_of_hull next (kept_rows kept) is in
           subst (λ (rs : List Terms). IsGoing rs (rays ++ ray ∷ [])) (sym same) (record {
             hull = reduced_is_hull s.problem.space.variables s.kept list (kept_rows kept) (rays ++ ray ∷ []) no_sets
@@ -109,7 +109,7 @@ module _ (s : Search) (h : IsSearch s) where
       rows_of_hull xs ys k = cc
   hull_going rows next rays (ray ∷ more) g r (Hull mid, n, later) =
       subst (λ (ps : List (List ℤ)). IsGoing next ps) (append_assoc rays (ray ∷ []) more)
-          (hull_going mid next (rays ++ ray ∷ []) more (next_going rows mid rays ray g r.0 n) r.1 later)
+      (hull_going mid next (rays ++ ray ∷ []) more (next_going rows mid rays ray g r.0 n) r.1 later)
   hull_going rows next rays (ray ∷ more) g r (TooMany, n, later) = absurd (cc)
   hull_going rows next rays (ray ∷ more) g r (TooWide, n, later) = absurd (cc)
 
@@ -128,8 +128,12 @@ module _ (s : Search) (h : IsSearch s) where
   proved_well rows rays ws end g z e = subst (λ (o : OuterView). IsWell o) (sym e) (g, z)
 
   well_right : (end : OuterView) → IsWell end → IsRightOuter s.problem s.kept end
-  well_right (Bounds rows ws rays) w = record { certified = certified_rows s.problem s.limits.effort rows ws h.problem
-      (every_of (IsOver (size_of s.problem.space)) rows w.0.over) w.1; attained = w.0.attained; hull = w.0.hull }
+  well_right (Bounds rows ws rays) w = record {
+    certified = certified_rows s.problem s.limits.effort rows ws h.problem
+        (every_of (IsOver (size_of s.problem.space)) rows w.0.over) w.1;
+    attained = w.0.attained;
+    hull = w.0.hull;
+  }
   well_right (Undecided cause) w = tt
 
   pass_well : (more : ℕ) (rows : List Terms) (rays : List (List ℤ)) (end : OuterView) → IsGoing rows rays → PassEnds s more rows rays end → IsWell end
@@ -140,7 +144,7 @@ module _ (s : Search) (h : IsSearch s) where
   pass_well (suc more) rows rays end g (Left row cause, v, a) = undecided_well end (Run row cause) a
   pass_well (suc more) rows rays end g (Refuted values, v, (Hull next, n, later)) =
       pass_well more next (rays ++ values ∷ []) end (next_going rows next rays values g
-          (refuting_point s.problem s.limits.effort rows v.0 values h.problem g.over v.1) n) later
+      (refuting_point s.problem s.limits.effort rows v.0 values h.problem g.over v.1) n) later
   pass_well (suc more) rows rays end g (Refuted values, v, (TooMany, n, later)) = undecided_well end Rows later
   pass_well (suc more) rows rays end g (Refuted values, v, (TooWide, n, later)) = undecided_well end Width later
 
@@ -175,10 +179,19 @@ search_is_right s end h (first, p, e) = well_right s h end (second_well s h firs
 pub bounds_are_projection : BoundsAreProjection
 bounds_are_projection q kept rows ws rays h over b x = hull_is_projection q kept rows rays b.hull
     (all_of (λ (row : Terms). (p : ℕ → ℤ) → MeetsProblem q p → pos 0 ≤ℤ value row p) rows
-        (valid_rows q rows ws h (every_of (IsOver (size_of q.space)) rows over) b.certified))
+    (valid_rows q rows ws h (every_of (IsOver (size_of q.space)) rows over) b.certified))
     (all_of (λ (ray : List ℤ). IsAttained kept (MeetsProblem q) (point_of ray)) rays (attained rays (every_of (IsRay q) rays b.attained))) x
   where
     attained : (rays : List (List ℤ)) → Every (IsRay q) rays → Every (λ (ray : List ℤ). IsAttained kept (MeetsProblem q) (point_of ray)) rays
     attained [] a = tt
-    attained (ray ∷ rays) a = (record { factor = 1; some = omega arith; point = point_of ray; same = λ c m. omega (arith, ints); holds
-        = a.0.met }, attained rays a.1)
+    attained (ray ∷ rays) a = (
+      record {
+        factor = 1;
+        some = omega arith;
+        point = point_of ray;
+        same = λ c m. omega (arith, ints);
+        holds
+            = a.0.met;
+      },
+      attained rays a.1,
+    )

@@ -76,7 +76,7 @@ module _ (q : ProblemView) (effort : Effort) where
     one_walk [] v u e f = e ∙ sym f
     one_walk (row ∷ rows) v u (o, ends, a) (p, other, b) =
         by_outcome o a (subst (λ (x : ProofView). AfterRow (λ u. Walks q effort rows u) row x u)
-            (sym (one_outcome q row effort o p defined ends other)) b) (one_walk rows)
+        (sym (one_outcome q row effort o p defined ends other)) b) (one_walk rows)
       where
         by_outcome : (o : ProofView) → AfterRow (λ u. Walks q effort rows u) row o v → AfterRow (λ u. Walks q effort rows u) row o u
             → ((v u : VisitView) → Walks q effort rows v → Walks q effort rows u → v ≡ u) → v ≡ u
@@ -93,12 +93,12 @@ module _ (s : Search) (defined : s.limits.effort.quick ≡ false) where
   one_next : (rows : List Terms) (ray : List ℤ) (h k : HullView) → NextHull s rows ray h → NextHull s rows ray k → h ≡ k
   one_next rows ray h k (step, e, a) (other, f, b) =
       by_step step a (subst (λ (x : EliminatedView). AfterStep s x k) (sym
-          (one_ray_end (2 ^ s.problem.space.variables) s.limits.rows ray s.spare rows step other e f)) b)
+      (one_ray_end (2 ^ s.problem.space.variables) s.limits.rows ray s.spare rows step other e f)) b)
     where
       by_step : (step : EliminatedView) → AfterStep s step h → AfterStep s step k → h ≡ k
       by_step (elimination.Region next) (kept, dropped, red, is) (others, gone, more, so) =
           is ∙ ap (λ ks. Hull (kept_rows ks)) (one_reduction (constants s.problem.space) s.limits.effort [] next kept others dropped gone
-              defined red more).0 ∙ sym so
+          defined red more).0 ∙ sym so
       by_step (elimination.Rows rate) e f = e ∙ sym f
       by_step (elimination.Wide rate) e f = e ∙ sym f
 
@@ -130,9 +130,9 @@ module _ (s : Search) (defined : s.limits.effort.quick ≡ false) where
       (λ values x y. x ∙ sym y) a b
   one_pass (suc more) rows rays end other (v, e, a) (u, f, b) =
       by_visit rows rays (λ values end. (h : HullView) × NextHull s rows values h
-          × AfterHull (λ next end. PassEnds s more next (rays ++ values ∷ []) end) h end) v u end other e f
+      × AfterHull (λ next end. PassEnds s more next (rays ++ values ∷ []) end) h end) v u end other e f
       (λ values x y. by_hull x.0 y.0 (λ next end. PassEnds s more next (rays ++ values ∷ []) end) end other
-          (one_next rows values x.0 y.0 x.1 y.1) (λ next. one_pass more next (rays ++ values ∷ []) end other) x.2 y.2) a b
+      (one_next rows values x.0 y.0 x.1 y.1) (λ next. one_pass more next (rays ++ values ∷ []) end other) x.2 y.2) a b
 
   one_hull : (rays : List (List ℤ)) (rows : List Terms) (h k : HullView) → HullEnds s rows rays h → HullEnds s rows rays k → h ≡ k
   one_hull [] rows h k e f = e ∙ sym f
@@ -148,7 +148,7 @@ module _ (s : Search) (defined : s.limits.effort.quick ≡ false) where
   one_pass_with : (rays : List (List ℤ)) (end other : OuterView) → PassWithEnds s rays end → PassWithEnds s rays other → end ≡ other
   one_pass_with rays end other (h, e, a) (k, f, b) =
       by_hull h k (λ rows end. PassEnds s (s.limits.rays - length rays) rows rays end) end other (one_hull rays (first_rows s.kept) h k e f)
-          (λ rows. one_pass (s.limits.rays - length rays) rows rays end other) a b
+      (λ rows. one_pass (s.limits.rays - length rays) rows rays end other) a b
 
   one_second : (first end other : OuterView) → SecondEnds s first end → SecondEnds s first other → end ≡ other
   one_second (Bounds rows ws rays) end other (inl a) (inl b) = a.1 ∙ sym b.1

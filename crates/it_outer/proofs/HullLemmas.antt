@@ -78,23 +78,34 @@ module _ (s : Search) (h : IsSearch s) (hull : System) (g : IsHullSystem s hull)
     next_ends next system q r is e red are = (
       elimination.Region next.rows.items,
       same_rays (elimination.Region next.rows.items) e,
-      (kept_view r, dropped_view r, subst (λ (p : ProblemView). Reduces p s.limits.effort [] next.rows.items (kept_view r) (dropped_view r))
-          is red, ap (λ rs. Hull rs) (are ∙ sym (rows_kept r.kept.items))),
+      (
+        kept_view r,
+        dropped_view r,
+        subst (λ (p : ProblemView). Reduces p s.limits.effort [] next.rows.items (kept_view r) (dropped_view r))
+            is red,
+        ap (λ rs. Hull rs) (are ∙ sym (rows_kept r.kept.items)),
+      ),
     )
 
     pub too_many_ends : (e : Eliminated) (rate : ℕ) → e ≡ eliminated.Rows rate
         → RayEnds (2 ^ hull.space.variables) s.limits.rows ray s.spare hull.rows.items (eliminated_view e)
         → NextHull s hull.rows.items ray TooMany
-    too_many_ends e rate is r = (elimination.Rows rate, same_rays (elimination.Rows rate)
-        (subst (λ (x : Eliminated). RayEnds (2 ^ hull.space.variables) s.limits.rows ray s.spare hull.rows.items (eliminated_view x)) is r),
-        refl)
+    too_many_ends e rate is r = (
+      elimination.Rows rate,
+      same_rays (elimination.Rows rate)
+          (subst (λ (x : Eliminated). RayEnds (2 ^ hull.space.variables) s.limits.rows ray s.spare hull.rows.items (eliminated_view x)) is r),
+      refl,
+    )
 
     pub too_wide_ends : (e : Eliminated) (rate : ℕ) → e ≡ eliminated.Wide rate
         → RayEnds (2 ^ hull.space.variables) s.limits.rows ray s.spare hull.rows.items (eliminated_view e)
         → NextHull s hull.rows.items ray TooWide
-    too_wide_ends e rate is r = (elimination.Wide rate, same_rays (elimination.Wide rate)
-        (subst (λ (x : Eliminated). RayEnds (2 ^ hull.space.variables) s.limits.rows ray s.spare hull.rows.items (eliminated_view x)) is r),
-        refl)
+    too_wide_ends e rate is r = (
+      elimination.Wide rate,
+      same_rays (elimination.Wide rate)
+          (subst (λ (x : Eliminated). RayEnds (2 ^ hull.space.variables) s.limits.rows ray s.spare hull.rows.items (eliminated_view x)) is r),
+      refl,
+    )
 
     pub region_rays : (e : Eliminated) (next : System) → e ≡ eliminated.Region next
         → RayEnds (2 ^ hull.space.variables) s.limits.rows ray s.spare hull.rows.items (eliminated_view e)
@@ -117,7 +128,7 @@ module _ (s : Search) (h : IsSearch s) (hull : System) (g : IsHullSystem s hull)
       };
       free = subst (λ (rs : List Terms). LacksCoordinate (2 ^ s.problem.space.variables + s.spare) rs) (sym stay)
           (all_kept q s.limits.effort (λ (row : Terms). coefficient row (2 ^ s.problem.space.variables + s.spare) ≡ pos 0) []
-              next.rows.items (kept_view r) (dropped_view r) red
+          next.rows.items (kept_view r) (dropped_view r) red
           (subst (λ (x : Space). LacksCoordinate (2 ^ x.variables + s.spare) next.rows.items) g.space n.free));
     }
       where

@@ -143,7 +143,7 @@ pub greater_later : (kept : List ℕ) (xs ys : Terms) (i : ℕ) → i < length k
 greater_later kept xs ys i l same e =
     let c : ℕ = get_or kept i 0 in
     sym (ap (λ b. if b then is_greater (drop (i + 1) kept) xs ys else lt_z (coefficient ys c) (coefficient xs c)) same)
-        ∙ greater_here kept xs ys i c l (sym (get_or_default kept i c 0 l)) e
+    ∙ greater_here kept xs ys i c l (sym (get_or_default kept i c 0 l)) e
 
 pub any_of_lists : (f : List Bool → Bool) (vs : List (Vec Bool)) → list_any f (map (λ v. v.items) vs) ≡ list_any (λ v. f v.items) vs
 any_of_lists f [] = refl

@@ -43,7 +43,7 @@ pub proved_more : (q : ProblemView) (effort : Effort) (rows : List Terms) (ws ne
 proved_more q effort rows ws new i row w l at ends is z =
     let longer : take (i + 1) rows ≡ take i rows ++ row ∷ [] = (take_at_read rows i row l).1 ∙ ap (λ (r : Terms). take i rows ++ r ∷ []) (sym at) in
     subst (λ (rs : List Terms). AreProofsOf q effort rs new) (sym longer)
-        (subst (λ (xs : List CertificateView). AreProofsOf q effort (take i rows ++ row ∷ []) xs) (sym is)
+    (subst (λ (xs : List CertificateView). AreProofsOf q effort (take i rows ++ row ∷ []) xs) (sym is)
     (zip_end (λ t w. EndsWith q t effort (proofs.Yes w)) (take i rows) ws row w z ends))
 
 pub all_proved : (q : ProblemView) (effort : Effort) (rows : List Terms) (ws : List CertificateView) (i : ℕ) → length rows ≤ i
@@ -91,7 +91,7 @@ pub round_ends : (s : Search) (most : ℕ) (first : List Terms) (begun : List (L
     → PassLeads s most first begun rows rays i → PassEnds s (most - length begun) first begun (outer_view end)
 round_ends s most first begun rows rays i round end l a is p =
     p.leads (outer_view end) (one_fewer s most i rows rays (outer_view end) l
-        (a (most - (i + 1)) (outer_view end) (subst (λ (r : Round). RoundEnds s (most - (i + 1)) r (outer_view end)) (sym is) refl)))
+    (a (most - (i + 1)) (outer_view end) (subst (λ (r : Round). RoundEnds s (most - (i + 1)) r (outer_view end)) (sym is) refl)))
 
 pub last_ends : (s : Search) (most : ℕ) (first : List Terms) (begun : List (List ℤ)) (rows : List Terms) (rays : List (List ℤ)) (i : ℕ)
     (end : OuterView) → most ≤ i → PassEnds s zero rows rays end → PassLeads s most first begun rows rays i
@@ -115,22 +115,34 @@ visited s rows rays v u round is e f = λ more end r. (
 pub visited_last : (s : Search) (rows : List Terms) (rays : List (List ℤ)) (v u : Visit) (end : OuterView) → v ≡ u
     → VisitEnds s.problem s.limits.effort rows (visit_view v)
     → AfterVisit (λ values end. end ≡ Undecided Rays) rows rays (visit_view u) end → PassEnds s zero rows rays end
-visited_last s rows rays v u end is e a = (visit_view v, e, subst (λ (w : Visit). AfterVisit (λ values end. end ≡ Undecided Rays) rows rays
-    (visit_view w) end) (sym is) a)
+visited_last s rows rays v u end is e a = (
+  visit_view v,
+  e,
+  subst (λ (w : Visit). AfterVisit (λ values end. end ≡ Undecided Rays) rows rays
+      (visit_view w) end) (sym is) a,
+)
 
 -- adding a point, by its effect on the hull
 pub with_hull : (s : Search) (rows : List Terms) (rays : List (List ℤ)) (point : List ℤ) (n m : Next) (round : Round) → n ≡ m
     → NextHull s rows point (next_view n)
     → ((more : ℕ) (end : OuterView) → RoundEnds s more round end
     → AfterHull (λ next end. PassEnds s more next (rays ++ point ∷ []) end) (next_view m) end) → IsWithPoint s rows rays point round
-with_hull s rows rays point n m round is e f = λ more end r. (next_view n, e, subst
-    (λ (w : Next). AfterHull (λ next end. PassEnds s more next (rays ++ point ∷ []) end) (next_view w) end) (sym is) (f more end r))
+with_hull s rows rays point n m round is e f = λ more end r. (
+  next_view n,
+  e,
+  subst
+      (λ (w : Next). AfterHull (λ next end. PassEnds s more next (rays ++ point ∷ []) end) (next_view w) end) (sym is) (f more end r),
+)
 
 -- and a pass by the hull of the rays that it begins with
 pub pass_by : (s : Search) (rays : List (List ℤ)) (n m : Next) (end : OuterView) → n ≡ m → HullEnds s (first_rows s.kept) rays (next_view n)
     → AfterHull (λ rows end. PassEnds s (s.limits.rays - length rays) rows rays end) (next_view m) end → PassWithEnds s rays end
-pass_by s rays n m end is e a = (next_view n, e, subst (λ (w : Next). AfterHull
-    (λ rows end. PassEnds s (s.limits.rays - length rays) rows rays end) (next_view w) end) (sym is) a)
+pass_by s rays n m end is e a = (
+  next_view n,
+  e,
+  subst (λ (w : Next). AfterHull
+      (λ rows end. PassEnds s (s.limits.rays - length rays) rows rays end) (next_view w) end) (sym is) a,
+)
 
 pub refuted_round : {E : Type 0} (s : Search) (rows : List Terms) (rays : List (List ℤ)) (v : Visit) (point : Point) (r : Result Round E)
     → v ≡ visits.Refuted point → VisitEnds s.problem s.limits.effort rows (visit_view v)

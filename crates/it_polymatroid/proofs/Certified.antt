@@ -27,7 +27,7 @@ weighted_is : (size : ℕ) (g : Generators) → ((i : ℕ) → i < g.count → I
 weighted_is size g l [] a p e = (linear_zero size).sum p e
 weighted_is size g l (w ∷ ws) a p e =
     ap₂ (λ x y. x +ℤ y) ((linear-scale size w.1 (g.form w.0) (l w.0 (All-head (IsAllowed g) w ws a).0)).sum p e)
-        (weighted_is size g l ws (All-tail (IsAllowed g) w ws a) p e)
+    (weighted_is size g l ws (All-tail (IsAllowed g) w ws a) p e)
     ∙ sym (dot-add size (λ c. w.1 *ℤ g.form w.0 (one_at c)) (λ c. combination ws (λ i. g.form i (one_at c))) p)
 
 -- sums that agree at each coordinate agree at every map

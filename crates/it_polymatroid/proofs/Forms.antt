@@ -62,8 +62,10 @@ linear-scale size k f l = record { sum = λ p e. ap (λ x. k *ℤ x) (l.sum p e)
 
 -- forms with the same values at every point
 pub linear_same : (size : ℕ) (f g : Form) → ((p : ℕ → ℤ) → p 0 ≡ pos 0 → f p ≡ g p) → IsLinear size f → IsLinear size g
-linear_same size f g same l = record { sum = λ p e. sym (same p e) ∙ l.sum p e
-    ∙ dot_from_one size (λ c. f (one_at c)) (λ c. g (one_at c)) p e (λ c h k. same (one_at c) (one_at-zero c h)) }
+linear_same size f g same l = record {
+  sum = λ p e. sym (same p e) ∙ l.sum p e
+      ∙ dot_from_one size (λ c. f (one_at c)) (λ c. g (one_at c)) p e (λ c h k. same (one_at c) (one_at-zero c h));
+}
 
 pub linear-sub : (size : ℕ) (f g : Form) → IsLinear size f → IsLinear size g → IsLinear size (λ p. f p -ℤ g p)
 linear-sub size f g l m = linear_same size (λ p. f p +ℤ neg_ℤ (pos 1) *ℤ g p) (λ p. f p -ℤ g p) (λ p e. minus_as_negation (f p) (g p))

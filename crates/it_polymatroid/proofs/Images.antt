@@ -110,10 +110,10 @@ pulled_polymatroid n m h g sets a is p = record {
       (p.rises (union_of_images sets s) (union_of_images sets t) (image_below t) (image_inside sets s t i));
   submodular = λ s t k l.
       let low : h (union_of_images sets (bit_and s t)) ≤ℤ h (bit_and (union_of_images sets s) (union_of_images sets t)) = p.rises
-          (union_of_images sets (bit_and s t)) (bit_and (union_of_images sets s) (union_of_images sets t))
-          (meet_lt n (union_of_images sets s) (union_of_images sets t) (image_below t))
+      (union_of_images sets (bit_and s t)) (bit_and (union_of_images sets s) (union_of_images sets t))
+      (meet_lt n (union_of_images sets s) (union_of_images sets t) (image_below t))
       (inside_meet (union_of_images sets (bit_and s t)) (union_of_images sets s) (union_of_images sets t)
-          (image_inside sets (bit_and s t) s (meet_left s t)) (image_inside sets (bit_and s t) t (meet_right s t))) in
+      (image_inside sets (bit_and s t) s (meet_left s t)) (image_inside sets (bit_and s t) t (meet_right s t))) in
       let both = p.submodular (union_of_images sets s) (union_of_images sets t) (image_below s) (image_below t) in
       let u : g (bit_or s t) ≡ h (bit_or (union_of_images sets s) (union_of_images sets t)) = is (bit_or s t) (or_lt m s t k l) ∙ ap h (union-or 0 sets s t) in
       let v : g (bit_and s t) ≡ h (union_of_images sets (bit_and s t)) = is (bit_and s t) (meet_lt m s t l) in

@@ -28,7 +28,7 @@ and_both : (k i j : ℕ) → i < j → bit_at k i ≡ 0 → bit_at k j ≡ 0 →
 and_both k i j h zi zj = rw (← with_pow k i zi, ← with_pow k j zj) (same_from_bits (bit_and (bit_or k (2 ^ i)) (bit_or k (2 ^ j))) k (λ m.
     let a = bit_at_and (bit_or k (2 ^ i)) (bit_or k (2 ^ j)) m in let b = bit_at_or k (2 ^ i) m in let d = bit_at_or k (2 ^ j) m in
     let e : min (bit_at (2 ^ i) m) (bit_at (2 ^ j) m) ≡ 0 = sym (bit_at_and (2 ^ i) (2 ^ j) m)
-        ∙ ap (λ x. bit_at x m) (pow_apart i j (λ q. omega arith)) ∙ bit_at-zero m in omega arith))
+    ∙ ap (λ x. bit_at x m) (pow_apart i j (λ q. omega arith)) ∙ bit_at-zero m in omega arith))
 
 -- a polymatroid meets the elemental inequalities
 pub elementals_of : (n : ℕ) (h : ℕ → ℤ) → IsPolymatroid n h → ElementalsHold n h

@@ -32,7 +32,7 @@ elemental_is : (s : Space) (e : Elemental) → IsElemental s.variables e
     → of_elemental s.variables e ≡ generator_of (size_of s) Inequality (λ p. elemental_value s.variables p e)
 elemental_is s e h = ap (λ (row : Terms). let x : Generator = record { kind = Inequality; row = row } in x)
     (told_by_form (size_of s) (λ p. elemental_value s.variables p e) _ (canonical-row s.variables e h)
-        (λ i d l. let k = within-row s.variables e h i d l in (k.0, omega (arith, k.1))) (value-row s.variables e))
+    (λ i d l. let k = within-row s.variables e h i d l in (k.0, omega (arith, k.1))) (value-row s.variables e))
 
 elementals_are : (s : Space) (es : List Elemental) → Every (IsElemental s.variables) es
     → map (of_elemental s.variables) es ≡ map (λ (e : Elemental). generator_of (size_of s) Inequality (λ p. elemental_value s.variables p e)) es

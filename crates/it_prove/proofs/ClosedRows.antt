@@ -81,7 +81,7 @@ module _ (n : ℕ) (ds : List Dependence) where
       → coefficient new c ≡ coefficient (collapsed_row n ds old) c
   collapse_same size old new k u zero =
       coefficient_absent new 0 (every-same (λ (t : ℕ × ℤ). (1 ≤ t.0) × (t.0 ≤ size)) (λ t. t.0 ≢ 0) new (λ t b z. omega (arith, b.0, z))
-          (every_of (λ (t : ℕ × ℤ). (1 ≤ t.0) × (t.0 ≤ size)) new u))
+      (every_of (λ (t : ℕ × ℤ). (1 ≤ t.0) × (t.0 ≤ size)) new u))
       ∙ sym (coefficient_absent (collapsed_row n ds old) 0 (kept_some (placed_terms n ds old)))
   collapse_same size old new k u (suc c) =
       sym (value-one_at new (suc c)) ∙ k (one_at (suc c)) (one_at-zero (suc c) (omega arith)) ∙ collapsed_at old (suc c) (omega arith)

@@ -45,7 +45,7 @@ pub same_after_push : (old new : List Terms) (k l : Kind) (r t : Terms) → new 
 same_after_push old new k l r t is kind e front xs s =
     subst (λ (ys : List Terms). SameRows ys (xs ++ columns_by l t)) (append_assoc front old (columns_by k r) ∙ ap (λ ys. front ++ ys) (sym is))
     (subst (λ (m : Kind). SameRows ((front ++ old) ++ columns_by k r) (xs ++ columns_by m t)) kind
-        (same-append (front ++ old) xs (columns_by k r) (columns_by k t) s (same_columns k r t e)))
+    (same-append (front ++ old) xs (columns_by k r) (columns_by k t) s (same_columns k r t e)))
 
 -- the columns of the first generators over closed sets
 take_more : (gs : List Generator) (i : ℕ) → i < length gs → take (suc i) gs ≡ take i gs ++ generator_at gs i ∷ []
@@ -106,7 +106,7 @@ module _ (n : ℕ) (ds : List Dependence) (gs : List Generator) where
       → CollapseFits n es (generator_at gs i).row → AreColumns n ds gs i old → AreColumns n ds gs (i + 1) new
   columns_more_by es i old new e h add fit = columns_more i old new h
       (subst (λ (x : List Dependence). (xs : List Terms) → SameRows old xs
-          → SameRows new (xs ++ columns_by (generator_at gs i).kind (collapsed_row n x (generator_at gs i).row))) e add)
+      → SameRows new (xs ++ columns_by (generator_at gs i).kind (collapsed_row n x (generator_at gs i).row))) e add)
       (subst (λ (x : List Dependence). CollapseFits n x (generator_at gs i).row) e fit)
 
 -- ---- weights
@@ -117,7 +117,7 @@ pub weights_more : (gs : List Generator) (f : ℕ → ℤ) (i j next : ℕ) (k :
 unfolding numbers_from
 weights_more gs f i j next k w old new h same weight step e inv =
     ap₂ (λ xs n. xs ++ weights_from (i + 1) n (drop (i + 1) gs) f) (e
-        ∙ ap (λ x. old ++ single_term i x) (weight ∙ ap (λ k. weight_by k f j) same)) (step ∙ ap (λ k. j + column_count k) same)
+    ∙ ap (λ x. old ++ single_term i x) (weight ∙ ap (λ k. weight_by k f j) same)) (step ∙ ap (λ k. j + column_count k) same)
     ∙ append_assoc old (single_term i (weight_by (generator_at gs i).kind f j))
     (weights_from (i + 1) (j + column_count (generator_at gs i).kind) (drop (i + 1) gs) f)
     ∙ ap (λ xs. old ++ weights_from i j xs f) (sym (generator_split gs i h)) ∙ inv

@@ -49,7 +49,7 @@ module _ (c : ℕ) where
       ap₂ (λ b y. cond b x (pos 0) *ℤ coefficient r c +ℤ y) (eq-eqb k j (omega arith)) (total-past k (j + 1) x rs (omega arith)) ∙ +ℤ_idr (x *ℤ coefficient r c)
   total-one (suc i) j k x (r ∷ rs) h e =
       ap₂ (λ b y. cond b x (pos 0) *ℤ coefficient r c +ℤ y) (ne_eqb k j (λ q. omega arith))
-          (total-one i (j + 1) k x rs (omega arith) (omega arith)) ∙ zero_term (coefficient r c) (x *ℤ coefficient (get_or rs i []) c)
+      (total-one i (j + 1) k x rs (omega arith) (omega arith)) ∙ zero_term (coefficient r c) (x *ℤ coefficient (get_or rs i []) c)
     where
       zero_term : (z y : ℤ) → pos 0 *ℤ z +ℤ y ≡ y
       zero_term z y = omega (arith, ints)
@@ -109,5 +109,5 @@ weights_allowed all (g ∷ gs) i j f p b h =
     let here : generator_at all i ≡ g = ap (generator_at all) (same_index i) ∙ h zero (omega arith) in
     every-append (IsAllowed (forms_of all)) (single_term i (weight_by g.kind f j)) (weights_from (i + 1) (j + column_count g.kind) gs f)
     (every-single_term (IsAllowed (forms_of all)) i (weight_by g.kind f j)
-        (omega arith, λ e. least_weight g.kind f j p (sym (ap (λ (g : Generator). is_equation g.kind) here) ∙ e)))
+    (omega arith, λ e. least_weight g.kind f j p (sym (ap (λ (g : Generator). is_equation g.kind) here) ∙ e)))
     (weights_allowed all gs (i + 1) (j + column_count g.kind) f p (omega arith) (λ k l. ap (generator_at all) (next_index i k) ∙ h (suc k) (omega arith)))

@@ -132,7 +132,7 @@ read_is q d s l = ap₂ (λ x y. record { space = x; list = y }) (sym s) (sym l)
 
 module _ (q : ProblemView) (target : Terms) (k : IsProblem q) (u : IsOver (size_of q.space) target) (ws : List (ℕ × Rational))
     (a : SumsUp rationals (length (closed_places q)) (length (columns (closed_generators q)))
-        (feasibility_problem (closed_places q) (columns (closed_generators q)) (closed_target q target)) ws) where
+    (feasibility_problem (closed_places q) (columns (closed_generators q)) (closed_target q target)) ws) where
   sizes : size_of q.space < 2 ^ q.space.variables + q.space.rates
   sizes = omega (arith, Rattle.std.proofs.lemmas.Nat.pow_pos q.space.variables)
 
@@ -149,7 +149,7 @@ module _ (q : ProblemView) (target : Terms) (k : IsProblem q) (u : IsOver (size_
   closed_sum c (inl i) = adds_up (closed_generators q) (closed_places q) (closed_target q target) ws a c i
   closed_sum c (inr e) =
       ap (λ x. pos (scale_of (numbers_of ws)) *ℤ x) (collapsed_none q.space.variables q.space.rates (dependences_of q)
-          (dependences_sound q k) target c (below_size (size_of q.space) (2 ^ q.space.variables + q.space.rates) target sizes u) e)
+      (dependences_sound q k) target c (below_size (size_of q.space) (2 ^ q.space.variables + q.space.rates) target sizes u) e)
       ∙ *ℤ-zero (pos (scale_of (numbers_of ws)))
       ∙ sym (value_null (weights_from 0 0 (closed_generators q) (coefficient (scaled_by (scale_of (numbers_of ws)) ws))) (column (closed_generators q) c)
       (λ i. ap (λ (g : Generator). coefficient g.row c) (collapsed_generator_at q.space.variables (dependences_of q) (generators q) i)
@@ -167,23 +167,23 @@ module _ (q : ProblemView) (target : Terms) (k : IsProblem q) (u : IsOver (size_
       ∙ sym (weighted_value (generators q) (weights_from 0 0 (generators q) (coefficient (scaled_by (scale_of (numbers_of ws)) ws)))
       (spread_out q.space.variables (dependences_of q) (one_at c)) (column (closed_generators q) c)
       (λ i. collapsed_at q.space.variables (dependences_of q) (generator_at (generators q) i).row c h
-          ∙ sym (ap (λ (g : Generator). coefficient g.row c) (collapsed_generator_at q.space.variables (dependences_of q)
-          (generators q) i))))
+      ∙ sym (ap (λ (g : Generator). coefficient g.row c) (collapsed_generator_at q.space.variables (dependences_of q)
+      (generators q) i))))
 
   module _ (fit : NumbersFit (numbers_of ws)) where
     pub weights_canonical : Ascends 0 (certificate_of (generators q) ws).weights
     weights_canonical = weights_ascend (generators q) 0 0 (coefficient (scaled_by (scale_of (numbers_of ws)) ws))
         (scaled_positive (closed_generators q) (closed_places q) (closed_target q target) ws a)
         (coefficients_within 0 (scaled_by (scale_of (numbers_of ws)) ws) (scaled_canonical (closed_generators q) (closed_places q)
-            (closed_target q target) ws a fit.numbers))
+        (closed_target q target) ws a fit.numbers))
 
     closed_certificate : IsCertificateOverClosed q (read_of q) target (certificate_of (generators q) ws)
     closed_certificate = record {
       order = canonical_weights_ascend 0 (certificate_of (generators q) ws).weights weights_canonical;
       allowed = all_of (IsAllowed (generators_of q)) (certificate_of (generators q) ws).weights
           (weights_allowed (generators q) (generators q) 0 0 (coefficient (scaled_by (scale_of (numbers_of ws)) ws))
-              (scaled_positive (closed_generators q) (closed_places q) (closed_target q target) ws a) (omega arith)
-              (λ i l. ap (generator_at (generators q)) (zero_plus i)));
+          (scaled_positive (closed_generators q) (closed_places q) (closed_target q target) ws a) (omega arith)
+          (λ i l. ap (generator_at (generators q)) (zero_plus i)));
       within = all_of (λ (t : ℕ × ℤ). IsWithin t.1) (certificate_of (generators q) ws).weights
           (each_within 0 (certificate_of (generators q) ws).weights weights_canonical);
       sums = spread_sum;
@@ -240,7 +240,7 @@ ascends_of from (t ∷ ts) a e w = (
 
 module _ (q : ProblemView) (target : Terms) (k : IsProblem q) (u : IsOver (size_of q.space) target) (ws : List (ℕ × Rational))
     (a : SumsUp rationals (length (closed_places q)) (length (columns (closed_generators q)))
-        (feasibility_problem (closed_places q) (columns (closed_generators q)) (closed_target q target)) ws)
+    (feasibility_problem (closed_places q) (columns (closed_generators q)) (closed_target q target)) ws)
     (fit : NumbersFit (numbers_of ws)) where
   is_lifted : (w new : CertificateView) → w ≡ certificate_of (generators q) ws → IsLiftOf q (read_of q) target w new
       → (dependences_of q ≡ [] → new ≡ w) → (dependences_of q ≢ [] → All (λ (p : ℕ × ℤ). p.1 ≢ pos 0) new.weights)
@@ -260,7 +260,7 @@ module _ (q : ProblemView) (target : Terms) (k : IsProblem q) (u : IsOver (size_
       for_each (d ∷ ds) e =
           let more : dependences_of q ≢ [] = λ f. list_not_empty d ds (sym e ∙ f) in
           ascends_of 0 new.weights i.order (every_of (λ (p : ℕ × ℤ). p.1 ≢ pos 0) new.weights (some more))
-              (λ c. subst IsWithin (sym (i.weights c)) ((fits more).weights c))
+          (λ c. subst IsWithin (sym (i.weights c)) ((fits more).weights c))
 
   pub lift_is : (d : DependencesView) (w new : CertificateView) → read_of q ≡ d → w ≡ certificate_of (generators q) ws
       → IsLiftOf q d target w new → (d.list ≡ [] → new ≡ w) → (d.list ≢ [] → All (λ (p : ℕ × ℤ). p.1 ≢ pos 0) new.weights)

@@ -66,7 +66,7 @@ pub spread_more : (F : ℕ → ℤ) (size c : ℕ) (old new : List ℤ) → c �
 spread_more F size c old new h is inv =
     let one : size + 1 - c ≡ suc (size + 1 - (c + 1)) = omega arith in
     ap (λ xs. xs ++ map F (span (c + 1) (size + 1 - (c + 1)))) is ∙ append_assoc old (F c ∷ []) (map F (span (c + 1) (size + 1 - (c + 1))))
-        ∙ ap (λ n. old ++ map F (span c n)) (sym one) ∙ inv
+    ∙ ap (λ n. old ++ map F (span c n)) (sym one) ∙ inv
 
 -- the spread values are of the point
 pub spread_length : (n : ℕ) (ds : List Dependence) (size : ℕ) (row : Terms) → length (map (spread_out n ds (coefficient row)) (span 1 size)) ≡ size
@@ -120,7 +120,7 @@ whole_found l from to (x ∷ xs) (q ∷ qs) r d c = ap integer (coefficient_some
         ≡ times (integer (pos l)) (cond b q (rational_at xs qs c))
     by_test true e ih =
         let past : coefficient (terms_of_places xs (map (scaled_number l) qs)) c
-            ≡ pos 0 = pairs_below (x + 1) to xs (map (scaled_number l) qs) c r.1 (omega (arith, eqb-true x c e)) in
+        ≡ pos 0 = pairs_below (x + 1) to xs (map (scaled_number l) qs) c r.1 (omega (arith, eqb-true x c e)) in
         ap (λ y. integer (scaled_number l q +ℤ y)) past ∙ ap integer (+ℤ_idr (scaled_number l q)) ∙ whole_scaled l q d.0
     by_test false e ih = ap integer (+ℤ_idl (coefficient (terms_of_places xs (map (scaled_number l) qs)) c)) ∙ ih
 
@@ -161,7 +161,7 @@ value_spread n ds size at row u = value_of_terms row (every_of (λ (t : ℕ × �
 
 module _ (q : ProblemView) (target : Terms) (qs : List Rational) (k : IsProblem q) (u : IsOver (size_of q.space) target)
     (s : Separates rationals (length (closed_places q)) (length (columns (closed_generators q)))
-        (feasibility_problem (closed_places q) (columns (closed_generators q)) (closed_target q target)) qs) where
+    (feasibility_problem (closed_places q) (columns (closed_generators q)) (closed_target q target)) qs) where
   abbrev values : Terms
   values = terms_of_places (closed_places q) (scaled_point qs)
 
@@ -186,7 +186,7 @@ module _ (q : ProblemView) (target : Terms) (qs : List Rational) (k : IsProblem 
   columns_over = columns_keep (In (closed_places q)) (closed_generators q)
       (every-map (λ g. Every (λ (t : ℕ × ℤ). In (closed_places q) t.0) g.row) (collapsed_generator q.space.variables (dependences_of q)) (generators q)
       (every-same (λ g. IsOver (size_of q.space) g.row) (λ g. Every (λ (t : ℕ × ℤ). In (closed_places q) t.0)
-          (collapsed_row q.space.variables (dependences_of q) g.row)) (generators q) (λ g b. row_over_places g.row b) rows))
+      (collapsed_row q.space.variables (dependences_of q) g.row)) (generators q) (λ g b. row_over_places g.row b) rows))
 
   values_separate : ((j : ℕ) → j < length (columns (closed_generators q))
       → is_at_least_zero (rational_value (get_or (columns (closed_generators q)) j []) (rational_at (closed_places q) qs)) ≡ true)
@@ -234,13 +234,16 @@ module _ (q : ProblemView) (target : Terms) (qs : List Rational) (k : IsProblem 
         met = both.1;
         violated = subst (λ (z : ℤ). z ≤ℤ neg_ℤ (pos 1)) (value_same target u)
             (below_scaled (scale_of qs) (coefficient values) (rational_at (closed_places q) qs) (scale_pos qs) (closed_target q target)
-                (scaled_row (closed_target q target)) values_separate.1);
+            (scaled_row (closed_target q target)) values_separate.1);
       }
 
 -- the coordinates as the code has them
 pub places_rise : (q : ProblemView) (cs : List ℕ) → IsProblem q → cs ≡ closed_places q → (to : ℕ) × RiseTo 1 to cs
-places_rise q cs k e = (2 ^ q.space.variables + q.space.rates, subst (RiseTo 1 (2 ^ q.space.variables + q.space.rates)) (sym e)
-    (coords_rise q.space.variables q.space.rates (dependences_of q) (dependences_sound q k)))
+places_rise q cs k e = (
+  2 ^ q.space.variables + q.space.rates,
+  subst (RiseTo 1 (2 ^ q.space.variables + q.space.rates)) (sym e)
+      (coords_rise q.space.variables q.space.rates (dependences_of q) (dependences_sound q k)),
+)
 
 -- and the row of the scaled values
 pub pairs_canonical : (cs : List ℕ) (vs : List ℤ) (ts : Terms) → ts ≡ terms_of_places cs vs → (to : ℕ) × RiseTo 1 to cs → All IsWithin vs → Ascends 0 ts

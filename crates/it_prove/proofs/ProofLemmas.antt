@@ -63,7 +63,7 @@ module _ (q : ProblemView) (target : Terms) (k : IsProblem q) (u : IsOver (size_
 
   module _ (qs : List Rational) (values : List ℤ) (same : values ≡ spread_point q qs) (fit : NumbersFit qs)
       (s : Separates rationals (length (closed_places q)) (length (columns (closed_generators q)))
-          (feasibility_problem (closed_places q) (columns (closed_generators q)) (closed_target q target)) qs) where
+      (feasibility_problem (closed_places q) (columns (closed_generators q)) (closed_target q target)) qs) where
     values_refute : RefutesRow q target values
     values_refute = subst (RefutesRow q target) (sym same) (point_right q target qs k u s)
 
@@ -130,8 +130,11 @@ module _ (q : ProblemView) (target : Terms) (coords : List ℕ) (at : coords ≡
       → Solves coords rs r budget end → Follows q target end o → EndsByRun q target budget o
   ends_so fit budget end o h f = record {
     end = end;
-    run = inr (fit, same_run (closed_places q) rs (columns (closed_generators q)) s r (closed_target q target) e budget end
-        (subst (λ (cs : List ℕ). Solves cs rs r budget end) at h));
+    run = inr (
+      fit,
+      same_run (closed_places q) rs (columns (closed_generators q)) s r (closed_target q target) e budget end
+          (subst (λ (cs : List ℕ). Solves cs rs r budget end) at h),
+    );
     follows = f;
   }
 
@@ -163,7 +166,7 @@ right_end coords rs r (OfWidth k) h = tt
 -- the same with what the code has
 module _ (q : ProblemView) (target : Terms) (coords items : List ℕ) (slice : coords ≡ items) (at : items ≡ closed_places q)
     (rs rows : List Terms) (same : rs ≡ rows) (s : SameRows rows (columns (closed_generators q))) (r : Terms)
-        (e : (c : ℕ) → coefficient r c ≡ coefficient (closed_target q target) c) (x : Solved) where
+    (e : (c : ℕ) → coefficient r c ≡ coefficient (closed_target q target) c) (x : Solved) where
   places_are : coords ≡ closed_places q
   places_are = slice ∙ at
 

@@ -40,5 +40,5 @@ size_of_start q =
     let k = length (closed_places q) in
     let gs = map of_constraint q.constraints in
     let e : length (columns (closed_generators q)) ≡ length (elementals n) + constraint_columns q.constraints = length-elementals n ds n
-        (elementals n) gs ∙ ap (λ c. length (elementals n) + c) (length-constraints n ds q.constraints) in
+    (elementals n) gs ∙ ap (λ c. length (elementals n) + c) (length-constraints n ds q.constraints) in
     sym (ap (λ c. k * (c + k)) e)

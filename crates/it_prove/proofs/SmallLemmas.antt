@@ -104,7 +104,7 @@ module _ (coords : List ℕ) (cols : List Terms) (t : Terms) (few : length coord
       by_test : (a b c : Bool) → IsBelow (1040 * 2 ^ 106) (cond a
           (times (sign rationals (feasibility_problem coords cols t) k) (integer (coefficient (get_or cols j []) (get_or coords k 0))))
           (cond b (times (sign rationals (feasibility_problem coords cols t) k) (integer (coefficient t (get_or coords k 0))))
-              (cond c (integer (pos 1)) (integer (pos 0)))))
+          (cond c (integer (pos 1)) (integer (pos 0)))))
       by_test true b c = below_sign (1040 * 2 ^ 106) (field_ℚ.order.is_least (integer (coefficient t (get_or coords k 0))))
           (integer (coefficient (get_or cols j []) (get_or coords k 0))) column
       by_test false true c = below_sign (1040 * 2 ^ 106) (field_ℚ.order.is_least (integer (coefficient t (get_or coords k 0))))
@@ -137,7 +137,7 @@ never_run : (m n : ℕ) (p : simplex.FeasibilityProblem Rational) (budget : Opti
     (e : RunEndView (List (ℕ × Rational)) (List Rational)) → e ≡ Width zero → RunsTo m n p budget t e → ⊥
 never_run m n p (Some steps) t e z r =
     never_zero (IsDone rationals m n) (IsStuck rationals m n) (StepFits m n) (next rationals m n) (weights rationals m n)
-        (point rationals m n p) steps zero t (subst (RunsTo m n p (Some steps) t) z r)
+    (point rationals m n p) steps zero t (subst (RunsTo m n p (Some steps) t) z r)
 never_run m n p None t e z r =
     never_zero (IsDone rationals m n) (IsStuck rationals m n) (StepFits m n) (next rationals m n) (weights rationals m n) (point rationals m n p) r.0 zero t
     (subst (RunsTo m n p (Some r.0) t) z r.1)
@@ -176,22 +176,27 @@ run_never_at_start q target budget k s e = by_cases e.run (zero_end e.end e.foll
     all_collapses_fit = record {
       each = all_of (λ g. CollapseFits q.space.variables (dependences_of q) g.row) (generators q)
           (every-same (λ g. IsSmall g.row) (λ g. CollapseFits q.space.variables (dependences_of q) g.row) (generators q)
-              (λ g b. collapse_fits q.space.variables (dependences_of q) g.row b) all_small);
+          (λ g b. collapse_fits q.space.variables (dependences_of q) g.row b) all_small);
       own = collapse_fits q.space.variables (dependences_of q) target s.own;
     }
 
     few_places : length (closed_places q) ≤ 1040
     few_places =
         let power : 2 ^ q.space.variables ≤ 2 ^ 10 = pow_mono {i = q.space.variables} {j = 10} k.space.few in
-        omega (arith, power, k.space.few_rates, rise_length 1 (2 ^ q.space.variables + q.space.rates) (closed_places q)
-            (coords_rise q.space.variables q.space.rates (dependences_of q) (dependences_sound q k)))
+        omega (
+          arith,
+          power,
+          k.space.few_rates,
+          rise_length 1 (2 ^ q.space.variables + q.space.rates) (closed_places q)
+              (coords_rise q.space.variables q.space.rates (dependences_of q) (dependences_sound q k)),
+        )
 
     start : StartFits (length (closed_places q)) (length (columns (closed_generators q)))
         (feasibility_problem (closed_places q) (columns (closed_generators q)) (closed_target q target))
     start = start_fits (closed_places q) (columns (closed_generators q)) (closed_target q target) few_places
         (columns_small (closed_generators q) (every-map (λ g. SmallRow g.row) (collapsed_generator q.space.variables (dependences_of q)) (generators q)
         (every-same (λ g. IsSmall g.row) (λ g. SmallRow (collapsed_row q.space.variables (dependences_of q) g.row)) (generators q)
-            (λ g b. small_row q.space.variables (dependences_of q) g.row b) all_small)))
+        (λ g b. small_row q.space.variables (dependences_of q) g.row b) all_small)))
         (small_row q.space.variables (dependences_of q) target s.own)
 
     by_cases : Runs q target budget e.end → e.end ≡ Width 0 → ⊥

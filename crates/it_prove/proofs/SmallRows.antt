@@ -54,22 +54,22 @@ elemental_small n (Conditional i) =
     let all_but : Terms = set_term (2 ^ n - 1 - 2 ^ i) (negsuc 0) in
     let all : Terms = set_term (2 ^ n - 1) (pos 1) in
     small_of 2 (all_but ++ all) (omega arith) (both_small 1 1 all_but all (one_small_term (2 ^ n - 1 - 2 ^ i) (negsuc 0) (omega arith))
-        (one_small_term (2 ^ n - 1) (pos 1) (omega arith)))
+    (one_small_term (2 ^ n - 1) (pos 1) (omega arith)))
 elemental_small n (Mutual i j k) =
     let a : Terms = set_term k (negsuc 0) in
     let b : Terms = set_term (k + 2 ^ i) (pos 1) in
     let c : Terms = set_term (k + 2 ^ j) (pos 1) in
     let d : Terms = set_term (k + 2 ^ i + 2 ^ j) (negsuc 0) in
     small_of 4 (a ++ b ++ c ++ d) (omega arith) (both_small 3 1 (a ++ b ++ c) d
-        (both_small 2 1 (a ++ b) c (both_small 1 1 a b (one_small_term k (negsuc 0) (omega arith))
-        (one_small_term (k + 2 ^ i) (pos 1) (omega arith)))
+    (both_small 2 1 (a ++ b) c (both_small 1 1 a b (one_small_term k (negsuc 0) (omega arith))
+    (one_small_term (k + 2 ^ i) (pos 1) (omega arith)))
     (one_small_term (k + 2 ^ j) (pos 1) (omega arith))) (one_small_term (k + 2 ^ i + 2 ^ j) (negsuc 0) (omega arith)))
 
 pub generators_small : (n : ℕ) (cs : List Constraint) → All (λ c. IsSmall c.row) cs → Every (λ g. IsSmall g.row) (generator_list n cs)
 unfolding generator_list
 generators_small n cs a = every-append (λ (g : Generator). IsSmall g.row) (map (of_elemental n) (elementals n)) (map of_constraint cs)
     (every-map (λ (g : Generator). IsSmall g.row) (of_elemental n) (elementals n)
-        (every_of (λ e. IsSmall (elemental_row n e)) (elementals n) (λ i d l. elemental_small n (get_or (elementals n) i d))))
+    (every_of (λ e. IsSmall (elemental_row n e)) (elementals n) (λ i d l. elemental_small n (get_or (elementals n) i d))))
     (every-map (λ (g : Generator). IsSmall g.row) of_constraint cs (every_of (λ (c : Constraint). IsSmall c.row) cs a))
 
 -- ---- rows over closed sets
@@ -113,8 +113,14 @@ small_row n ds row s c = omega (arith, s.few, coefficient_small n ds row c (ever
 
 by_kind : (k : Kind) (r : Terms) → SmallRow r → Every SmallRow (columns_by k r)
 by_kind Inequality r s = (s, tt)
-by_kind Equation r s = (s, ((λ c. subst (λ (z : ℤ). unsigned_abs z ≤ 1040 * 2 ^ 106) (sym (coefficient-negated_terms c r))
-    (abs_neg (coefficient r c) (1040 * 2 ^ 106) (s c))), tt))
+by_kind Equation r s = (
+  s,
+  (
+    (λ c. subst (λ (z : ℤ). unsigned_abs z ≤ 1040 * 2 ^ 106) (sym (coefficient-negated_terms c r))
+        (abs_neg (coefficient r c) (1040 * 2 ^ 106) (s c))),
+    tt,
+  ),
+)
 
 pub columns_small : (gs : List Generator) → Every (λ g. SmallRow g.row) gs → Every SmallRow (columns gs)
 unfolding columns

@@ -65,8 +65,13 @@ coefficient_not_negative l n from (w ∷ ws) h d a j = by_test (eqb w.0 j) (scal
 pub scaled_terms_ascend : (l n from : ℕ) (ws : List (ℕ × Rational)) → 0 < l → Every (λ q. q.den ∣ l) (numbers_of ws)
     → Every (λ q. IsWithin (scaled_number l q)) (numbers_of ws) → AreWeights rationals n from ws → Ascends from (scaled_by l ws)
 scaled_terms_ascend l n from [] h d f a = tt
-scaled_terms_ascend l n from (w ∷ ws) h d f a = (a.0, not_zero (scaled_number l w.1) (scaled_above l w.1 h d.0 a.2), f.0, ascends_from_next
-    (scaled_terms_ascend l n (suc w.0) ws h d.1 f.1 a.3))
+scaled_terms_ascend l n from (w ∷ ws) h d f a = (
+  a.0,
+  not_zero (scaled_number l w.1) (scaled_above l w.1 h d.0 a.2),
+  f.0,
+  ascends_from_next
+      (scaled_terms_ascend l n (suc w.0) ws h d.1 f.1 a.3),
+)
   where
     not_zero : (x : ℤ) → pos 0 <ℤ x → x ≢ pos 0
     not_zero x h e = omega (arith, ints, e)

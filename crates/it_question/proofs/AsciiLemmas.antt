@@ -116,7 +116,7 @@ lines_ascii [] h = IsAscii-nil
 lines_ascii (l ∷ lines) h =
     let line = trailing_ascii (without_leading l.text) (leading_ascii l.text (spelled_ascii 0 l.text l.tokens h.0.spelled)) in
     IsAscii-append (without_trailing (without_leading l.text)) (10 ∷ text_of_lines (texts_of lines)) line
-        (IsAscii-cons 10 (text_of_lines (texts_of lines)) (omega arith) (lines_ascii lines h.1))
+    (IsAscii-cons 10 (text_of_lines (texts_of lines)) (omega arith) (lines_ascii lines h.1))
 
 -- ---- the words of lines
 
@@ -148,7 +148,7 @@ lines_words [] h = tt
 lines_words (l ∷ lines) h =
     let words = until_words l.text l.tokens (spelled_ascii 0 l.text l.tokens h.0.spelled) in
     let line : AsciiWords (line_letters l) = subst (λ (m : Option Misspelling). AsciiWords (letters_until l.text l.tokens (last_letter m)))
-        (sym h.0.misspelling) words in
+    (sym h.0.misspelling) words in
     words_append (line_letters l) (letters_of_lines lines) line (lines_words lines h.1)
 
 -- ---- the names that are spelled
@@ -195,7 +195,7 @@ more_names_ascii sort most v y m k s a h = turns s.0 v m s.1 a h
     turns (suc n) v m t a h =
         let words = words_after (Take (symbol Comma)) t.0 m t.1 t.4 h in
         turns n t.2 t.3 t.6 (subst AsciiNames t.5.3.0 (new_name_ascii sort most v t.5.0 t.1 t.5.1 t.5.2 a words))
-            (words_after (Then (new_name sort most v) (λ more. Give more)) t.2 t.1 t.3 t.5 words)
+        (words_after (Then (new_name sort most v) (λ more. Give more)) t.2 t.1 t.3 t.5 words)
 
 new_names_ascii : (sort : NameSortView) (most : ℕ) (v y : NamesView) (m k : FlaggedLetters) → Spells (new_names sort most v) y m k
     → AsciiNames v → AsciiWords (letters m) → AsciiNames y
@@ -228,8 +228,8 @@ all_questions lines (b ∷ qs) a =
     let h = a.0 in
     let words : AsciiWords h.said = (subst AsciiWords h.first (lines_words (take i lines) h.whole)).1 in
     let all : AsciiWords (letters (without_flags h.said ++ the_end)) = subst AsciiWords
-        (sym (letters_append (without_flags h.said) the_end ∙ ap (λ (ls : List Letter). ls ++ file_end ∷ []) (letters_cleaned h.said)))
-        (words_append h.said (file_end ∷ []) words tt) in
+    (sym (letters_append (without_flags h.said) the_end ∙ ap (λ (ls : List Letter). ls ++ file_end ∷ []) (letters_cleaned h.said)))
+    (words_append h.said (file_end ∷ []) words tt) in
     let names = names_ascii b (without_flags h.said ++ the_end) the_end h.says all in
     let q : QuestionView = record { body = b; text = text_of_lines (texts_of (take i lines)) } in
     let first : IsAsciiQuestion q = record { text = lines_ascii (take i lines) h.whole; variables = names.variables; rates = names.rates } in

@@ -55,7 +55,7 @@ questions_limited qs lines ys r e are =
 file_is_read : (bytes : List ℕ) (qs : List QuestionView) → IsFile bytes qs → All (λ (q : QuestionView). IsRead q.body) qs
 file_is_read bytes qs asked =
     from_map IsRead (λ (q : QuestionView). q.body) qs (subst (All IsRead)
-        (sym (body_again asked.lines asked.tree.0) ∙ ap (map (λ (q : QuestionView). q.body)) asked.says)
+    (sym (body_again asked.lines asked.tree.0) ∙ ap (map (λ (q : QuestionView). q.body)) asked.says)
     (file_limited (letters_of_lines asked.lines) [] asked.tree.0 (asked_is_read file _ file_has with_texts bytes qs asked)))
 
 -- so they keep the limits

@@ -29,7 +29,7 @@ tokens_fewer at bytes [] m h = omega arith
 tokens_fewer at bytes (t ∷ ts) m h =
     let c = h.1 in
     let total : length bytes ≡ length c.gap + (length c.text + length h.0) = ap length c.whole ∙ length-append c.gap (c.text ++ h.0)
-        ∙ ap (λ (n : ℕ). length c.gap + n) (length-append c.text h.0) in
+    ∙ ap (λ (n : ℕ). length c.gap + n) (length-append c.text h.0) in
     omega (arith, total, shape_some t.kind (length c.text) (c.text ++ h.0) (shape_of t.kind c.text h.0 c.spelled c.ends), tokens_fewer t.end h.0 ts m h.2)
 
 line_bound : (n : ℕ) (bytes : List ℕ) (l : LineView) → IsLine n bytes l → length (line_letters l) ≤ length bytes + 1
@@ -102,9 +102,11 @@ pub lines_end : (n : ℕ) (split : List (List ℕ)) (lines : List LineView) → 
 lines_end n [] lines h = ([], ap letters_of_lines h)
 lines_end n (bytes ∷ more) lines (inl h) = lines_end (n + 1) more lines h.1
 lines_end n (bytes ∷ more) lines (inr h) =
-    let k = lines_end (n + 1) more h.1 h.5 in
-    (line_letters h.0 ++ k.0, ap letters_of_lines h.2 ∙ ap (λ (t : List Letter). line_letters h.0 ++ t) k.1
-        ∙ sym (append_assoc (line_letters h.0) k.0 (file_end ∷ [])))
+    let k = lines_end (n + 1) more h.1 h.5 in (
+      line_letters h.0 ++ k.0,
+      ap letters_of_lines h.2 ∙ ap (λ (t : List Letter). line_letters h.0 ++ t) k.1
+          ∙ sym (append_assoc (line_letters h.0) k.0 (file_end ∷ [])),
+    )
 
 -- they have it last, and nowhere else
 pub lines_once : (n : ℕ) (split : List (List ℕ)) (lines : List LineView) → AreLines n split lines → EndsOnce (letters_of_lines lines)

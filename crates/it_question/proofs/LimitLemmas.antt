@@ -103,33 +103,52 @@ unfolding own_line Always
 own_line_keeps g r v own true h m =
     let some = some_allowed (givens_left g own) m in
     let more : (x : GivenView) → IsGivenOf (length v.variables) x
-        → AreOwn g r v (record own { givens = own.givens ++ x ∷ [] }) = λ x hx.
-        record { few_givens = omega (arith, some, length-append own.givens (x ∷ [])); few_rows = h.few_rows; givens = all_and_one
-        (IsGivenOf (length v.variables)) own.givens x h.givens hx; rows = h.rows } in
+    → AreOwn g r v (record own { givens = own.givens ++ x ∷ [] }) = λ x hx.
+    record {
+      few_givens = omega (arith, some, length-append own.givens (x ∷ []));
+      few_rows = h.few_rows;
+      givens = all_and_one
+          (IsGivenOf (length v.variables)) own.givens x h.givens hx;
+      rows = h.rows;
+    } in
     always_weaker (to_end (given (scope_of v false))) (λ p x. IsGivenOf (length v.variables) x)
-        (λ p x. AreOwn g r v (record own { givens = own.givens ++ x ∷ [] })) (λ p x hx. more x hx)
+    (λ p x. AreOwn g r v (record own { givens = own.givens ++ x ∷ [] })) (λ p x hx. more x hx)
     (line_keeps (given (scope_of v false)) (IsGivenOf (length v.variables)) (given_keeps (scope_of v false) (length v.variables) (variables_covered v)))
 own_line_keeps g r v own false h m =
     let some = some_allowed (rows_left r own) m in
     let more : (x : RelationView) → IsRelationOf (length v.variables) (length v.rates) x
-        → AreOwn g r v (record own { rows = own.rows ++ x ∷ [] }) = λ x hx.
-        record { few_givens = h.few_givens; few_rows = omega (arith, some, length-append own.rows (x ∷ [])); givens = h.givens; rows
-        = all_and_one (IsRelationOf (length v.variables) (length v.rates)) own.rows x h.rows hx } in
+    → AreOwn g r v (record own { rows = own.rows ++ x ∷ [] }) = λ x hx.
+    record {
+      few_givens = h.few_givens;
+      few_rows = omega (arith, some, length-append own.rows (x ∷ []));
+      givens = h.givens;
+      rows
+          = all_and_one (IsRelationOf (length v.variables) (length v.rates)) own.rows x h.rows hx;
+    } in
     always_weaker (to_end (relation (scope_of v true))) (λ p x. IsRelationOf (length v.variables) (length v.rates) x)
-        (λ p x. AreOwn g r v (record own { rows = own.rows ++ x ∷ [] })) (λ p x hx. more x hx)
+    (λ p x. AreOwn g r v (record own { rows = own.rows ++ x ∷ [] })) (λ p x hx. more x hx)
     (line_keeps (relation (scope_of v true)) (IsRelationOf (length v.variables) (length v.rates))
-        (relation_keeps (scope_of v true) (length v.variables) (length v.rates) (scope_covers v true)))
+    (relation_keeps (scope_of v true) (length v.variables) (length v.rates) (scope_covers v true)))
 
 own_lines_keep : (g r : ℕ) (v : NamesView) → Always (own_lines g r v) (λ p own. AreOwn g r v own)
 unfolding more_own_lines
 own_lines_keep g r v =
     loop_keeps own_words (own_keyword g r) (own_line v) (λ p own. AreOwn g r v own) (λ p own h l e m. own_line_keeps g r v own (is_of (Keyword (codes "given")) l) h m) [] no_lines
-    (record { few_givens = omega arith; few_rows = omega arith; givens = All-nil (IsGivenOf (length v.variables)); rows = All-nil
-        (IsRelationOf (length v.variables) (length v.rates)) })
+    (record {
+      few_givens = omega arith;
+      few_rows = omega arith;
+      givens = All-nil (IsGivenOf (length v.variables));
+      rows = All-nil
+          (IsRelationOf (length v.variables) (length v.rates));
+    })
 
 lines_over : (g r : ℕ) (v : NamesView) (own : OwnLinesView) → g ≤ 64 → r ≤ 64 → AreOwn g r v own → AreLinesOver v own
-lines_over g r v own few_g few_r h = record { few_givens = omega (arith, few_g, h.few_givens); few_rows = omega (arith, few_r, h.few_rows);
-    givens = h.givens; rows = h.rows }
+lines_over g r v own few_g few_r h = record {
+  few_givens = omega (arith, few_g, h.few_givens);
+  few_rows = omega (arith, few_r, h.few_rows);
+  givens = h.givens;
+  rows = h.rows;
+}
 
 -- ---- the rates of an `eliminate` line
 
@@ -174,10 +193,18 @@ unfolding distinct more_once Always
 distinct_keeps env m k = always_weaker (once env []) _ _
     (λ p i hi. each_keeps (Punctuation Comma ∷ []) (λ a l. (None, tt {0})) (λ seen u. once env seen) (λ seen i. seen ++ i ∷ []) (AreRatesOf m)
     (λ seen hs l e u. always_weaker (once env seen) _ _ (λ q j hj.
-        record { some = omega (arith, length-append seen (j ∷ [])); within = all_and_one
-        (λ (r : ℕ). r < m) seen j hs.within hj.0; distinct = distinct_more seen j hs.distinct hj.1 }) (once_keeps env m k seen)) (i ∷ [])
-    (record { some = omega arith; within = all_and_one (λ (r : ℕ). r < m) [] i
-        (All-nil (λ (r : ℕ). r < m)) hi.0; distinct = one_distinct i })) (once_keeps env m k [])
+    record {
+      some = omega (arith, length-append seen (j ∷ []));
+      within = all_and_one
+          (λ (r : ℕ). r < m) seen j hs.within hj.0;
+      distinct = distinct_more seen j hs.distinct hj.1;
+    }) (once_keeps env m k seen)) (i ∷ [])
+    (record {
+      some = omega arith;
+      within = all_and_one (λ (r : ℕ). r < m) [] i
+          (All-nil (λ (r : ℕ). r < m)) hi.0;
+      distinct = one_distinct i;
+    })) (once_keeps env m k [])
 
 -- ---- `try` lines
 
@@ -199,9 +226,12 @@ unnamed_within n k = by_count k
     empty = empty_is_set n
 
     of_four : (a b c d : Option ℕ) → IsWithin n a → IsWithin n b → IsWithin n c → IsWithin n d → AreWithin n (a ∷ b ∷ c ∷ d ∷ [])
-    of_four a b c d ha hb hc hd = record { four = refl; within = All-cons (IsWithin n) a (b ∷ c ∷ d ∷ []) ha
-        (All-cons (IsWithin n) b (c ∷ d ∷ []) hb (All-cons (IsWithin n) c (d ∷ []) hc
-        (All-cons (IsWithin n) d [] hd (All-nil (IsWithin n))))) }
+    of_four a b c d ha hb hc hd = record {
+      four = refl;
+      within = All-cons (IsWithin n) a (b ∷ c ∷ d ∷ []) ha
+          (All-cons (IsWithin n) b (c ∷ d ∷ []) hb (All-cons (IsWithin n) c (d ∷ []) hc
+          (All-cons (IsWithin n) d [] hd (All-nil (IsWithin n)))));
+    }
 
     by_count : (k : ℕ) → AreWithin n (unnamed_sets k)
     by_count zero = of_four (Some 0) (Some 0) (Some 0) (Some 0) empty empty empty empty
@@ -235,10 +265,13 @@ try_line_keeps : (aux env : Environment) (n : ℕ) → Knows env n → (sets : S
 unfolding try_line more_parts Always
 try_line_keeps aux env n k sets h = always_weaker (part aux env sets) _ _
     (λ p first hf. always_weaker (more_parts aux env first) _ _ (λ q all ha l e m.
-        record { four = length-map all (λ s. unwrap_or s 0) ∙ ha.four; within = All-map (λ (s : ℕ). s < 2 ^ n) (λ s. unwrap_or s 0) all
-        ha.within })
+    record {
+      four = length-map all (λ s. unwrap_or s 0) ∙ ha.four;
+      within = All-map (λ (s : ℕ). s < 2 ^ n) (λ s. unwrap_or s 0) all
+          ha.within;
+    })
     (each_keeps (Punctuation Semicolon ∷ []) (λ a l. (None, tt {0})) (λ sets u. part aux env sets) (λ sets more. more) (AreWithin n)
-        (λ sets hs l e m. part_keeps aux env n k sets hs) first hf)) (part_keeps aux env n k sets h)
+    (λ sets hs l e m. part_keeps aux env n k sets hs) first hf)) (part_keeps aux env n k sets h)
 
 try_allowed : (whole : Bool) (n : ℕ) → (if whole then Some codes.Word else limit_flag n) ≡ None → 1 ≤ n
 try_allowed true n e = absurd cc
@@ -254,10 +287,12 @@ unfolding more_tries
 tries_keep aux env n k auxiliaries =
     let sets = unnamed_sets auxiliaries in
     each_keeps (Keyword (codes "try") ∷ []) (λ ts l. (if list_all is_some sets then Some codes.Word else limit_flag (most_lines - length ts), tt {0})) (λ ts u. try_line aux env sets) (λ ts t. ts ++ t ∷ []) (AreTries n)
-    (λ ts h l e m. always_weaker (try_line aux env sets) _ _ (λ p t ht.
-        (let some = try_allowed (list_all is_some sets) (most_lines - length ts) m
-        in omega (arith, some, length-append ts (t ∷ [])), all_and_one (IsTryOf n) ts t h.1 ht))
-        (try_line_keeps aux env n k sets (unnamed_within n auxiliaries))) []
+    (λ ts h l e m. always_weaker (try_line aux env sets) _ _ (λ p t ht. (
+      let some = try_allowed (list_all is_some sets) (most_lines - length ts) m
+          in omega (arith, some, length-append ts (t ∷ [])),
+      all_and_one (IsTryOf n) ts t h.1 ht,
+    ))
+    (try_line_keeps aux env n k sets (unnamed_within n auxiliaries))) []
     (omega arith, All-nil (IsTryOf n))
 
 -- ---- regions
@@ -268,7 +303,7 @@ region_of_own : (v names : NamesView) (own : OwnLinesView) → length v.variable
 region_of_own v names own few h lines =
     let variables : names.variables ≡ v.variables ++ h.grown.own = ap (λ (w : NamesView). w.variables) h.grown.is in
     let total : length names.variables ≡ length v.variables + length h.grown.own = ap (λ (ws : List (List ℕ)). length ws) variables
-        ∙ length-append v.variables h.grown.own in
+    ∙ length-append v.variables h.grown.own in
     let most = h.few (omega arith) in
     let left = min-le_left 4 (10 - length v.variables) in
     let right = min-le_right 4 (10 - length v.variables) in
@@ -293,8 +328,12 @@ unfolding region Always
 region_keeps g r v few_g few_r few = λ l e m.
     always_weaker (names_line Variable (length v.variables + auxiliaries_left v) (codes "aux") v) _ _
     (λ p names hn. always_weaker (own_lines g r names) _ _ (λ q own ho.
-        record { region = region_of_own v names own few hn (lines_over g r names own few_g few_r ho); givens = ho.few_givens; rows
-        = ho.few_rows }) (own_lines_keep g r names))
+    record {
+      region = region_of_own v names own few hn (lines_over g r names own few_g few_r ho);
+      givens = ho.few_givens;
+      rows
+          = ho.few_rows;
+    }) (own_lines_keep g r names))
     (names_line_keeps Variable (length v.variables + auxiliaries_left v) (codes "aux") v)
 
 -- ---- what a question wants
@@ -322,8 +361,11 @@ containment_keeps own v few =
     always_weaker (region g r v) _ _
     (λ p first hf l e m. always_weaker (region (givens_left g first.lines) (rows_left r first.lines) v) _ _
     (λ q second hs. always_weaker (more_tries (auxiliary_env v second.names) (env_of first.names) (unnamed_sets second.auxiliaries) []) _ _
-    (λ s tries ht l e none l' e' m'. record { over = (hf.region, hs.region, ht.0, ht.1); small = unflagged_is_small first.names
-        (lines_under own (Contain first second tries)) none })
+    (λ s tries ht l e none l' e' m'. record {
+      over = (hf.region, hs.region, ht.0, ht.1);
+      small = unflagged_is_small first.names
+          (lines_under own (Contain first second tries)) none;
+    })
     (tries_keep (auxiliary_env v second.names) (env_of first.names) (length first.names.variables) (knows_names first.names) second.auxiliaries))
     (region_keeps (givens_left g first.lines) (rows_left r first.lines) v (omega arith) (omega arith) few))
     (region_keeps g r v (omega arith) (omega arith) few)
@@ -375,8 +417,17 @@ question_keeps = always_weaker (new_names Variable most_variables no_names) _ _
     (λ q names hn. let n = are_names variables names hv hn in
     always_weaker (own_lines most_lines most_lines names) _ _
     (λ r own ho. always_weaker (verb own names) _ _ (λ s aim ha.
-        record { limits = record { some = n.some; few = n.few; few_rates = n.few_rates; lines = lines_over most_lines most_lines names own
-        (omega arith) (omega arith) ho; verb = ha.over }; small = ha.small })
+    record {
+      limits = record {
+        some = n.some;
+        few = n.few;
+        few_rates = n.few_rates;
+        lines = lines_over most_lines most_lines names own
+            (omega arith) (omega arith) ho;
+        verb = ha.over;
+      };
+      small = ha.small;
+    })
     (verb_keeps own names n.few)) (own_lines_keep most_lines most_lines names)) (names_line_keeps Rate most_rates (codes "rates") variables)) (new_names_keep Variable most_variables no_names)
 
 file_keeps : Always file (λ p qs. All IsRead qs)
@@ -392,7 +443,7 @@ file_limited ls r qs e = value_read file (All IsRead) ls r qs file_keeps e
 pub names_limited : (variables names : NamesView) (ls a b r : List Letter) → read (new_names Variable most_variables no_names) ls ≡ Ok (variables, a) → read (names_line Rate most_rates (codes "rates") variables) b ≡ Ok (names, r) → IsSpace (space_of names)
 names_limited variables names ls a b r e f =
     let hv = value_read (new_names Variable most_variables no_names) (AreNamed Variable most_variables no_names) ls a variables
-        (new_names_keep Variable most_variables no_names) e in
+    (new_names_keep Variable most_variables no_names) e in
     let hn = value_read (names_line Rate most_rates (codes "rates") variables) (MayBeNamed Rate most_rates variables) b r names (names_line_keeps Rate most_rates (codes "rates") variables) f in
     let n = are_names variables names hv hn in
     record { some = n.some; few = n.few; few_rates = n.few_rates }

@@ -47,8 +47,8 @@ texts_step old new q rest after texts xs ys x n whole h e pushed count own left 
     let m = question_line_count (body_view x) in
     let lines = map line_view rest in
     let head : question_view q ≡ question_with (body_view x) (text_of_lines (texts_of (take m lines))) = is
-        ∙ ap (λ (ts : List (List ℕ)). question_with (body_view x) (text_of_lines ts)) (own ∙ ap (λ (k : ℕ). texts_of (take k lines)) count)
-        in
+    ∙ ap (λ (ts : List (List ℕ)). question_with (body_view x) (text_of_lines ts)) (own ∙ ap (λ (k : ℕ). texts_of (take k lines)) count)
+    in
     let after_lines : map line_view after ≡ drop m lines = ap (map line_view) (left ∙ ap (λ (k : ℕ). drop k rest) count) ∙ sym (drop-map line_view m rest) in
     ap (λ (qs : List Question). map question_view qs ++ with_texts (map line_view after) (map body_view ys)) pushed
     ∙ ap (λ (prefix : List QuestionView). prefix ++ with_texts (map line_view after) (map body_view ys)) (map-append question_view old (q ∷ []))

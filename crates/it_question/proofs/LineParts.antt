@@ -59,8 +59,14 @@ line_parted : (line : List ℕ) (ts : List Token) (m : Option Misspelling) (more
 line_parted line ts m more n [] r h e = absurd h
 line_parted line [] None more n (l ∷ p) r h e =
     let same : End ≡ l = cc in
-    record { after = p; parts = ap (λ (x : Letter). x ∷ p) (sym same); more_is = cc; lines = subst
-        (λ (x : Letter). HasLines (suc n) (x ∷ p)) (sym same) h; whole = refl }
+    record {
+      after = p;
+      parts = ap (λ (x : Letter). x ∷ p) (sym same);
+      more_is = cc;
+      lines = subst
+          (λ (x : Letter). HasLines (suc n) (x ∷ p)) (sym same) h;
+      whole = refl;
+    }
 line_parted line [] (Some k) more n (l ∷ p) r h e =
     let same : Bad k.code ≡ l = cc in
     absurd (subst (λ (x : Letter). HasLines (suc n) (x ∷ p)) (sym same) h)
@@ -69,8 +75,14 @@ line_parted line (t ∷ ts) m more n (l ∷ p) r h e =
     let same : letter ≡ l = cc in
     let tails : letters_until line ts (last_letter m) ++ more ≡ p ++ r = cc in
     let k = line_parted line ts m more n p r (line_view t.kind line t.start t.end n p (subst (λ (x : Letter). HasLines (suc n) (x ∷ p)) (sym same) h)) tails in
-    record { after = k.after; parts = ap (λ (x : Letter). x ∷ p) (sym same)
-        ∙ ap (λ (q : List Letter). letter ∷ q) k.parts; more_is = k.more_is; lines = k.lines; whole = k.whole }
+    record {
+      after = k.after;
+      parts = ap (λ (x : Letter). x ∷ p) (sym same)
+          ∙ ap (λ (q : List Letter). letter ∷ q) k.parts;
+      more_is = k.more_is;
+      lines = k.lines;
+      whole = k.whole;
+    }
 
 -- n lines, and those after them
 pub record FirstLines (n : ℕ) (lines : List LineView) (p r : List Letter) : Type 0 where

@@ -111,13 +111,13 @@ unfolding terms more_terms Always
 terms_small most m s minus =
     always_flagged _ (term m s minus) _ (always_weaker (term m s minus) _ _
     (λ p t h. loop_keeps signs (λ ts l. (None, is_of (Punctuation Minus) l))
-        (λ ts minus. Then (allowed (most - length ts) (term (multiple_from m ts) s minus)) (λ t. Give (ts ++ t ∷ [])))
-        (λ p ts. AreSmall p → Every IsSmall ts)
+    (λ ts minus. Then (allowed (most - length ts) (term (multiple_from m ts) s minus)) (λ t. Give (ts ++ t ∷ [])))
+    (λ p ts. AreSmall p → Every IsSmall ts)
     (λ p ts h l e u. always_flagged _ (term (multiple_from m ts) s (is_of (Punctuation Minus) l)) _
-        (always_weaker (term (multiple_from m ts) s (is_of (Punctuation Minus) l)) _ _
-        (λ q t k small. every_more IsSmall ts t (h (front_small p _ small))
-        (k (front_small q _ (rest_small (l ∷ []) _ (rest_small p _ small)))))
-        (term_small (multiple_from m ts) s (is_of (Punctuation Minus) l))))
+    (always_weaker (term (multiple_from m ts) s (is_of (Punctuation Minus) l)) _ _
+    (λ q t k small. every_more IsSmall ts t (h (front_small p _ small))
+    (k (front_small q _ (rest_small (l ∷ []) _ (rest_small p _ small)))))
+    (term_small (multiple_from m ts) s (is_of (Punctuation Minus) l))))
     p (t ∷ []) (λ small. (h small, tt))) (term_small m s minus))
 
 pub sum_small : (most m : ℕ) (s : Scope) → Always (sum most m s) (λ p ts. AreSmall p → Every IsSmall ts)
@@ -131,7 +131,7 @@ relation_small : (s : Scope) → Always (relation s) (λ p r. AreSmall p → Has
 unfolding relation Always
 relation_small s = always_weaker (sum most_terms 1 s) _ _
     (λ p left hl. always_any compare _ (λ q sign. always_weaker (sum (most_terms - length left) (multiple_from 1 left) s) _ _
-        (λ r right hr small. (hl (front_small p _ small), hr (front_small r _ (rest_small q _ (rest_small p _ small)))))
+    (λ r right hr small. (hl (front_small p _ small), hr (front_small r _ (rest_small q _ (rest_small p _ small)))))
     (sum_small (most_terms - length left) (multiple_from 1 left) s))) (sum_small most_terms 1 s)
 
 given_small : (s : Scope) → Always (given s) (λ p g. AreSmall p → GivenHasSmallNumbers g)
@@ -156,11 +156,17 @@ own_line_small : (v : NamesView) (own : OwnLinesView) (b : Bool)
     → Always (own_line v own b) (λ p y. AreSmall p → LinesHaveSmallNumbers own → LinesHaveSmallNumbers y)
 unfolding own_line Always
 own_line_small v own true = always_weaker (given (scope_of v false)) _ _
-    (λ p x h l e u small k. (every_more GivenHasSmallNumbers own.givens x k.0
-    (h (front_small p ((l ∷ []) ++ []) (front_small (p ++ ((l ∷ []) ++ [])) [] small))), k.1)) (given_small (scope_of v false))
+    (λ p x h l e u small k. (
+      every_more GivenHasSmallNumbers own.givens x k.0
+          (h (front_small p ((l ∷ []) ++ []) (front_small (p ++ ((l ∷ []) ++ [])) [] small))),
+      k.1,
+    )) (given_small (scope_of v false))
 own_line_small v own false = always_weaker (relation (scope_of v true)) _ _
-    (λ p x h l e u small k. (k.0, every_more HasSmallNumbers own.rows x k.1
-    (h (front_small p ((l ∷ []) ++ []) (front_small (p ++ ((l ∷ []) ++ [])) [] small))))) (relation_small (scope_of v true))
+    (λ p x h l e u small k. (
+      k.0,
+      every_more HasSmallNumbers own.rows x k.1
+          (h (front_small p ((l ∷ []) ++ []) (front_small (p ++ ((l ∷ []) ++ [])) [] small))),
+    )) (relation_small (scope_of v true))
 
 own_lines_small : (g r : ℕ) (v : NamesView) → Always (own_lines g r v) (λ p own. AreSmall p → LinesHaveSmallNumbers own)
 unfolding more_own_lines
@@ -178,10 +184,13 @@ containment_small own v =
     let r = rows_left most_lines own in
     always_weaker (region g r v) _ _
     (λ p first hf l e u. always_weaker (region (givens_left g first.lines) (rows_left r first.lines) v) _ _
-        (λ q second hs. always_any (more_tries (auxiliary_env v second.names) (env_of first.names) (unnamed_sets second.auxiliaries) []) _
-        (λ r tries l' e' u' l'' e'' u'' small. (hf (front_small p _ small), hs
-        (front_small q _ (rest_small (l ∷ []) _ (rest_small p _ small))))))
-        (region_small (givens_left g first.lines) (rows_left r first.lines) v)) (region_small g r v)
+    (λ q second hs. always_any (more_tries (auxiliary_env v second.names) (env_of first.names) (unnamed_sets second.auxiliaries) []) _
+    (λ r tries l' e' u' l'' e'' u'' small. (
+      hf (front_small p _ small),
+      hs
+          (front_small q _ (rest_small (l ∷ []) _ (rest_small p _ small))),
+    )))
+    (region_small (givens_left g first.lines) (rows_left r first.lines) v)) (region_small g r v)
 
 pub relation_line_small : (v : NamesView) → Always (to_end (relation (scope_of v true))) (λ p x. AreSmall p → HasSmallNumbers x)
 unfolding Always
@@ -193,9 +202,12 @@ verb_small own v = (
   λ l e u. always_weaker (to_end (relation (scope_of v true))) (λ p x. AreSmall p → HasSmallNumbers x)
       (λ p x. AreSmall ((l ∷ []) ++ (p ++ [])) → HasSmallNumbers x) (λ p x h small. h
       (front_small p [] (rest_small (l ∷ []) (p ++ []) small))) (relation_line_small v),
-  (λ l e u. always_any (to_end (distinct (index_of v.rates))) (λ q x. AreSmall ((l ∷ []) ++ (q ++ [])) → Unit {0})
-      (λ q x small. tt), λ l e u. always_weaker (containment own v) _ _ (λ q y h small. h (rest_small (l ∷ []) q small))
-      (containment_small own v)),
+  (
+    λ l e u. always_any (to_end (distinct (index_of v.rates))) (λ q x. AreSmall ((l ∷ []) ++ (q ++ [])) → Unit {0})
+        (λ q x small. tt),
+    λ l e u. always_weaker (containment own v) _ _ (λ q y h small. h (rest_small (l ∷ []) q small))
+        (containment_small own v),
+  ),
 )
 
 question_small : Always question (λ p q. AreSmall p → QuestionHasSmallNumbers q)
@@ -203,14 +215,14 @@ unfolding question Always
 question_small = always_any (new_names Variable most_variables no_names) _ (λ p variables. always_any (names_line Rate most_rates (codes "rates") variables) _
     (λ q names. always_weaker (own_lines most_lines most_lines names) _ _ (λ r own ho. always_weaker (verb own names) _ _ (λ w aim ha small.
     let after = rest_small q _ (rest_small p _ small) in (ho (front_small r _ after), ha (front_small w _ (rest_small r _ after))))
-        (verb_small own names)) (own_lines_small most_lines most_lines names)))
+    (verb_small own names)) (own_lines_small most_lines most_lines names)))
 
 pub file_small : Always file (λ p qs. AreSmall p → Every QuestionHasSmallNumbers qs)
 unfolding file more_questions Always
 file_small = always_weaker (more_questions []) _ _ (λ p qs h l e u small. h (front_small p _ small))
     (loop_keeps (Keyword (codes "vars") ∷ []) (λ qs l. (limit_flag (most_questions - length qs), tt {0})) (λ qs u. Then question (λ q. Give (qs ++ q ∷ []))) (λ p qs. AreSmall p → Every QuestionHasSmallNumbers qs)
     (λ p qs h l e u. always_weaker question _ _ (λ q b k small. every_more QuestionHasSmallNumbers qs b (h (front_small p _ small))
-        (k (front_small q _ (rest_small (l ∷ []) _ (rest_small p _ small))))) question_small) [] [] (λ small. tt))
+    (k (front_small q _ (rest_small (l ∷ []) _ (rest_small p _ small))))) question_small) [] [] (λ small. tt))
 
 -- ---- the letters of lines
 
@@ -240,7 +252,7 @@ lines_small n [] lines h = subst (λ (ls : List LineView). AreSmall (letters_of_
 lines_small n (bytes ∷ more) lines (inl h) = lines_small (n + 1) more lines h.1
 lines_small n (bytes ∷ more) lines (inr h) = subst (λ (ls : List LineView). AreSmall (letters_of_lines ls)) (sym h.2)
     (before_small (letters_until h.0.text h.0.tokens (last_letter h.0.misspelling)) (letters_of_lines h.1)
-        (line_small h.0.text 0 h.0.text h.0.tokens h.0.misspelling h.3.spelled) (lines_small (n + 1) more h.1 h.5))
+    (line_small h.0.text 0 h.0.text h.0.tokens h.0.misspelling h.3.spelled) (lines_small (n + 1) more h.1 h.5))
 
 -- ---- files
 
@@ -254,5 +266,5 @@ pub file_has_small_numbers : (bytes : List ℕ) (qs : List QuestionView) → IsF
 file_has_small_numbers bytes qs asked =
     let small = lines_small 1 (split_lines bytes) asked.lines asked.cut in
     let all = always_said file _ file_has (λ p qs. AreSmall p → Every QuestionHasSmallNumbers qs) file_small
-        (letters_of_lines asked.lines) asked.tree.0 (said file with_texts bytes qs asked) small in
+    (letters_of_lines asked.lines) asked.tree.0 (said file with_texts bytes qs asked) small in
     subst (Every (λ (q : QuestionView). QuestionHasSmallNumbers q.body)) asked.says (texts_apart asked.lines asked.tree.0 all)

@@ -84,7 +84,7 @@ whole_ok {A} f o h ls more x e = by_result (read f ls) refl e
     by_result (Ok y) is k =
         let ends = at_end y.1 y.0 x k in
         let here : read f ls ≡ Ok (x, End ∷ []) = is ∙ ap (λ (p : A × List Letter). Ok p)
-            (ap (λ (r : List Letter). (y.0, r)) ends.0 ∙ ap (λ (z : A). (z, End ∷ [])) ends.1) in
+        (ap (λ (r : List Letter). (y.0, r)) ends.0 ∙ ap (λ (z : A). (z, End ∷ [])) ends.1) in
         ap (λ (t : Reads A). then_end t) (part_ok f o h ls (End ∷ []) more x here tt)
 
 -- ---- where nothing is left

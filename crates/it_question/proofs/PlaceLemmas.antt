@@ -33,7 +33,7 @@ pub count_step : (lines : List Line) (i : ℕ) (l : Line) → i < length lines �
     + length (letters_of_lines (map line_view (drop (i + 1) lines)))
 count_step lines i l lt e =
     ap (λ (ls : List LineView). length (letters_of_lines ls)) (from_line lines i l lt)
-        ∙ letters_length (line_view (slice_index_or lines i l)) (map line_view (drop (i + 1) lines))
+    ∙ letters_length (line_view (slice_index_or lines i l)) (map line_view (drop (i + 1) lines))
     ∙ ap (λ (x : Line). suc (length x.tokens.tokens.items) + length (letters_of_lines (map line_view (drop (i + 1) lines)))) (sym e)
 
 -- a place in the first of two lists, and in the second

@@ -34,10 +34,10 @@ split_at_feed [] zero b after all stops e = absurd cc
 split_at_feed [] (suc n) b after all stops e = absurd cc
 split_at_feed (c ∷ bytes) zero b after all stops e =
     ap (λ (t : Bool). cond t ([] ∷ split_lines bytes) (in_front c (split_lines bytes))) (is_same (c == 10) false stops)
-        ∙ ap (λ (t : List ℕ). [] ∷ split_lines (drop 1 t)) e
+    ∙ ap (λ (t : List ℕ). [] ∷ split_lines (drop 1 t)) e
 split_at_feed (c ∷ bytes) (suc n) b after all stops e =
     ap (λ (t : Bool). cond t ([] ∷ split_lines bytes) (in_front c (split_lines bytes))) (is_same (c == 10) true all.0)
-        ∙ ap (in_front c) (split_at_feed bytes n b after all.1 stops e)
+    ∙ ap (in_front c) (split_at_feed bytes n b after all.1 stops e)
 
 -- a last line without one
 pub split_at_end : (bytes : List ℕ) (n : ℕ) → AreAll (is_other 10) (take n bytes) → drop n bytes ≡ [] → 1 ≤ length bytes → split_lines bytes ≡ take n bytes ∷ []
@@ -68,7 +68,7 @@ cut_at_feed bytes prefix [] n r f e some = absurd (omega arith)
 cut_at_feed bytes prefix (b ∷ rest) n r f e some =
     let all : take (suc (length rest) - 1) rest ≡ rest = take_all (suc (length rest) - 1) rest (omega arith) in
     split_at_feed bytes n b rest r.all r.stops (sym e) ∙ ap (λ (t : List ℕ). t ∷ split_lines rest) (sym f)
-        ∙ ap (λ (t : List ℕ). prefix ∷ split_lines t) (sym all)
+    ∙ ap (λ (t : List ℕ). prefix ∷ split_lines t) (sym all)
 
 pub cut_at_end : (bytes prefix rest : List ℕ) (n : ℕ) → IsLongestRun (is_other 10) bytes n → prefix ≡ take n bytes → rest ≡ drop n bytes
     → length rest < 1 → 1 ≤ length bytes → split_lines bytes ≡ prefix ∷ split_lines rest

@@ -45,8 +45,12 @@ not_grown sort v = record { own = []; is = own_none sort; some = omega arith }
     own_none Rate = ap (λ (names : List (List ℕ)). record { variables = v.variables; rates = names }) (sym (append-nil v.rates))
 
 pub grown_more : (sort : NameSortView) (least : ℕ) (v w : NamesView) (name : List ℕ) → IsGrown sort least v w → IsGrown sort 1 v (with_name sort w name)
-grown_more sort least v w name g = record { own = g.own ++ name ∷ []; is = ap (λ (u : NamesView). with_name sort u name) g.is
-    ∙ own_more sort; some = omega (arith, length-append g.own (name ∷ [])) }
+grown_more sort least v w name g = record {
+  own = g.own ++ name ∷ [];
+  is = ap (λ (u : NamesView). with_name sort u name) g.is
+      ∙ own_more sort;
+  some = omega (arith, length-append g.own (name ∷ []));
+}
   where
     own_more : (sort : NameSortView) → with_name sort (with_own sort v g.own) name ≡ with_own sort v (g.own ++ name ∷ [])
     own_more Variable = ap (λ (names : List (List ℕ)). record { variables = names; rates = v.rates }) (append_assoc v.variables g.own (name ∷ []))
@@ -82,7 +86,7 @@ unfolding new_names Spells
 new_names_lines sort most v y m k s =
     let grown = more_names_grow sort most v s.0 s.3.0 s.1 s.3.1 (one_more_name sort 0 most v v s.0 m s.1 (not_grown sort v) s.2) s.3.2 in
     let tokens = tokens_then (in_line (new_name sort most v) (new_name_has_no_end sort most v) s.0 m s.1 s.2)
-        (in_line (more_new sort most s.0) (more_new_has_no_end sort most s.0) s.3.0 s.1 s.3.1 s.3.2) in
+    (in_line (more_new sort most s.0) (more_new_has_no_end sort most s.0) s.3.0 s.1 s.3.1 s.3.2) in
     (puts_at (tokens_lines 0 tokens (end_puts _ s.3.3.0 s.3.1 s.3.3.1 refl s.3.3.2)) s.3.3.3.1, subst (IsGrown sort 1 v) s.3.3.3.0 grown)
 
 -- a line with names, or neither
@@ -120,10 +124,18 @@ turns_grow t Step count i h (suc n) a y m k s =
 own_line_lines : (v : NamesView) (own : OwnLinesView) (b : Bool) (y : OwnLinesView) (m k : FlaggedLetters) → Spells (own_line v own b) y m k
     → (i : ℕ) × Puts (HasLines (suc i)) m k × (own_line_count y ≡ own_line_count own + suc i)
 unfolding own_line Spells
-own_line_lines v own true y m k s = (0, puts_at (line_puts (given (scope_of v false)) (given_has_no_end _) s.0 m s.1 s.2) s.3.1, sym
-    (ap own_line_count s.3.0) ∙ omega (arith, length-append own.givens (s.0 ∷ [])))
-own_line_lines v own false y m k s = (0, puts_at (line_puts (relation (scope_of v true)) (relation_has_no_end _) s.0 m s.1 s.2) s.3.1, sym
-    (ap own_line_count s.3.0) ∙ omega (arith, length-append own.rows (s.0 ∷ [])))
+own_line_lines v own true y m k s = (
+  0,
+  puts_at (line_puts (given (scope_of v false)) (given_has_no_end _) s.0 m s.1 s.2) s.3.1,
+  sym
+      (ap own_line_count s.3.0) ∙ omega (arith, length-append own.givens (s.0 ∷ [])),
+)
+own_line_lines v own false y m k s = (
+  0,
+  puts_at (line_puts (relation (scope_of v true)) (relation_has_no_end _) s.0 m s.1 s.2) s.3.1,
+  sym
+      (ap own_line_count s.3.0) ∙ omega (arith, length-append own.rows (s.0 ∷ [])),
+)
 
 own_lines_lines : (g r : ℕ) (v : NamesView) (own y : OwnLinesView) (m k : FlaggedLetters) → Spells (more_own_lines g r v own) y m k
     → Grows own_line_count own y m k
@@ -145,7 +157,7 @@ try_line_lines : (aux env : Environment) (sets : Sets) (y : List ℕ) (m k : Fla
 unfolding try_line Spells
 try_line_lines aux env sets y m k s =
     let tokens = tokens_then (in_line (part aux env sets) (part_has_no_end aux env sets) s.0 m s.1 s.2)
-        (in_line (more_parts aux env s.0) (parts_has_no_end aux env s.0) s.3.0 s.1 s.3.1 s.3.2) in
+    (in_line (more_parts aux env s.0) (parts_has_no_end aux env s.0) s.3.0 s.1 s.3.1 s.3.2) in
     puts_at (tokens_lines 0 tokens (end_puts _ s.3.3.0 s.3.1 s.3.3.1 refl s.3.3.2)) s.3.3.3.1
 
 tries_lines : (aux env : Environment) (sets : Sets) (ts y : List (List ℕ)) (m k : FlaggedLetters)
@@ -174,7 +186,7 @@ region_lines g r v y m k s =
     let own = own_lines_lines g r s.3.0 _ s.3.3.0 s.3.1 s.3.3.1 s.3.3.2 in
     let all = lines_then 1 (names.0 + own.lines) (end_puts _ s.0 m s.1 refl s.2) (lines_then names.0 own.lines names.1 own.puts) in
     subst (λ (x : RegionView). Puts (HasLines (region_line_count x)) m k) s.3.3.3.0
-        (lines_as (1 + (names.0 + own.lines)) _ (puts_at all s.3.3.3.1) (omega (arith, own.grows, aux_lines names.0 v s.3.0 names.2)))
+    (lines_as (1 + (names.0 + own.lines)) _ (puts_at all s.3.3.3.1) (omega (arith, own.grows, aux_lines names.0 v s.3.0 names.2)))
 
 -- ---- questions
 
@@ -198,8 +210,8 @@ containment_lines own v y m k s =
     let j = region_line_count s.3.3.0 in
     let after = some_lines (j + (tries.lines + 1)) (omega arith) (taken_token (word (codes "region")) s.3.0 s.1 s.3.1 refl s.3.2) (lines_then j (tries.lines + 1) second (lines_then tries.lines 1 tries.puts contain)) in
     subst (λ (x : VerbView). Puts (HasLines (verb_line_count x)) m k) s.3.3.3.3.3.3.0
-        (lines_as (i + (j + (tries.lines + 1))) _ (puts_at (lines_then i (j + (tries.lines + 1)) first after) s.3.3.3.3.3.3.1)
-        (omega (arith, tries.grows)))
+    (lines_as (i + (j + (tries.lines + 1))) _ (puts_at (lines_then i (j + (tries.lines + 1)) first after) s.3.3.3.3.3.3.1)
+    (omega (arith, tries.grows)))
 
 verb_has_lines : (y : VerbView) → 1 ≤ verb_line_count y
 verb_has_lines (Prove r) = omega arith
@@ -244,7 +256,10 @@ pub questions_lines : (qs ys : List BodyView) (m k : FlaggedLetters) → Spells 
 unfolding more_questions Spells
 questions_lines qs ys m k s =
     turns_grow (λ (qs : List BodyView). record { kinds = Keyword (codes "vars") ∷ []; says = λ l. (limit_flag (most_questions - length qs), tt {0}) }) (λ qs u. Spells (Then question (λ q. Give (qs ++ q ∷ [])))) all_lines (λ qs. refl)
-    (λ qs u c m k t. let q = t.0 in let i = min 1 (length q.names.rates) + own_line_count q.lines + verb_line_count q.verb in
-    (i, lines_as (question_line_count q) (suc i) (puts_at (question_lines q m t.1 t.2) t.3.1) (omega arith), sym (ap all_lines t.3.0)
-        ∙ lines_append qs q ∙ omega arith))
+    (λ qs u c m k t. let q = t.0 in let i = min 1 (length q.names.rates) + own_line_count q.lines + verb_line_count q.verb in (
+      i,
+      lines_as (question_line_count q) (suc i) (puts_at (question_lines q m t.1 t.2) t.3.1) (omega arith),
+      sym (ap all_lines t.3.0)
+          ∙ lines_append qs q ∙ omega arith,
+    ))
     s.0 qs ys m k s.1

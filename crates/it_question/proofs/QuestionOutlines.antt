@@ -41,8 +41,8 @@ pub new_names_has : (sort : NameSortView) (most : ℕ) (v : NamesView) → Has (
 unfolding new_names more_new
 new_names_has sort most v =
     has_then _ _ _ _ (new_name_has sort most v) (λ first. has_then _ _ _ _
-        (has_while _ _ _ _ _ (λ v u. has_then _ _ _ _ (new_name_has sort most v) (λ more. has_give _) refl) refl)
-        (λ all. has_then _ _ _ _ end_has (λ u. has_give _) refl) refl) refl
+    (has_while _ _ _ _ _ (λ v u. has_then _ _ _ _ (new_name_has sort most v) (λ more. has_give _) refl) refl)
+    (λ all. has_then _ _ _ _ end_has (λ u. has_give _) refl) refl) refl
 
 names_line_has : (sort : NameSortView) (most : ℕ) (keyword : List ℕ) (v : NamesView)
     → Has (names_line sort most keyword v) (record { begins = Keyword keyword ∷ []; skips = true; goes = Keyword keyword ∷ [] })
@@ -79,8 +79,8 @@ try_line_has : (aux env : Environment) (sets : Sets) → Has (try_line aux env s
 unfolding try_line more_parts
 try_line_has aux env sets =
     has_then _ _ _ _ (part_has aux env sets) (λ first. has_then _ _ _ _ (has_while _ _ _ _ _
-        (λ sets u. has_then _ _ _ _ (part_has aux env sets) (λ more. has_give _) refl) refl)
-        (λ all. has_then _ _ _ _ (has_take _ End refl) (λ u. has_give _) refl) refl) refl
+    (λ sets u. has_then _ _ _ _ (part_has aux env sets) (λ more. has_give _) refl) refl)
+    (λ all. has_then _ _ _ _ (has_take _ End refl) (λ u. has_give _) refl) refl) refl
 
 tries_has : (aux env : Environment) (sets : Sets) (ts : List (List ℕ)) → Has (more_tries aux env sets ts) (record { begins = Keyword (codes "try") ∷ []; skips = true; goes = Keyword (codes "try") ∷ [] })
 unfolding more_tries
@@ -108,9 +108,9 @@ verb_has : (own : OwnLinesView) (v : NamesView) → Has (verb own v) (one_of (Ke
 unfolding verb
 verb_has own v =
     has_if _ _ _ _ _ (λ u. has_then _ _ _ _ (has_then _ _ _ _ (relation_has _) (λ x. has_then _ _ _ _ end_has (λ u. has_give _) refl) refl)
-        (λ x. has_give _) refl)
+    (λ x. has_give _) refl)
     (has_if _ _ _ _ _ (λ u. has_then _ _ _ _ (has_then _ _ _ _ (distinct_has _)
-        (λ rates. has_then _ _ _ _ end_has (λ u. has_give _) refl) refl) (λ x. has_give _) refl)
+    (λ rates. has_then _ _ _ _ end_has (λ u. has_give _) refl) refl) (λ x. has_give _) refl)
     (has_then _ _ _ _ (word_has (codes "region") refl) (λ u. containment_has own v) refl) refl) refl
 
 question_has : Has question (one_of (WordBut [] ∷ []))

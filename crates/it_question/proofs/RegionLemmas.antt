@@ -75,8 +75,8 @@ module _ (own : OwnLinesView) (v : NamesView) (ls a b d : List Letter) (first se
       let r = rows_left most_lines own in
       let one = region_under i j g r v ls a first h.most_givens_are h.most_rows_are h.one in
       let two = region_under m n (givens_left g first.lines) (rows_left r first.lines) v b d second
-          (h.givens ∙ ap (λ (k : ℕ). givens_left k first.lines) h.most_givens_are)
-          (h.rows ∙ ap (λ (k : ℕ). rows_left k first.lines) h.most_rows_are) h.two in
+      (h.givens ∙ ap (λ (k : ℕ). givens_left k first.lines) h.most_givens_are)
+      (h.rows ∙ ap (λ (k : ℕ). rows_left k first.lines) h.most_rows_are) h.two in
       then_gives _ _ ls a first one ∙ then_gives _ _ a b tt h.word ∙ then_gives _ _ b d second two
 
   -- at a fault in the `try` lines

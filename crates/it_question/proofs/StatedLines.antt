@@ -21,6 +21,6 @@ pub region_stated : (s : Space) (n given row : ℕ) (gs more_gs : List GivenView
     (line_demands n (record { givens = gs ++ more_gs; rows = rs ++ more_rs })) all
 region_stated s n given row gs more_gs rs more_rs a b c d ab abc all g r sa sb sc sd e f h =
     stated-append s (given_origins n 1 (gs ++ more_gs)) (row_origins 1 (rs ++ more_rs)) (flat_map (demands n) (gs ++ more_gs))
-        (map (demand_of n) (rs ++ more_rs)) ab (c ++ d) all
+    (map (demand_of n) (rs ++ more_rs)) ab (c ++ d) all
     (givens-append s n given gs more_gs a b ab g sa sb e) (rows-append s n row rs more_rs c d (c ++ d) r sc sd refl)
-        (h ∙ ap (λ (x : List Constraint). x ++ d) f ∙ append_assoc ab c d)
+    (h ∙ ap (λ (x : List Constraint). x ++ d) f ∙ append_assoc ab c d)

@@ -55,7 +55,7 @@ stated_are s places ds cs h = pairs_are (zip places ds) cs (zip-both ComesFrom (
     pairs_are (p ∷ ps) (c ∷ cs) a =
         let row = row_is_terms_of_form s p.1.form c.row a.0.1.row in
         let one : c ≡ constraint_of s p = ap₂ (λ (x : Terms) (y : Kind). constraint x y c.origin) row a.0.1.kind
-            ∙ ap (constraint (terms_of_form (size_of s) p.1.form) p.1.kind) a.0.0 in
+        ∙ ap (constraint (terms_of_form (size_of s) p.1.form) p.1.kind) a.0.0 in
         ap₂ (λ (x : Constraint) (xs : List Constraint). x ∷ xs) one (pairs_are ps cs a.1)
 
 -- they are a problem
@@ -69,8 +69,13 @@ stated_problem s places ds cs k few h = record {
 
 -- lines have few demands
 pub lines-few : (n : ℕ) (own : OwnLinesView) → All (IsGivenOf n) own.givens → length (line_demands n own) ≤ 14 * length own.givens + length own.rows
-lines-few n own a = omega (arith, length-append (flat_map (demands n) own.givens)
-    (map (demand_of n) own.rows), givens-few n own.givens a, length-map own.rows (demand_of n))
+lines-few n own a = omega (
+  arith,
+  length-append (flat_map (demands n) own.givens)
+      (map (demand_of n) own.rows),
+  givens-few n own.givens a,
+  length-map own.rows (demand_of n),
+)
 
 -- the flag by the size of the problem with the constraints that were made
 pub flag_by_size : (v : NamesView) (own : OwnLinesView) (cs : List Constraint) (large : Bool)
@@ -80,7 +85,7 @@ unfolding size_flag
 flag_by_size v own cs large h e =
     let same = stated_are (space_of v) (line_origins (length v.variables) own) (line_demands (length v.variables) own) cs h in
     ap (λ (ds : List Constraint). flag_if_large (nat_lt most_entries (table_size (record { space = space_of v; constraints = ds }))))
-        (sym same) ∙ ap flag_if_large (sym e)
+    (sym same) ∙ ap flag_if_large (sym e)
 
 -- ---- a question's lines under the names of its region
 
@@ -88,8 +93,12 @@ region_wider : (v : NamesView) (r : RegionView) → IsRegionOf v r → length v.
 region_wider v r a = omega (arith, ap length a.variables, length-append v.variables a.own)
 
 pub region_space : (v : NamesView) (r : RegionView) → IsSpace (space_of v) → IsRegionOf v r → IsSpace (space_of r.names)
-region_space v r k a = record { some = omega (arith, k.some, region_wider v r a); few = a.few_variables; few_rates
-    = omega (arith, k.few_rates, ap length a.rates) }
+region_space v r k a = record {
+  some = omega (arith, k.some, region_wider v r a);
+  few = a.few_variables;
+  few_rates
+      = omega (arith, k.few_rates, ap length a.rates);
+}
 
 pub region_givens : (v : NamesView) (r : RegionView) (gs : List GivenView) → IsRegionOf v r → All (IsGivenOf (length v.variables)) gs
     → All (IsGivenOf (length r.names.variables)) gs
@@ -100,7 +109,7 @@ pub region_rows : (v : NamesView) (r : RegionView) (rs : List RelationView) → 
     → All (IsRelationOf (length v.variables) (length v.rates)) rs → All (IsRelationOf (length r.names.variables) (length r.names.rates)) rs
 region_rows v r rs a h = All-weaker (IsRelationOf (length v.variables) (length v.rates)) (IsRelationOf (length r.names.variables) (length r.names.rates))
     (λ x d. subst (λ (m : ℕ). IsRelationOf (length r.names.variables) m x) (sym (ap length a.rates))
-        (wider_relation (length v.variables) (length r.names.variables) (length v.rates) (region_wider v r a) x d)) rs h
+    (wider_relation (length v.variables) (length r.names.variables) (length v.rates) (region_wider v r a) x d)) rs h
 
 -- the constraints of lines within the limits are a problem
 pub lines_problem : (s : Space) (own : OwnLinesView) (cs : List Constraint) → IsSpace s → All (IsGivenOf s.variables) own.givens
@@ -148,8 +157,18 @@ few_variables v own few rates a givens lines =
     let q = problem_of_lines v own in
     let ds = zip (line_origins n own) (line_demands n own) in
     let rows : table_rows q ≤ 527 = rows-few n 9 (length v.rates) (dependences_of q) few rates in
-    let columns : table_columns q ≤ 7064 = omega (arith, elementals-few n few, columns-few q.constraints, length-map ds
-        (constraint_of (space_of v)), length-zip (line_origins n own) (line_demands n own), lines-few n own a, givens, lines, rows) in
+    let columns : table_columns q ≤ 7064 = omega (
+      arith,
+      elementals-few n few,
+      columns-few q.constraints,
+      length-map ds
+          (constraint_of (space_of v)),
+      length-zip (line_origins n own) (line_demands n own),
+      lines-few n own a,
+      givens,
+      lines,
+      rows,
+    ) in
     let size : table_rows q * table_columns q ≤ 527 * 7064 = mul-le-mul rows columns in
     let small : nat_lt most_entries (table_rows q * table_columns q) ≡ false = grind (arith, nat_tests) in
     rw small refl

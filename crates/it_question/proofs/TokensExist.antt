@@ -98,7 +98,7 @@ tokens_step at bytes more = by_run (run_there is_space bytes)
       | inl f ↦
           let shape : IsTokenPrefix f.0 f.1 (drop g bytes) = subst (λ (t : List ℕ). IsTokenPrefix f.0 f.1 t) (sym e) f.2 in
           token_there at bytes g f.0 f.1 run shape (more (at + g + f.1) (drop f.1 (drop g bytes))
-              (omega (arith, length-drop g bytes, length-drop f.1 (drop g bytes), ap length e, shape_some f.0 f.1 (drop g bytes) shape)))
+          (omega (arith, length-drop g bytes, length-drop f.1 (drop g bytes), ap length e, shape_some f.0 f.1 (drop g bytes) shape)))
       | inr f ↦ wrong_there at bytes g f.0 run (subst (λ (t : List ℕ). IsWrong f.0 t) (sym e) f.1)
     ]
 

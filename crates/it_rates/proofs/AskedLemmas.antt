@@ -22,8 +22,14 @@ all_lines_question q k = record {
   few = k.few;
   few_rates = k.few_rates;
   lines = k.lines;
-  verb = record { few = omega arith; left = λ i d h. absurd (omega (arith, h)); right = λ i d h. absurd
-      (omega (arith, h)); some_multiple = omega arith; small_multiple = omega arith };
+  verb = record {
+    few = omega arith;
+    left = λ i d h. absurd (omega (arith, h));
+    right = λ i d h. absurd
+        (omega (arith, h));
+    some_multiple = omega arith;
+    small_multiple = omega arith;
+  };
 }
 
 -- the rates that a question eliminates are among its own, and at least one

@@ -33,9 +33,11 @@ pub number_ok : {E : Type 0} (r : Result ℤ E) (num den : ℤ) (left right : Te
     → IsWithin (den *ℤ coefficient right c) → below ≡ den *ℤ coefficient right c → OkIff r (IsWithin (above -ℤ below)) (above -ℤ below)
     → OkIff r (NumberFits num den left right c) (side_number num den left right c)
 number_ok r num den left right c above below f e g d k = OkIff-same r (IsWithin (above -ℤ below)) (NumberFits num den left right c)
-    (above -ℤ below) (side_number num den left right c)
-    ((λ w. record { left_times = f; right_times = g; difference = subst₂ (λ (m n : ℤ). IsWithin (m -ℤ n)) e d w }), λ w. subst₂
-        (λ (m n : ℤ). IsWithin (m -ℤ n)) (sym e) (sym d) w.difference)
+    (above -ℤ below) (side_number num den left right c) (
+      (λ w. record { left_times = f; right_times = g; difference = subst₂ (λ (m n : ℤ). IsWithin (m -ℤ n)) e d w }),
+      λ w. subst₂
+          (λ (m n : ℤ). IsWithin (m -ℤ n)) (sym e) (sym d) w.difference,
+    )
     (ap₂ (λ m n. m -ℤ n) e d) k
 
 -- over all coordinates
@@ -59,15 +61,18 @@ number_at size num den left right c h l =
 
 module _ (size : ℕ) (num den : ℤ) (left right : Terms) where
   decides_formed : (c : ℕ) → Decides (is_formed num den left right c) (NumberFits num den left right c)
-  decides_formed c = (λ e. let f = parts.0 e in record { left_times = f.0; right_times = f.1.0; difference = f.1.1 }, λ f. parts.1
-      (f.left_times, (f.right_times, f.difference)))
+  decides_formed c = (
+    λ e. let f = parts.0 e in record { left_times = f.0; right_times = f.1.0; difference = f.1.1 },
+    λ f. parts.1
+        (f.left_times, (f.right_times, f.difference)),
+  )
     where
       parts : Decides (is_formed num den left right c) (IsWithin (num *ℤ coefficient left c)
           × (IsWithin (den *ℤ coefficient right c) × IsWithin (side_number num den left right c)))
       parts = Decides-and (is_within (num *ℤ coefficient left c)) (is_within (den *ℤ coefficient right c)
           && is_within (side_number num den left right c)) (decides_within (num *ℤ coefficient left c))
           (Decides-and (is_within (den *ℤ coefficient right c)) (is_within (side_number num den left right c))
-              (decides_within (den *ℤ coefficient right c)) (decides_within (side_number num den left right c)))
+          (decides_within (den *ℤ coefficient right c)) (decides_within (side_number num den left right c)))
 
   pub row_start : IsUnderWay size num den left right 1 []
   unfolding side_row unformed
@@ -143,7 +148,7 @@ module _ (size : ℕ) (num den : ℤ) (left right : Terms) where
     canonical = ascends_lower 0 1 (terms_from 1 (map (side_number num den left right) (span 1 size))) (omega arith)
         (terms_ascend 1 (map (side_number num den left right) (span 1 size)) (all_of IsWithin (map (side_number num den left right) (span 1 size))
         (every-map IsWithin (side_number num den left right) (span 1 size)
-            (every-span (λ d. IsWithin (side_number num den left right d)) 1 size (λ d k l. within_of d (a.fits d k (omega arith)))))))
+        (every-span (λ d. IsWithin (side_number num den left right d)) 1 size (λ d k l. within_of d (a.fits d k (omega arith)))))))
       where
         within_of : (d : ℕ) → NumberFits num den left right d → IsWithin (side_number num den left right d)
         within_of d f = f.difference

@@ -56,7 +56,7 @@ rational_apart e =
     let a : (Q.integer (pos 1)).num *ℤ pos 1 ≡ pos 1 *ℤ pos (Q.integer (pos 1)).den = quotient_names (pos 1) 1 (omega arith) in
     let b : (Q.integer (pos 0)).num *ℤ pos 1 ≡ pos 0 *ℤ pos (Q.integer (pos 0)).den = quotient_names (pos 0) 1 (omega arith) in
     parts_differ (Q.integer (pos 1)).num (Q.integer (pos 0)).num (Q.integer (pos 1)).den (Q.integer (pos 0)).den
-        (Q.integer (pos 1)).positive a b (ap (λ q. q.num) e)
+    (Q.integer (pos 1)).positive a b (ap (λ q. q.num) e)
   where
     parts_differ : (m n : ℤ) (d e : ℕ) → 0 < d → m *ℤ pos 1 ≡ pos 1 *ℤ pos d → n *ℤ pos 1 ≡ pos 0 *ℤ pos e → m ≡ n → ⊥
     parts_differ m n d e h p q r = omega (arith, ints)

@@ -53,7 +53,7 @@ abs_cross a b x y e = sym (unsigned_abs-mul a (pos x)) ∙ ap unsigned_abs e ∙
 pub same_across : (a b : Rational) → a.num *ℤ pos b.den ≡ b.num *ℤ pos a.den → a ≡ b
 same_across a b e =
     let d : a.den ≡ b.den = lowest_unique (unsigned_abs a.num) a.den (unsigned_abs b.num) b.den a.positive b.positive a.lowest b.lowest
-        (abs_cross a.num b.num b.den a.den e) in
+    (abs_cross a.num b.num b.den a.den e) in
     same_parts a b (cancel_factor a.num b.num b.den b.positive (e ∙ ap (λ n. b.num *ℤ pos n) d)) d
 
 -- the same value by two names

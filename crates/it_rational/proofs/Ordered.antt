@@ -69,7 +69,7 @@ module _ {A : Type 0} (F : OrderedField A) where
       by_cases (inl k) = k
       by_cases (inr k) = absurd (F.order.apart (F.order.strict F.ring.unit unit-least
           (subst (IsAtLeastZero F) (ring F.ring (a ∷ F.order.inv a ∷ []) (times (v 0) (minus (v 1))) (minus (times (v 0) (v 1))) refl
-              ∙ ap F.ring.neg (inv-above a h))
+          ∙ ap F.ring.neg (inv-above a h))
           (F.order.mul-least a (F.ring.neg (F.order.inv a)) (above-least a h) k))))
 
   -- a sum of what is at least 0 and what is above 0

@@ -42,7 +42,7 @@ difference a b = plus_names a (Q.minus b) a.num (neg_ℤ b.num) a.den b.den a.po
 pub difference_least : (a b : Rational) → (b.num *ℤ pos a.den) ≤ℤ (a.num *ℤ pos b.den) → is_at_least_zero (Q.plus a (Q.minus b)) ≡ true
 difference_least a b h = sign_of_least (Q.plus a (Q.minus b)).num
     (sign_kept (Q.plus a (Q.minus b)).num (a.num *ℤ pos b.den +ℤ neg_ℤ b.num *ℤ pos a.den) (a.den * b.den) (Q.plus a (Q.minus b)).den
-        (mul-pos a.positive b.positive) (Q.plus a (Q.minus b)).positive
+    (mul-pos a.positive b.positive) (Q.plus a (Q.minus b)).positive
     (difference a b) (difference_at_least (a.num *ℤ pos b.den) b.num (pos a.den) h))
   where
     difference_at_least : (x b d : ℤ) → (b *ℤ d) ≤ℤ x → pos 0 ≤ℤ (x +ℤ neg_ℤ b *ℤ d)
@@ -59,7 +59,7 @@ difference_below a b h = by_cases (cases_Bool (is_at_least_zero (Q.plus a (Q.min
     by_cases (inr k) = k
     by_cases (inl k) = absurd (no_difference (a.num *ℤ pos b.den) b.num (pos a.den) h
         (sign_kept (a.num *ℤ pos b.den +ℤ neg_ℤ b.num *ℤ pos a.den) (Q.plus a (Q.minus b)).num (Q.plus a (Q.minus b)).den (a.den * b.den)
-            (Q.plus a (Q.minus b)).positive (mul-pos a.positive b.positive)
+        (Q.plus a (Q.minus b)).positive (mul-pos a.positive b.positive)
         (sym (difference a b)) (least_by_sign (Q.plus a (Q.minus b)).num k)))
 
 pub cmp_less : (a b : Rational) → rational_cmp a b ≡ Less → is_at_least_zero (Q.plus a (Q.minus b)) ≡ false
@@ -71,8 +71,8 @@ pub cmp_greater : (a b : Rational) → rational_cmp a b ≡ Greater → (is_at_l
     × (is_at_least_zero (Q.plus b (Q.minus a)) ≡ false)
 cmp_greater a b e =
     let l : (b.num *ℤ pos a.den) <ℤ (a.num *ℤ pos b.den) = subst (λ (r : Ordering). MatchOrdering r
-        ((a.num *ℤ pos b.den) <ℤ (b.num *ℤ pos a.den)) (a.num *ℤ pos b.den ≡ b.num *ℤ pos a.den)
-        ((b.num *ℤ pos a.den) <ℤ (a.num *ℤ pos b.den))) e (int_ranks (a.num *ℤ pos b.den) (b.num *ℤ pos a.den)) in
+    ((a.num *ℤ pos b.den) <ℤ (b.num *ℤ pos a.den)) (a.num *ℤ pos b.den ≡ b.num *ℤ pos a.den)
+    ((b.num *ℤ pos a.den) <ℤ (a.num *ℤ pos b.den))) e (int_ranks (a.num *ℤ pos b.den) (b.num *ℤ pos a.den)) in
     (difference_least a b (less_is_at_most (b.num *ℤ pos a.den) (a.num *ℤ pos b.den) l), difference_below b a l)
   where
     less_is_at_most : (x y : ℤ) → x <ℤ y → x ≤ℤ y

@@ -42,7 +42,7 @@ chain xn xd yn yd zn zd hx hy hz p q =
     (plus (times (v 5) (plus (times (v 2) (v 1)) (minus (times (v 0) (v 3))))) (times (v 1) (plus (times (v 4) (v 3)) (minus (times (v 2) (v 5))))))
     (times (v 3) (plus (times (v 4) (v 1)) (minus (times (v 0) (v 5))))) refl in
     less_by_difference (xn *ℤ zd) (zn *ℤ xd) (uncancel_above yd (zn *ℤ xd -ℤ xn *ℤ zd) hy
-        (subst (λ (s : ℤ). pos 0 <ℤ s) law (sum_above (zd *ℤ (yn *ℤ xd -ℤ xn *ℤ yd)) (xd *ℤ (zn *ℤ yd -ℤ yn *ℤ zd)) one two)))
+    (subst (λ (s : ℤ). pos 0 <ℤ s) law (sum_above (zd *ℤ (yn *ℤ xd -ℤ xn *ℤ yd)) (xd *ℤ (zn *ℤ yd -ℤ yn *ℤ zd)) one two)))
   where
     sum_above : (s t : ℤ) → pos 0 <ℤ s → pos 0 <ℤ t → pos 0 <ℤ (s +ℤ t)
     sum_above s t h k = omega (arith, ints)
@@ -69,7 +69,7 @@ rational_total = record {
 pub rational_cmp-same_den : (x y : Rational) → x.den ≡ y.den → int_cmp x.num y.num ≡ rational_cmp x y
 rational_cmp-same_den x y e = int_cmp_is (x.num *ℤ pos y.den) (y.num *ℤ pos x.den) (int_cmp x.num y.num)
     (subst (λ (d : ℕ). MatchOrdering (int_cmp x.num y.num) ((x.num *ℤ pos y.den) <ℤ (y.num *ℤ pos d)) (x.num *ℤ pos y.den ≡ y.num *ℤ pos d)
-        ((y.num *ℤ pos d) <ℤ (x.num *ℤ pos y.den))) (sym e)
+    ((y.num *ℤ pos d) <ℤ (x.num *ℤ pos y.den))) (sym e)
     (by_ordering x.num y.num (pos y.den) (above_zero y.den y.positive) (int_cmp x.num y.num) (int_ranks x.num y.num)))
   where
     product_rises : (a b d : ℤ) → pos 0 <ℤ d → a <ℤ b → (a *ℤ d) <ℤ (b *ℤ d)

@@ -52,7 +52,7 @@ closed_after givens rows c h =
     let n = givens.space.variables in
     let read : dependences_of (with_rows givens rows) ≡ dependences_of givens = read_after n (length (elementals n)) givens.constraints rows in
     let all : generators (with_rows givens rows) ≡ generators givens ++ map of_constraint (row_constraints 1 rows) = generators_after n
-        givens.constraints (row_constraints 1 rows) in
+    givens.constraints (row_constraints 1 rows) in
     record {
       space = h.space;
       list = h.list ∙ sym read;

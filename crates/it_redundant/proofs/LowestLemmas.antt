@@ -25,7 +25,7 @@ content_of_divided ts some =
     let k : ℕ = content 0 ts in
     let j : ℕ = content 0 (divided_terms k ts) in
     let both : j * k ∣ k = content_greatest (j * k) 0 ts (dvd-zero (j * k))
-        (times_divides j k ts (content_divides 0 ts).1 (content_divides 0 (divided_terms k ts)).1) in
+    (times_divides j k ts (content_divides 0 ts).1 (content_divides 0 (divided_terms k ts)).1) in
     eq-one_of_dvd-one (dvd_of_mul-dvd-mul_right {k = k} j some (subst (λ n. j * k ∣ n) (sym (one-mul k)) both))
 
 pub lowest_again : (ts : Terms) → lowest_terms (lowest_terms ts) ≡ lowest_terms ts
@@ -36,7 +36,7 @@ lowest_again ts = for_each (content 0 ts) refl
         ≡ divided_terms (content 0 ts) ts
     for_each zero e =
         let same : divided_terms (content 0 ts) ts ≡ ts = ap (λ k. divided_terms k ts) e
-            ∙ divided_zero ts (subst (λ k. DividesAll k ts) e (content_divides 0 ts).1) in
+        ∙ divided_zero ts (subst (λ k. DividesAll k ts) e (content_divides 0 ts).1) in
         ap (λ us. divided_terms (content 0 us) us) same
     for_each (suc k) e = ap (λ j. divided_terms j (divided_terms (content 0 ts) ts)) (content_of_divided ts (omega arith))
         ∙ divided-one (divided_terms (content 0 ts) ts)

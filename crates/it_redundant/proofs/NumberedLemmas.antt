@@ -46,9 +46,9 @@ module _ (before : List Constraint) (place : ℕ) (place_is : length before ≡ 
       let rest = row_constraints (line + 1) rows in
       let c : Constraint = record { row = row; kind = Inequality; origin = Rate line } in
       let gone_is : gone ≡ before ++ rest = g ∙ ap₂ (λ (xs ys : List Constraint). xs ++ ys) (ap (take place) o ∙ front_is (c ∷ rest))
-          (ap (drop (suc place)) o ∙ after_next c rest) in
+      (ap (drop (suc place)) o ∙ after_next c rest) in
       n ∙ ap₂ (λ (xs ys : List Constraint). xs ++ ys) (ap (take place) gone_is ∙ front_is rest)
-          (ap (numbered line) (ap (drop place) gone_is ∙ rest_is rest) ∙ numbered_rows line (line + 1) rows)
+      (ap (numbered line) (ap (drop place) gone_is ∙ rest_is rest) ∙ numbered_rows line (line + 1) rows)
 
   -- a row that was put in
   pub row_inserted : (old more new : List Constraint) (line : ℕ) (row : Terms) (rows : List Terms) (c : Constraint)
@@ -58,7 +58,7 @@ module _ (before : List Constraint) (place : ℕ) (place_is : length before ≡ 
   row_inserted old more new line row rows c is o m n =
       let rest = row_constraints line rows in
       let more_is : more ≡ before ++ c ∷ rest = m ∙ ap₂ (λ (xs ys : List Constraint). xs ++ c ∷ ys) (ap (take place) o ∙ front_is rest)
-          (ap (drop place) o ∙ rest_is rest) in
+      (ap (drop place) o ∙ rest_is rest) in
       n ∙ ap₂ (λ (xs ys : List Constraint). xs ++ ys) (ap (take (place + 1)) more_is ∙ front_with c rest)
-          (ap (numbered (line + 1)) (ap (drop (place + 1)) more_is ∙ after_is c rest) ∙ numbered_rows (line + 1) line rows)
+      (ap (numbered (line + 1)) (ap (drop (place + 1)) more_is ∙ after_is c rest) ∙ numbered_rows (line + 1) line rows)
       ∙ append_assoc before (c ∷ []) (row_constraints (line + 1) rows) ∙ ap (λ (cs : List Constraint). before ++ (cs ++ row_constraints (line + 1) rows)) is

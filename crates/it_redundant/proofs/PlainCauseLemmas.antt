@@ -43,7 +43,7 @@ module _ (givens : ProblemView) (effort : Effort) (most : ℕ) where
         → IsPart (ordered_rows (kept_rows kept)) (next_list (base + r) start)
     next_part kept dropped red x m =
         part-next_list (base + r) part start p x (part-ordered (kept_rows kept) (results (base + r) part)
-            (kept_part (next_list (base + r) part) kept dropped red) x m)
+        (kept_part (next_list (base + r) part) kept dropped red) x m)
 
     -- so a cause at this rate is one of plain elimination, and each later one where it is one from the next list
     step_is_plain : (step : EliminatedView) (end : ProjectedView)
@@ -56,8 +56,11 @@ module _ (givens : ProblemView) (effort : Effort) (most : ℕ) where
         subst (IsPlainCause base most start (r ∷ rs)) (sym is) (start, comes_first base most start r rs, λ f. e.0 (pairs_fit_part (base + r) part start p f))
     step_is_plain step end ih (inr (inl e)) g =
         let is : end ≡ Rows r = subst (λ x. GoesOn givens effort later x end) e.2 g in
-        subst (IsPlainCause base most start (r ∷ rs)) (sym is) (start, comes_first base most start r rs,
-            omega (arith, e.1, next_list_no_longer (base + r) part start p))
+        subst (IsPlainCause base most start (r ∷ rs)) (sym is) (
+          start,
+          comes_first base most start r rs,
+          omega (arith, e.1, next_list_no_longer (base + r) part start p),
+        )
     step_is_plain step end ih (inr (inr e)) g =
         let (kept, dropped, red, rest) = subst (λ x. GoesOn givens effort later x end) e.2 g in
         cause_later base most start r rs end (ih kept dropped (next_part kept dropped red) rest)
@@ -69,7 +72,7 @@ module _ (givens : ProblemView) (effort : Effort) (most : ℕ) where
   end_is_plain rows start last gone [] end p e = subst (IsPlainCause (2 ^ givens.space.variables) most start []) (sym e) tt
   end_is_plain rows start last gone (r ∷ rs) end p (step, ends, g) =
       step_is_plain (2 ^ givens.space.variables) r rs (ordered_rows rows) start p
-          (λ kept dropped. ReducedEnds givens effort most (kept_rows kept) kept dropped rs end) step end
+      (λ kept dropped. ReducedEnds givens effort most (kept_rows kept) kept dropped rs end) step end
       (λ kept dropped q rest. end_is_plain (kept_rows kept) (next_list (2 ^ givens.space.variables + r) start) kept dropped rs end q rest) ends g
 
 pub causes_are_plain : CausesArePlain

@@ -79,7 +79,7 @@ one_reduced_end givens effort most rows last gone [] end other defined e f = e �
 one_reduced_end givens effort most rows last gone (r ∷ rs) end other defined (s, e, g) (t, f, h) =
     let same : s ≡ t = one_end (2 ^ givens.space.variables) most (ordered_rows rows) (r ∷ []) s t e f in
     by_step s g (subst (λ (x : EliminatedView). GoesOn givens effort (λ kept dropped. ReducedEnds givens effort most
-        (kept_rows kept) kept dropped rs other) x other) (sym same) h)
+    (kept_rows kept) kept dropped rs other) x other) (sym same) h)
     (λ kept dropped. one_reduced_end givens effort most (kept_rows kept) kept dropped rs end other defined)
   where
     by_step : (x : EliminatedView) → GoesOn givens effort (λ kept dropped. ReducedEnds givens effort most (kept_rows kept) kept dropped rs end) x end
@@ -123,13 +123,19 @@ module _ (givens : ProblemView) (effort : Effort) (most : ℕ) (limits : IsProbl
   extends_alike : (rates : List ℕ) (xs ys : List Terms) (p : ℕ → ℤ) → MeetsGivens givens p
       → ((q : ℕ → ℤ) → MeetsGivens givens q → IsPointOf xs q → IsPointOf ys q)
       → Extends (map (λ r. 2 ^ givens.space.variables + r) rates) xs p → Extends (map (λ r. 2 ^ givens.space.variables + r) rates) ys p
-  extends_alike rates xs ys p m f y = record { factor = y.factor; some = y.some; point = y.point; kept = y.kept; meets = f y.point
-      (point_meets rates xs p y m) y.meets }
+  extends_alike rates xs ys p m f y = record {
+    factor = y.factor;
+    some = y.some;
+    point = y.point;
+    kept = y.kept;
+    meets = f y.point
+        (point_meets rates xs p y m) y.meets;
+  }
 
   module _ (rows : List Terms) (r : ℕ) (next : List Terms) (mid : List (Terms × NeedView)) (dropped : List (Terms × CertificateView))
       (up : All (IsOver (size_of givens.space)) rows)
       (e : EliminationEnds (2 ^ givens.space.variables) most (ordered_rows rows) (r ∷ []) (elimination.Region next))
-          (red : Reduces givens effort [] next mid dropped) where
+      (red : Reduces givens effort [] next mid dropped) where
     next_is : next ≡ next_list (2 ^ givens.space.variables + r) (ordered_rows rows)
     next_is = (step_list (2 ^ givens.space.variables) most (ordered_rows rows) r next e).0
 
@@ -167,8 +173,8 @@ module _ (givens : ProblemView) (effort : Effort) (most : ℕ) (limits : IsProbl
         kept_lack_rates s (inl is) = h.keeps (2 ^ givens.space.variables + s) (mid_lacks (2 ^ givens.space.variables + s)
             (subst (λ (xs : List Terms). LacksCoordinate (2 ^ givens.space.variables + s) xs) (sym next_is)
             (subst (λ (x : ℕ). LacksCoordinate (2 ^ givens.space.variables + x)
-                (next_list (2 ^ givens.space.variables + r) (ordered_rows rows))) (sym is)
-                (next_lacks (2 ^ givens.space.variables + r) (ordered_rows rows)))))
+            (next_list (2 ^ givens.space.variables + r) (ordered_rows rows))) (sym is)
+            (next_lacks (2 ^ givens.space.variables + r) (ordered_rows rows)))))
         kept_lack_rates s (inr m) = h.region.free s (contains_of rs s m)
 
         to_rows : (p : ℕ → ℤ) → MeetsGivens givens p → IsPointOf (kept_rows kept) p
@@ -176,7 +182,7 @@ module _ (givens : ProblemView) (effort : Effort) (most : ℕ) (limits : IsProbl
         to_rows p m i =
             let y = extends_alike rs (kept_rows mid) next p m (λ q n. (mid_alike q n).1) ((h.region.exact p m).0 i) in
             let there : IsPointOf (list_after (map (λ s. 2 ^ givens.space.variables + s) rs) next) p
-                = (rates_exact (map (λ s. 2 ^ givens.space.variables + s) rs) next p).1 y in
+            = (rates_exact (map (λ s. 2 ^ givens.space.variables + s) rs) next p).1 y in
             (projection_exact ((2 ^ givens.space.variables + r) ∷ map (λ s. 2 ^ givens.space.variables + s) rs) rows p).0
             (subst (λ (xs : List Terms). IsPointOf (list_after (map (λ s. 2 ^ givens.space.variables + s) rs) xs) p) next_is there)
 
@@ -185,10 +191,10 @@ module _ (givens : ProblemView) (effort : Effort) (most : ℕ) (limits : IsProbl
             → IsPointOf (kept_rows kept) p
         from_rows p m x =
             let there : IsPointOf (list_after (map (λ s. 2 ^ givens.space.variables + s) rs) next) p = subst
-                (λ (xs : List Terms). IsPointOf (list_after (map (λ s. 2 ^ givens.space.variables + s) rs) xs) p) (sym next_is)
+            (λ (xs : List Terms). IsPointOf (list_after (map (λ s. 2 ^ givens.space.variables + s) rs) xs) p) (sym next_is)
             ((projection_exact ((2 ^ givens.space.variables + r) ∷ map (λ s. 2 ^ givens.space.variables + s) rs) rows p).1 x) in
             (h.region.exact p m).1 (extends_alike rs next (kept_rows mid) p m (λ q n. (mid_alike q n).0)
-                ((rates_exact (map (λ s. 2 ^ givens.space.variables + s) rs) next p).0 there))
+            ((rates_exact (map (λ s. 2 ^ givens.space.variables + s) rs) next p).0 there))
 
   same_region : (xs ys : List (Terms × NeedView)) (ds es : List (Terms × CertificateView)) → Region xs ds ≡ Region ys es → xs ≡ ys
   same_region xs ys ds es e = cc
@@ -207,7 +213,7 @@ module _ (givens : ProblemView) (effort : Effort) (most : ℕ) (limits : IsProbl
         (sym (same_region kept mid dropped gone is)) (nothing_gone mid up need)
     later_region_holds (r ∷ rs) mid gone up need (elimination.Region next, e, g) =
         one_more (kept_rows mid) r next g.0 g.1 up e g.2 rs kept (later_region_holds rs g.0 g.1
-            (mid_up (kept_rows mid) r next g.0 g.1 up e g.2) (mid_needed (kept_rows mid) r next g.0 g.1 up e g.2) g.3)
+        (mid_up (kept_rows mid) r next g.0 g.1 up e g.2) (mid_needed (kept_rows mid) r next g.0 g.1 up e g.2) g.3)
     later_region_holds (r ∷ rs) mid gone up need (elimination.Rows rate, e, is) = absurd (region_not_rows kept dropped rate is)
     later_region_holds (r ∷ rs) mid gone up need (elimination.Wide rate, e, is) = absurd (region_not_wide kept dropped rate is)
 
@@ -215,7 +221,7 @@ module _ (givens : ProblemView) (effort : Effort) (most : ℕ) (limits : IsProbl
         → ReducedEnds givens effort most rows [] [] (r ∷ rs) (Region kept dropped) → Holds (r ∷ rs) rows kept
     first_region_holds r rs rows up (elimination.Region next, e, g) =
         one_more rows r next g.0 g.1 up e g.2 rs kept (later_region_holds rs g.0 g.1 (mid_up rows r next g.0 g.1 up e g.2)
-            (mid_needed rows r next g.0 g.1 up e g.2) g.3)
+        (mid_needed rows r next g.0 g.1 up e g.2) g.3)
     first_region_holds r rs rows up (elimination.Rows rate, e, is) = absurd (region_not_rows kept dropped rate is)
     first_region_holds r rs rows up (elimination.Wide rate, e, is) = absurd (region_not_wide kept dropped rate is)
 
@@ -246,7 +252,7 @@ module _ (givens : ProblemView) (effort : Effort) (most : ℕ) (system : System)
         → All (IsOver (size_of givens.space)) (kept_rows (kept_view reduced))
     region_up reduced up red = kept_up givens effort most system.rows.items rate next.rows.items (kept_view reduced) (dropped_view reduced)
         (subst (λ (s : Space). All (IsOver (size_of s)) system.rows.items) space up)
-            (over_givens (elimination.Region next.rows.items) (ap eliminated_view is)) red
+        (over_givens (elimination.Region next.rows.items) (ap eliminated_view is)) red
 
 -- the result of a rate on the rows that are kept is that on their system
 pub next_of_region : {E : Type 0} (givens : ProblemView) (effort : Effort) (most rate : ℕ) (end : Projected) (reduced : Reduced)
@@ -264,7 +270,7 @@ pub kept_is_system : (givens : ProblemView) (end : Projected) (reduced : Reduced
     → system.space ≡ givens.space → system.rows.items ≡ map (λ k. k.0) reduced.kept.items → IsSystem system
 kept_is_system givens end reduced system limits is up space rows =
     let kept : All (IsOver (size_of givens.space)) (kept_rows (kept_view reduced)) = subst
-        (λ (x : Projected). HasRowsUpTo (size_of givens.space) (projected_view x)) is up in
+    (λ (x : Projected). HasRowsUpTo (size_of givens.space) (projected_view x)) is up in
     record {
       space = subst IsSpace (sym space) limits;
       rows = subst (λ (s : Space). All (IsOver (size_of s)) system.rows.items) (sym space)

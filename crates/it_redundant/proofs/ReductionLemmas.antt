@@ -36,13 +36,15 @@ module _ (givens : ProblemView) (effort : Effort) where
     all_kept before [] kept dropped r h = subst (λ k. All P (kept_rows k)) (sym r.0) (All-nil P)
     all_kept before (row ∷ rows) kept dropped (o, k, d, ends, e, f, r) h = subst (λ rs. All P rs) (sym (ap kept_rows e ∙ rows_of_parts (kept_by row o) k))
         (All-append P (kept_rows (kept_by row o)) (kept_rows k) (some_keep P row o (All-head P row rows h))
-            (all_kept (before ++ kept_rows (kept_by row o)) rows k d r (All-tail P row rows h)))
+        (all_kept (before ++ kept_rows (kept_by row o)) rows k d r (All-tail P row rows h)))
 
   module _ (p : ℕ → ℤ) where
     parts_of_rows : (ks ls : List (Terms × NeedView)) → IsPointOf (kept_rows (ks ++ ls)) p → IsPointOf (kept_rows ks) p × IsPointOf (kept_rows ls) p
     parts_of_rows ks ls h =
-        let both = subst (λ rs. IsPointOf rs p) (rows_of_parts ks ls) h in (all_front (RowHolds p) (kept_rows ks) (kept_rows ls) both,
-            all_back (RowHolds p) (kept_rows ks) (kept_rows ls) both)
+        let both = subst (λ rs. IsPointOf rs p) (rows_of_parts ks ls) h in (
+          all_front (RowHolds p) (kept_rows ks) (kept_rows ls) both,
+          all_back (RowHolds p) (kept_rows ks) (kept_rows ls) both,
+        )
 
     pub kept_hold : (before rows : List Terms) (kept : List (Terms × NeedView)) (dropped : List (Terms × CertificateView))
         → Reduces givens effort before rows kept dropped → IsPointOf rows p → IsPointOf (kept_rows kept) p
@@ -87,7 +89,7 @@ module _ (givens : ProblemView) (effort : Effort) where
           → EndsWith (with_rows givens others) row effort o → IsPointOf others p → IsPointOf (kept_rows (kept_by row o)) p → pos 0 ≤ℤ value row p
       row_holds others row (Yes w) problem own ends h k =
           yes_is_true (with_rows givens others) row w problem own (ends_are_right (with_rows givens others) row effort
-              (Yes w) problem own ends).0 p meets.0 (problem_is_met p givens others meets.1 h)
+          (Yes w) problem own ends).0 p meets.0 (problem_is_met p givens others meets.1 h)
       row_holds others row (No values) problem own ends h k = All-head (RowHolds p) row [] k
       row_holds others row (Undecided cause) problem own ends h k = All-head (RowHolds p) row [] k
 
@@ -98,9 +100,9 @@ module _ (givens : ProblemView) (effort : Effort) where
       all_hold before (row ∷ rows) kept dropped t (o, k, d, ends, e, f, r) b h =
           let parts = parts_of_rows p (kept_by row o) k (subst (λ k. IsPointOf (kept_rows k) p) e h) in
           let hold : IsPointOf rows p = all_hold (before ++ kept_rows (kept_by row o)) rows k d (taken_next before rows row o t) r
-              (All-append (RowHolds p) before (kept_rows (kept_by row o)) b parts.0) parts.1 in
+          (All-append (RowHolds p) before (kept_rows (kept_by row o)) b parts.0) parts.1 in
           All-cons (RowHolds p) row rows (row_holds (before ++ rows) row o (taken_problem before rows row t) (own_up before rows row t) ends
-              (All-append (RowHolds p) before rows b hold) parts.0) hold
+          (All-append (RowHolds p) before rows b hold) parts.0) hold
 
   pub taken_first : (rows : List Terms) → length rows ≤ 65535 → All (IsOver (size_of givens.space)) rows → AreTaken [] rows
   taken_first rows count ups = record { count = omega (arith, count); up = All-nil (IsOver (size_of givens.space)); ups = ups }
@@ -165,7 +167,7 @@ module _ (givens : ProblemView) (effort : Effort) where
             (here k (ap (λ l. take 1 l) e))
         staying_rows_needed x same here r (y ∷ pre) e later = subst (λ l. IsNeeded givens l k)
             (append_assoc before (row ∷ []) (kept_rows pre ++ kept_rows post)
-                ∙ ap (λ z. before ++ z ∷ (kept_rows pre ++ kept_rows post)) (sym same ∙ ap (λ l. (get_or l 0 x).0) e))
+            ∙ ap (λ z. before ++ z ∷ (kept_rows pre ++ kept_rows post)) (sym same ∙ ap (λ l. (get_or l 0 x).0) e))
             (later pre (ap (λ l. drop 1 l) e))
 
         by_outcome : (o : ProofView) → EndsWith (with_rows givens (before ++ rows)) row effort o → kept_by row o ++ ks ≡ pre ++ k ∷ post
@@ -192,6 +194,8 @@ one_reduction givens effort before [] kept other dropped other_dropped defined r
 one_reduction givens effort before (row ∷ rows) kept other dropped other_dropped defined (o, k, d, ends, e, f, r) (p, l, g, others_end, h, i, s) =
     let same : o ≡ p = one_outcome (with_rows givens (before ++ rows)) row effort o p defined ends others_end in
     let rest = one_reduction givens effort (before ++ kept_rows (kept_by row o)) rows k l d g defined r
-        (subst (λ x. Reduces givens effort (before ++ kept_rows (kept_by row x)) rows l g) (sym same) s) in
-    (e ∙ ap (λ x. kept_by row x ++ k) same ∙ ap (λ x. kept_by row p ++ x) rest.0 ∙ sym h, f ∙ ap (λ x. dropped_by row x ++ d) same
-        ∙ ap (λ x. dropped_by row p ++ x) rest.1 ∙ sym i)
+    (subst (λ x. Reduces givens effort (before ++ kept_rows (kept_by row x)) rows l g) (sym same) s) in (
+      e ∙ ap (λ x. kept_by row x ++ k) same ∙ ap (λ x. kept_by row p ++ x) rest.0 ∙ sym h,
+      f ∙ ap (λ x. dropped_by row x ++ d) same
+          ∙ ap (λ x. dropped_by row p ++ x) rest.1 ∙ sym i,
+    )

@@ -43,14 +43,14 @@ module _ (givens : ProblemView) (effort other : Effort) (limits : IsProblem give
       let settled : All IsSettledRow (kept_by row o ++ k) = subst (All IsSettledRow) e a in
       let also : All IsSettledRow (kept_by row p ++ l) = subst (All IsSettledRow) h b in
       let first : kept_rows (kept_by row o) ≡ kept_rows (kept_by row p) = same_kept (before ++ rows) row o p
-          (taken_problem givens effort limits few before rows row taken) (own_up givens effort before rows row taken) ends others_end
+      (taken_problem givens effort limits few before rows row taken) (own_up givens effort before rows row taken) ends others_end
       (all_front IsSettledRow (kept_by row o) k settled) (all_front IsSettledRow (kept_by row p) l also) in
       let rest : kept_rows k ≡ kept_rows l = reductions_agree (before ++ kept_rows (kept_by row o)) rows k l d g
-          (taken_next givens effort before rows row o taken) r
+      (taken_next givens effort before rows row o taken) r
       (subst (λ (xs : List Terms). Reduces givens other (before ++ xs) rows l g) (sym first) s)
-          (all_back IsSettledRow (kept_by row o) k settled) (all_back IsSettledRow (kept_by row p) l also) in
+      (all_back IsSettledRow (kept_by row o) k settled) (all_back IsSettledRow (kept_by row p) l also) in
       ap kept_rows e ∙ rows_of_parts (kept_by row o) k ∙ ap₂ (λ (xs ys : List Terms). xs ++ ys) first rest
-          ∙ sym (ap kept_rows h ∙ rows_of_parts (kept_by row p) l)
+      ∙ sym (ap kept_rows h ∙ rows_of_parts (kept_by row p) l)
 
   module _ (most : ℕ) (few_rows : most ≤ 65535) where
     ends_agree_from : (rates : List ℕ) (rows : List Terms) (last also : List (Terms × NeedView))
@@ -62,7 +62,7 @@ module _ (givens : ProblemView) (effort other : Effort) (limits : IsProblem give
     ends_agree_from (r ∷ rs) rows last also gone lost end other_end same up (s, e, g) (t, f, h) =
         let step : s ≡ t = one_end (2 ^ givens.space.variables) most (ordered_rows rows) (r ∷ []) s t e f in
         by_step s e g (subst (λ (x : EliminatedView). GoesOn givens other (λ kept dropped. All IsSettledRow kept
-            × SettledEnds givens other most (kept_rows kept) kept dropped rs other_end) x other_end) (sym step) h)
+        × SettledEnds givens other most (kept_rows kept) kept dropped rs other_end) x other_end) (sym step) h)
         (λ kept others dropped lost agree ups. ends_agree_from rs (kept_rows kept) kept others dropped lost end other_end agree ups)
       where
         by_step : (x : EliminatedView) → EliminationEnds (2 ^ givens.space.variables) most (ordered_rows rows) (r ∷ []) x
@@ -76,9 +76,9 @@ module _ (givens : ProblemView) (effort other : Effort) (limits : IsProblem give
         by_step (elimination.Region next) e (kept, dropped, reduces, so) (others, lost, reduces_so, also) later =
             let ups : All (IsOver (size_of givens.space)) next = step_up (size_of givens.space) (2 ^ givens.space.variables) most rows r next up e in
             let count : length next ≤ 65535 = let fits : length next ≤ most = (step_list (2 ^ givens.space.variables) most
-                (ordered_rows rows) r next e).1 in omega (arith, fits, few_rows) in
+            (ordered_rows rows) r next e).1 in omega (arith, fits, few_rows) in
             let agree : kept_rows kept ≡ kept_rows others = reductions_agree [] next kept others dropped lost
-                (taken_first givens effort next count ups) reduces reduces_so so.0 also.0 in
+            (taken_first givens effort next count ups) reduces reduces_so so.0 also.0 in
             later kept others dropped lost agree (all_kept givens effort (IsOver (size_of givens.space)) [] next kept dropped reduces ups) so.1
             (subst (λ (xs : List Terms). SettledEnds givens other most xs others lost rs other_end) (sym agree) also.1)
         by_step (elimination.Rows rate) e g h later = subst₂ HaveSameRows (sym g) (sym h) refl

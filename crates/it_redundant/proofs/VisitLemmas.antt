@@ -41,13 +41,13 @@ module _ (givens : ProblemView) (effort : Effort) (size : ℕ) (rows : List Term
   under_way_more kept new_kept dropped new_dropped i row o below next own out e f u = record {
     more = λ k d r. subst (λ x. Reduces givens effort [] rows x (new_dropped ++ d)) (sym (append_assoc kept (kept_by row o) k) ∙ ap (λ x. x ++ k) (sym e))
         (subst (λ x. Reduces givens effort [] rows (kept ++ (kept_by row o ++ k)) x)
-            (sym (append_assoc dropped (dropped_by row o) d) ∙ ap (λ x. x ++ d) (sym f))
+        (sym (append_assoc dropped (dropped_by row o) d) ∙ ap (λ x. x ++ d) (sym f))
         (u.more (kept_by row o ++ k) (dropped_by row o
-            ++ d) (subst (λ x. Reduces givens effort (kept_rows kept) x (kept_by row o ++ k) (dropped_by row o ++ d)) (sym next)
+        ++ d) (subst (λ x. Reduces givens effort (kept_rows kept) x (kept_by row o ++ k) (dropped_by row o ++ d)) (sym next)
         (o, k, d, out, refl, refl, subst (λ x. Reduces givens effort x (drop (i + 1) rows) k d) (ap kept_rows e ∙ rows_of_parts kept (kept_by row o)) r))));
     few = let total : length (kept_rows new_kept) ≡ length (kept_rows kept) + length (kept_rows (kept_by row o))
         = ap (λ x. length (kept_rows x)) e ∙ ap length (rows_of_parts kept (kept_by row o))
-            ∙ length-append (kept_rows kept) (kept_rows (kept_by row o)) in omega (arith, total, few_kept givens effort row o, u.few);
+        ∙ length-append (kept_rows kept) (kept_rows (kept_by row o)) in omega (arith, total, few_kept givens effort row o, u.few);
     up = subst (AreRowsUpTo size) (sym (ap kept_rows e ∙ rows_of_parts kept (kept_by row o)))
         (All-append (IsOver size) (kept_rows kept) (kept_rows (kept_by row o)) u.up (some_keep (IsOver size) row o own));
   }
@@ -57,7 +57,7 @@ module _ (givens : ProblemView) (effort : Effort) (size : ℕ) (rows : List Term
       → Reduces givens effort [] rows kept dropped
   under_way_end kept dropped i e u = subst (λ x. Reduces givens effort [] rows x dropped) (append-nil kept)
       (subst (λ x. Reduces givens effort [] rows (kept ++ []) x) (append-nil dropped)
-          (u.more [] [] (subst (λ x. Reduces givens effort (kept_rows kept) x [] []) (sym e) (refl, refl))))
+      (u.more [] [] (subst (λ x. Reduces givens effort (kept_rows kept) x [] []) (sym e) (refl, refl))))
 
 -- ---- one visit
 
@@ -118,7 +118,7 @@ module _ (givens : ProblemView) (kept : List (Terms × Need)) (line place : ℕ)
   in_parts : (ys : List Terms) → (with_rows givens (xs ++ ys)).constraints ≡ before ++ row_constraints line ys
   in_parts ys = let l : 1 + length xs ≡ line = omega (arith, count, line_is) in
       ap (λ (cs : List Constraint). givens.constraints ++ cs) (row_parts 1 xs ys ∙ ap (λ n. row_constraints 1 xs ++ row_constraints n ys) l)
-          ∙ sym (append_assoc givens.constraints (row_constraints 1 xs) (row_constraints line ys))
+      ∙ sym (append_assoc givens.constraints (row_constraints 1 xs) (row_constraints line ys))
 
   as_problem : (cs : List Constraint) (ys : List Terms) → cs ≡ before ++ row_constraints line ys
       → record { space = givens.space; constraints = cs } ≡ with_rows givens (xs ++ ys)
@@ -129,7 +129,7 @@ module _ (givens : ProblemView) (kept : List (Terms × Need)) (line place : ℕ)
     rows_count is = let e : length p.constraints ≡ length (before ++ row_constraints line (row ∷ after)) = ap
         (λ (q : ProblemView). length q.constraints) is ∙ ap length (in_parts (row ∷ after)) in
         let n = length-append before (row_constraints line (row ∷ after)) in let r = row_count line (row ∷ after) in let b = before_place
-            in omega (arith, e, n, r, b)
+        in omega (arith, e, n, r, b)
 
     pub row_within : p ≡ with_rows givens (xs ++ row ∷ after) → place < length p.constraints
     row_within is = let n = rows_count is in omega (arith, n)
@@ -151,7 +151,7 @@ module _ (givens : ProblemView) (kept : List (Terms × Need)) (line place : ℕ)
     room_for_row is = let e : length p.constraints ≡ length (before ++ row_constraints line after) = ap
         (λ (q : ProblemView). length q.constraints) is ∙ ap length (in_parts after) in
         let n = length-append before (row_constraints line after) in let r = row_count line after in let b = before_place
-            in (omega (arith, e, n, r, b), λ few. omega (arith, e, n, r, b, few, line_is))
+        in (omega (arith, e, n, r, b), λ few. omega (arith, e, n, r, b, few, line_is))
 
     -- with the row again
     pub put_back : (cs : List Constraint) → p ≡ with_rows givens (xs ++ after)
@@ -179,7 +179,7 @@ module _ (givens p : ProblemView) (kept : List (Terms × Need)) (after : List Te
       → AreRowsUpTo (size_of givens.space) after → IsProblem p
   visit_limits limits few count up ups = subst IsProblem (sym is) (problem_limits givens (map (λ k. k.0) kept ++ after) limits few
       (omega (arith, count, length-append (map (λ k. k.0) kept) after, length-map kept (λ (k : Terms × Need). k.0)))
-          (All-append (IsOver (size_of givens.space)) (map (λ k. k.0) kept) after up ups))
+      (All-append (IsOver (size_of givens.space)) (map (λ k. k.0) kept) after up ups))
 
   -- the closed problem of the givens serves the problem
   pub visit_closed : (c : ClosedProblem) → IsClosedProblem givens c → IsClosedProblem p c

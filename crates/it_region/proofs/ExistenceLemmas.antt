@@ -33,8 +33,12 @@ use Rattle.it_region.proofs.PullingLemmas.{coordinate_of_set, coordinate_above_s
 module _ (s : Space) (bound : ℕ) (within : bound < 2 ^ 127) where
   row_of_form : (form : Form) → IsFormUpTo (size_of s) bound form → IsPulledRow s form (terms_of_form (size_of s) form)
   row_of_form form x =
-      let is : IsPulledRow s form (row s bound within form x) = record { same = row_same s bound within form x; coordinates
-          = row_coordinates s bound within form x; canonical = row_is_canonical s bound within form x } in
+      let is : IsPulledRow s form (row s bound within form x) = record {
+        same = row_same s bound within form x;
+        coordinates
+            = row_coordinates s bound within form x;
+        canonical = row_is_canonical s bound within form x;
+      } in
       subst (IsPulledRow s form) (told_by_form (size_of s) form (row s bound within form x) is.canonical is.coordinates is.same) is
 
   rows_of_forms : (fs : List Form) → Every (IsFormUpTo (size_of s) bound) fs → ArePulledRows s fs (map (terms_of_form (size_of s)) fs)
@@ -59,11 +63,11 @@ pair_rows_there p c k f =
     λ i l. let h = pulled_within p.first.space.variables p.space.variables p.space.rates (candidate_sets p c) sets i l in omega (arith, h, k.rates) in
     let small : All (λ (d : Constraint). row_mass d.row ≤ 2 ^ 127 - 1) p.own.items =
     All-weaker (λ (d : Constraint). row_mass d.row < 2 ^ 127) (λ (d : Constraint). row_mass d.row ≤ 2 ^ 127 - 1)
-        (λ d l. omega (arith, l)) p.own.items k.small in
+    (λ d l. omega (arith, l)) p.own.items k.small in
     rows_of_forms p.first.space (2 ^ 127 - 1) (lit< tt) (pair_obligations p c)
     (constraints_up_to (size_of p.space) (size_of p.first.space) (2 ^ 127 - 1) (candidate_coordinate p c) within p.own.items
     (every_of (λ (d : Constraint). IsOver (size_of p.space) d.row) p.own.items k.rows)
-        (every_of (λ (d : Constraint). row_mass d.row ≤ 2 ^ 127 - 1) p.own.items small))
+    (every_of (λ (d : Constraint). row_mass d.row ≤ 2 ^ 127 - 1) p.own.items small))
 
 -- ---- of parts that fit a question
 
@@ -80,14 +84,14 @@ module _ (q : BodyView) (k : IsQuestion q) (small : QuestionHasSmallNumbers q) (
       let m = length second.names.variables in
       let rates = length second.names.rates in
       let forms = lines_up_to m rates second.lines (every_of (IsGivenOf m) second.lines.givens r.lines.givens)
-          (every_of (IsRelationOf m rates) second.lines.rows r.lines.rows) counts.1 in
+      (every_of (IsRelationOf m rates) second.lines.rows r.lines.rows) counts.1 in
       let sets = sets_within n (length q.names.variables) parts (omega (arith, ap length l.variables, length-append q.names.variables l.own)) h.within in
       let f : ℕ → ℕ = pulled_coordinate n m (substituted_sets (length q.names.variables) parts) in
       let within : (c : ℕ) → c ≤ 2 ^ m - 1 + rates → f c ≤ size_of (space_of first.names) =
       λ c e. let p = pulled_within n m rates (substituted_sets (length q.names.variables) parts) sets c e
-          in omega (arith, p, ap length l.rates, ap length r.rates) in
+      in omega (arith, p, ap length l.rates, ap length r.rates) in
       let fs : List Form = obligations q first second parts in
       let same : space_of first.names ≡ space_of (problem_names q) = sym (ap (λ v. space_of (names_under q.names v)) about) in
       subst (λ (s : Space). ArePulledRows s fs (map (terms_of_form (size_of s)) fs)) same
       (rows_of_forms (space_of first.names) (2 ^ 106) (lit< tt) fs (obligations_up_to (2 ^ m - 1 + rates) (size_of (space_of first.names))
-          (2 ^ 106) f within (line_demands m second.lines) forms))
+      (2 ^ 106) f within (line_demands m second.lines) forms))

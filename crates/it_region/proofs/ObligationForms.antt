@@ -19,8 +19,13 @@ moved_terms f (t ∷ ts) = (f t.0, t.1) ∷ moved_terms f ts
 
 -- a row as a form
 form_of_row : (n a : ℕ) (row : Terms) → IsOver n row → row_mass row ≤ a → IsFormUpTo n a (value row)
-form_of_row n a row up small = record { terms = row; same = λ p. refl; coordinates = each_below row
-    (every_of (λ (t : ℕ × ℤ). (1 ≤ t.0) × (t.0 ≤ n)) row up); small = small }
+form_of_row n a row up small = record {
+  terms = row;
+  same = λ p. refl;
+  coordinates = each_below row
+      (every_of (λ (t : ℕ × ℤ). (1 ≤ t.0) × (t.0 ≤ n)) row up);
+  small = small;
+}
   where
     each_below : (ts : Terms) → Every (λ (t : ℕ × ℤ). (1 ≤ t.0) × (t.0 ≤ n)) ts → Every (λ (t : ℕ × ℤ). t.0 ≤ n) ts
     each_below [] e = tt

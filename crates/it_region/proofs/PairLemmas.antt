@@ -115,7 +115,7 @@ pair_by q a b tries p given row is posed second e f own common parts = subst (λ
   own = subst₂ (λ (g r : ℕ). AreStated p.space (origins_from (length b.names.variables) g r b.lines)
       (line_demands (length b.names.variables) b.lines) p.own.items) e f
       (subst (λ (n : ℕ). AreStated p.space (origins_from n given row b.lines) (line_demands n b.lines) p.own.items)
-          (ap (λ (s : Space). s.variables) second) own);
+      (ap (λ (s : Space). s.variables) second) own);
   common = common;
   parts = parts;
 })

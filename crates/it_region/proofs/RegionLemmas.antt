@@ -70,6 +70,7 @@ pulled_point_is_in q a b tries parts k is s p inside owe =
     }
 
 pub obligations_contain : ObligationsContain
-obligations_contain q a b tries parts k is s owe p inside =
-    (pulled_map (length a.names.variables) (length b.names.variables) (substituted_sets (length q.names.variables) parts) p,
-        pulled_point_is_in q a b tries parts k is s p inside (owe p inside))
+obligations_contain q a b tries parts k is s owe p inside = (
+  pulled_map (length a.names.variables) (length b.names.variables) (substituted_sets (length q.names.variables) parts) p,
+  pulled_point_is_in q a b tries parts k is s p inside (owe p inside),
+)

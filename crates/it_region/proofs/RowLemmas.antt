@@ -48,7 +48,7 @@ goes_on f turned whole size now new i t l is a u = record {
   sum = λ p. sum_with_rest (dense_form new p) (dense_form now p) (signed_by turned t.1 *ℤ p (f t.0))
       (signed_form f turned (drop (i + 1) whole) p) (signed_form f turned whole p) (a.sum p)
       (ap (λ x. dense_form now p +ℤ x) (sym (ap (λ (ts : Terms). signed_form f turned ts p) (drop_item whole i t l is)
-          ∙ signed_form-cons f turned t (drop (i + 1) whole) p)) ∙ u.sum p);
+      ∙ signed_form-cons f turned t (drop (i + 1) whole) p)) ∙ u.sum p);
 }
   where
     sum_with_rest : (new now x rest all : ℤ) → new ≡ now +ℤ x → now +ℤ (x +ℤ rest) ≡ all → new +ℤ rest ≡ all
@@ -85,8 +85,11 @@ rows_same s fs rows p z a = zip-same (IsPulledRow s) (IsFormAtLeastZero p) (λ (
     (λ f row r. (λ h. subst (λ (x : ℤ). pos 0 ≤ℤ x) (r.same p z) h, λ h. subst (λ (x : ℤ). pos 0 ≤ℤ x) (sym (r.same p z)) h)) fs rows a
 
 pub demanded_forms_met : (k : Kind) (form : Form) (p : ℕ → ℤ) → All (IsFormAtLeastZero p) (inequalities_of k form) ↔ Meets k (form p)
-demanded_forms_met Inequality form p = (λ a. All-head (IsFormAtLeastZero p) form [] a, λ h. All-cons (IsFormAtLeastZero p) form [] h
-    (All-nil (IsFormAtLeastZero p)))
+demanded_forms_met Inequality form p = (
+  λ a. All-head (IsFormAtLeastZero p) form [] a,
+  λ h. All-cons (IsFormAtLeastZero p) form [] h
+      (All-nil (IsFormAtLeastZero p)),
+)
 demanded_forms_met Equation form p =
     let down : Form = λ q. neg_ℤ (form q) in (
       λ a. let up = All-head (IsFormAtLeastZero p) form (down ∷ []) a in let low = All-head (IsFormAtLeastZero p) down []

@@ -70,9 +70,9 @@ forms_same s f (d ∷ ds) (c ∷ cs) e a =
     let one : AllZip AreOne (inequalities_of d.kind (pulled_form f (value c.row))) (inequalities_of d.kind (pulled_form f d.form)) =
     demanded_forms_same d.kind (pulled_form f (value c.row)) (pulled_form f d.form) (λ p z. a.0.row.same (λ x. p (f x)) (ap p e ∙ z)) in
     zip-append AreOne (inequalities_of c.kind (pulled_form f (value c.row))) (constraint_obligations f cs)
-        (inequalities_of d.kind (pulled_form f d.form)) (demand_obligations f ds)
+    (inequalities_of d.kind (pulled_form f d.form)) (demand_obligations f ds)
     (subst (λ (k : Kind). AllZip AreOne (inequalities_of k (pulled_form f (value c.row))) (inequalities_of d.kind (pulled_form f d.form)))
-        (sym a.0.kind) one) (forms_same s f ds cs e a.1)
+    (sym a.0.kind) one) (forms_same s f ds cs e a.1)
 
 rows_of_text : (s : Space) (fs gs : List Form) (rows : List Terms) → AllZip AreOne fs gs → ArePulledRows s fs rows → ArePulledRows s gs rows
 rows_of_text s [] [] [] h a = tt
@@ -80,8 +80,15 @@ rows_of_text s [] [] (t ∷ ts) h a = absurd a
 rows_of_text s [] (g ∷ gs) rows h a = absurd h
 rows_of_text s (f ∷ fs) [] rows h a = absurd h
 rows_of_text s (f ∷ fs) (g ∷ gs) [] h a = absurd a
-rows_of_text s (f ∷ fs) (g ∷ gs) (t ∷ ts) h a = (record { same = λ p z. a.0.same p z
-    ∙ h.0 p z; coordinates = a.0.coordinates; canonical = a.0.canonical }, rows_of_text s fs gs ts h.1 a.1)
+rows_of_text s (f ∷ fs) (g ∷ gs) (t ∷ ts) h a = (
+  record {
+    same = λ p z. a.0.same p z
+        ∙ h.0 p z;
+    coordinates = a.0.coordinates;
+    canonical = a.0.canonical;
+  },
+  rows_of_text s fs gs ts h.1 a.1,
+)
 
 terms_same : (size : ℕ) (fs gs : List Form) → AllZip AreOne fs gs → map (terms_of_form size) fs ≡ map (terms_of_form size) gs
 unfolding terms_of_form
@@ -125,14 +132,14 @@ module _ (q : BodyView) (a b : RegionView) (p : Pair) (o : IsPairOf q a b p) whe
   text_rows c rows r = subst (λ (f : ℕ → ℕ). ArePulledRows p.first.space (demand_obligations f own) rows) (coordinate_is c)
       (rows_of_text p.first.space (pair_obligations p c) (demand_obligations (candidate_coordinate p c) own) rows
       (forms_same p.space (candidate_coordinate p c) own p.own.items (coordinate_of_empty_set p.first.space.variables p.space.variables
-          p.common (candidate_parts c)) o.own.stated) r)
+      p.common (candidate_parts c)) o.own.stated) r)
 
   -- and so are their terms
   pub text_terms : (size : ℕ) (c : Candidate) → map (terms_of_form size) (pair_obligations p c)
       ≡ map (terms_of_form size) (obligations q a b (candidate_parts c))
   text_terms size c = terms_same size (pair_obligations p c) (demand_obligations (candidate_coordinate p c) own)
       (forms_same p.space (candidate_coordinate p c) own p.own.items (coordinate_of_empty_set p.first.space.variables p.space.variables
-          p.common (candidate_parts c)) o.own.stated)
+      p.common (candidate_parts c)) o.own.stated)
       ∙ ap (λ (f : ℕ → ℕ). map (terms_of_form size) (demand_obligations f own)) (coordinate_is c)
 
   -- the parts of a candidate that fits

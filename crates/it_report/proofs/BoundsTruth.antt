@@ -69,8 +69,11 @@ module _ (q : BodyView) (b : BoundsView) (k : IsQuestion q) (fits : HasBoundsSha
   rays_true : (rays : List (List ℤ)) → Every (MeetsAt p) rays → Every (IsTrueRay q) rays
   rays_true [] m = tt
   rays_true (values ∷ rays) m = (
-    record { complete = at_question q p posed (λ s. length values ≡ size_of s) m.0.complete; lines_true = meets_true q p posed
-        (point_of values) (m.0.polymatroid, m.0.met) },
+    record {
+      complete = at_question q p posed (λ s. length values ≡ size_of s) m.0.complete;
+      lines_true = meets_true q p posed
+          (point_of values) (m.0.polymatroid, m.0.met);
+    },
     rays_true rays m.1,
   )
 
@@ -80,11 +83,11 @@ module _ (q : BodyView) (b : BoundsView) (k : IsQuestion q) (fits : HasBoundsSha
       let gone = gone_rates q.verb in
       let over = every_of (IsOver (size_of p.space)) b.rows (to_problem (λ s. All (IsOver (size_of s)) b.rows) fits.rows) in
       let complete = every_of (λ (s : StepView). length s.ray ≡ size_of p.space) b.steps
-          (to_problem (λ s. All (λ (x : StepView). length x.ray ≡ size_of s) b.steps) fits.rays) in
+      (to_problem (λ s. All (λ (x : StepView). length x.ray ≡ size_of s) b.steps) fits.rays) in
       let is_hull : IsHull (kept_rates q gone) b.rows (rays_of b.steps) =
       let asked = asked_rates q fits.gone k fits.asked in
       valid_rows (hull_frame most_rows q) (kept_rates q gone) b.steps b.rows hull.end HullIsValid
-          (is_frame most_rows q k (omega arith) asked) (are_kept most_rows q k (omega arith) asked) hull.ends hull.verdict_is refl in
+      (is_frame most_rows q k (omega arith) asked) (are_kept most_rows q k (omega arith) asked) hull.ends hull.verdict_is refl in
       hull_is_exact q p gone b.rows (rays_of b.steps) posed is_hull
       (all_of (λ (row : Terms). (x : ℕ → ℤ) → MeetsProblem p x → pos 0 ≤ℤ value row x) b.rows (rows_hold p posed.limits b.rows b.proofs over fits.proofs rows))
       (all_of (IsTrueRay q) (rays_of b.steps) (rays_true (rays_of b.steps) (rays_met p posed.limits b.steps complete rays)))

@@ -117,10 +117,10 @@ module _ (size : ℕ) (left right : Terms) (left_over : IsOver size left) (right
       (value_linear size row (row_over size num den left right)).sum m z
       ∙ dot_from_one (size + 1) (λ c. value row (one_at c)) (λ c. num *ℤ value left (one_at c) -ℤ den *ℤ value right (one_at c)) m z
       (λ c h l. value-one_at row c ∙ number_at size num den left right c (omega (arith, h)) (omega (arith, l))
-          ∙ ap₂ (λ (x y : ℤ). num *ℤ x -ℤ den *ℤ y) (sym (value-one_at left c)) (sym (value-one_at right c)))
+      ∙ ap₂ (λ (x y : ℤ). num *ℤ x -ℤ den *ℤ y) (sym (value-one_at left c)) (sym (value-one_at right c)))
       ∙ sym ((linear-sub (size + 1) (λ p. num *ℤ value left p) (λ p. den *ℤ value right p)
       (linear-scale (size + 1) num (value left) (value_linear size left left_over))
-          (linear-scale (size + 1) den (value right) (value_linear size right right_over))).sum m z)
+      (linear-scale (size + 1) den (value right) (value_linear size right right_over))).sum m z)
 
 -- ---- certificates and points
 
@@ -189,7 +189,7 @@ module _ (q : BodyView) (p : ProblemView) (is : IsProblemOf q p) where
           → AreTrueTogether q m × (pos 1 ≤ℤ f m) × (den *ℤ g m ≡ num *ℤ f m)
       tight num den e =
           let both = both_valid (no_verdict (length (elementals p.space.variables)) (generators p) (row_for (neg_ℤ (pos 1)) (pos 0)) m)
-              (zero_verdict (length (generators p) + 1) (sum_within (pos 0) (row_for num den) m)) e in
+          (zero_verdict (length (generators p) + 1) (sum_within (pos 0) (row_for num den) m)) e in
           let there = refuted (row_for (neg_ℤ (pos 1)) (pos 0)) values (over (neg_ℤ (pos 1)) (pos 0)) complete both.0 in (
             there.0,
             left_above (f m) (g m) (subst (λ (x : ℤ). x ≤ℤ neg_ℤ (pos 1)) (value_at (neg_ℤ (pos 1)) (pos 0) m refl) there.1),
@@ -200,7 +200,7 @@ module _ (q : BodyView) (p : ProblemView) (is : IsProblemOf q p) where
       never : tight_verdict p (row_for (pos 0) (pos 1)) left values ≡ valid → AreTrueTogether q m × (f m ≡ pos 0) × (pos 1 ≤ℤ g m)
       never e =
           let both = both_valid (no_verdict (length (elementals p.space.variables)) (generators p) (row_for (pos 0) (pos 1)) m)
-              (zero_verdict (length (generators p) + 1) (sum_within (pos 0) left m)) e in
+          (zero_verdict (length (generators p) + 1) (sum_within (pos 0) left m)) e in
           let there = refuted (row_for (pos 0) (pos 1)) values (over (pos 0) (pos 1)) complete both.0 in (
             there.0,
             sym (left_is.same m refl) ∙ is_zero (length (generators p) + 1) left m both.1,
@@ -220,7 +220,7 @@ module _ (q : BodyView) (p : ProblemView) (is : IsProblemOf q p) where
     rest_is num den judge e =
         row_taken (unformed size (neg_ℤ (pos 1)) (pos 0) left right) (row_for (neg_ℤ (pos 1)) (pos 0)) (judge (row_for num den))
         (row_taken (unformed size num den left right) (row_for num den) (λ factor. with_row
-            (row_unless (unformed size (neg_ℤ (pos 1)) (pos 0) left right) (row_for (neg_ℤ (pos 1)) (pos 0))) (judge factor)) e)
+        (row_unless (unformed size (neg_ℤ (pos 1)) (pos 0) left right) (row_for (neg_ℤ (pos 1)) (pos 0))) (judge factor)) e)
 
     turned_at : (x y : ℤ) → pos 0 ≤ℤ (neg_ℤ (pos 1) *ℤ x -ℤ pos 0 *ℤ y) → pos 0 ≤ℤ neg_ℤ x
     turned_at x y h = omega (arith, ints, h)
@@ -239,13 +239,13 @@ module _ (q : BodyView) (p : ProblemView) (is : IsProblemOf q p) where
     true_by (Never values) shape e =
         let rest = row_taken (unformed size (pos 0) (pos 1) left right) (row_for (pos 0) (pos 1)) (λ turned. tight_verdict p turned left values)
         (some_same (with_row (row_unless (unformed size (pos 0) (pos 1) left right) (row_for (pos 0) (pos 1)))
-            (λ turned. tight_verdict p turned left values)) valid e) in
+        (λ turned. tight_verdict p turned left values)) valid e) in
         let at = never values shape.each rest in
         λ a b from holds. none_at_zero a b (f (point_of values)) (g (point_of values)) at.1 at.2 from (holds (point_of values) at.0)
     true_by (Unbounded num den w below) shape e =
         let one = denominator_is den (rest_of num den (λ factor turned. first_wrong (proof_verdict p factor w) (Checked (proof_verdict p turned below))))
         (some_same (from_one den (rest_of num den (λ factor turned. first_wrong (proof_verdict p factor w)
-            (Checked (proof_verdict p turned below))))) valid e) in
+        (Checked (proof_verdict p turned below))))) valid e) in
         let rest = rest_is num den (λ factor turned. first_wrong (proof_verdict p factor w) (Checked (proof_verdict p turned below))) one.1 in
         let both = both_valid (proof_verdict p (row_for num den) w) (Checked (proof_verdict p (row_for (neg_ℤ (pos 1)) (pos 0)) below)) rest in
         let second = checked_valid (proof_verdict p (row_for (neg_ℤ (pos 1)) (pos 0)) below) both.1 in (
@@ -305,11 +305,11 @@ pub valid_factor_is_true : ValidFactorIsTrue
 valid_factor_is_true line names source best h reads =
     let q = (asked source).body in
     let e : h.reading ≡ Factored source best = same_read h.reading (Factored source best)
-        (one_reading line (Ok h.reading) (Ok (Factored source best)) h.reads reads) in
+    (one_reading line (Ok h.reading) (Ok (Factored source best)) h.reads reads) in
     let told : Weighed names valid ≡ factor_line_verdict (asked source).body best = subst (λ x. IsReadingVerdict x (Weighed names valid)) e h.verdict in
     let about = best_source_read line source best reads in
     told_true q best names (source_limits reads.value source about) (source_numbers reads.value source about)
-        (best_fits_question line source best reads).shape (asked_by q.verb) refl told
+    (best_fits_question line source best reads).shape (asked_by q.verb) refl told
 
 -- ---- of a sharing file
 

@@ -9,4 +9,4 @@ pub steps_complete : (size : ℕ) (steps : List Step) → All (λ (v : StepView)
     → All (λ (s : Step). length s.ray ≡ size) steps
 steps_complete size steps h k d l =
     sym (ap (λ (v : StepView). length v.ray) (get_or-map step_view steps k d (step_view d) l))
-        ∙ h k (step_view d) (subst (λ n. k < n) (sym (length-map steps step_view)) l)
+    ∙ h k (step_view d) (subst (λ n. k < n) (sym (length-map steps step_view)) l)

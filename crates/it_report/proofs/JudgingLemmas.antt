@@ -134,8 +134,12 @@ pub invalid_coded : (k : ℕ) (q : BodyView) (a : AnswerView) (c : ReportedCodeV
 invalid_coded k q a c t i is_no invalid judged = by_verdict judged.verdict judged.is judged.told
   where
     by_verdict : (v : LineVerdict) → IsAnswerVerdict q a v → IsLineOf k v t i → IsJudgedCoded k q a c t i
-    by_verdict (Judged names v) is told = record { verdict = Judged names v; is
-        = (is.0, is.1, λ valid. absurd (not_valid v valid (sym told.1 ∙ invalid))); told = told }
+    by_verdict (Judged names v) is told = record {
+      verdict = Judged names v;
+      is
+          = (is.0, is.1, λ valid. absurd (not_valid v valid (sym told.1 ∙ invalid)));
+      told = told;
+    }
     by_verdict Skipped is told = absurd (true≢false (sym invalid ∙ told.1))
     by_verdict NotJson is told = absurd is
     by_verdict (Shape key) is told = absurd is
@@ -174,7 +178,7 @@ module _ {L E : Type 0} (text : L → List ℕ) (invalid : L → Bool) (k : ℕ)
       by_reading (Answered source a) (variants.Answered question answer) same h judged =
           let verdict : IsAnswerVerdict (asked source).body a judged.verdict =
           subst (λ b. IsAnswerVerdict (asked source).body b judged.verdict) (sym same.1)
-              (subst (λ (q : QuestionView). IsAnswerVerdict q.body (answer_view answer) judged.verdict) (sym same.0) judged.is) in
+          (subst (λ (q : QuestionView). IsAnswerVerdict q.body (answer_view answer) judged.verdict) (sym same.0) judged.is) in
           record { verdict = judged.verdict; is = read_verdict line (Answered source a) judged.verdict h verdict; told = judged.told }
       by_reading (Answered source a) (variants.Coded question answer code) same h judged = absurd same
       by_reading (Answered source a) (variants.Derived question answer origins) same h judged = absurd same
@@ -199,7 +203,7 @@ module _ {L E : Type 0} (text : L → List ℕ) (invalid : L → Bool) (k : ℕ)
           subst (λ x. IsDerivedVerdict (asked source).body a x judged.verdict) (sym same.2)
           (subst (λ x. IsDerivedVerdict (asked source).body x (map certificate_view origins.items) judged.verdict) (sym same.1)
           (subst (λ (q : QuestionView). IsDerivedVerdict q.body (answer_view answer) (map certificate_view origins.items) judged.verdict)
-              (sym same.0) judged.is)) in
+          (sym same.0) judged.is)) in
           record { verdict = judged.verdict; is = read_verdict line (Derived source a ws) judged.verdict h verdict; told = judged.told }
       by_reading (Derived source a ws) (variants.Factored question best) same h judged = absurd same
       by_reading (Derived source a ws) (variants.Bounded question bounds) same h judged = absurd same
@@ -210,7 +214,7 @@ module _ {L E : Type 0} (text : L → List ℕ) (invalid : L → Bool) (k : ℕ)
       by_reading (Factored source b) (variants.Factored question best) same h judged =
           let v = factor_line_verdict (question_body question) (best_view best) in
           let told : v ≡ factor_line_verdict (asked source).body b = ap₂ (λ (q : QuestionView) (x : BestView). factor_line_verdict q.body x)
-              (sym same.0) (sym same.1) in
+          (sym same.0) (sym same.1) in
           record { verdict = factor_line_verdict (question_body question) (best_view best); is = read_verdict line (Factored source b) v h told; told = judged }
       by_reading (Factored source b) (variants.Bounded question bounds) same h judged = absurd same
       by_reading (Factored source b) variants.Misfit same h judged = absurd same
@@ -221,7 +225,7 @@ module _ {L E : Type 0} (text : L → List ℕ) (invalid : L → Bool) (k : ℕ)
       by_reading (Bounded source b) (variants.Bounded question bounds) same h judged =
           let verdict : IsBoundsVerdict (asked source).body b judged.verdict =
           subst (λ c. IsBoundsVerdict (asked source).body c judged.verdict) (sym same.1)
-              (subst (λ (q : QuestionView). IsBoundsVerdict q.body (bounds_view bounds) judged.verdict) (sym same.0) judged.is) in
+          (subst (λ (q : QuestionView). IsBoundsVerdict q.body (bounds_view bounds) judged.verdict) (sym same.0) judged.is) in
           record { verdict = judged.verdict; is = read_verdict line (Bounded source b) judged.verdict h verdict; told = judged.told }
       by_reading (Bounded source b) variants.Misfit same h judged = absurd same
       by_reading Misfit (variants.Answered question answer) same h judged = absurd same
@@ -342,7 +346,7 @@ module _ (q : BodyView) (p : ProblemView) (is : IsProblemOf q p) (r : RelationVi
       → Weighed names v ≡ factor_line_verdict q best
   weighed_as_told best left right names v asks left_is right_is own e =
       ap (λ n. Weighed n v) own ∙ sym (ap (λ o. weighed_by q (option_and_then (λ s. factor_verdict_of q s best) o)) (relation_asked asks)
-          ∙ ap (weighed_by q) by_rows)
+      ∙ ap (weighed_by q) by_rows)
     where
       by_rows : factor_verdict_of q r best ≡ Some v
       by_rows =
@@ -419,8 +423,12 @@ module _ (q : BodyView) (p : Pair) (parts : List ℕ) (ws : List CertificateView
       ∙ sym (ap (λ v. space_of (names_under q.names v)) e))
 
   pub pair_problem : IsProblemOf q p.first
-  pair_problem = record { space = pair_space; limits = l.problem; constraints = of_pair
-      (AreStated p.first.space (question_origins q) (question_demands q) p.first.constraints) (λ first second tries e o h. o.first) }
+  pair_problem = record {
+    space = pair_space;
+    limits = l.problem;
+    constraints = of_pair
+        (AreStated p.first.space (question_origins q) (question_demands q) p.first.constraints) (λ first second tries e o h. o.first);
+  }
 
   pub candidate_fits : (c : Candidate) → length c.parts ≡ 4 → c.count ≡ length parts → take c.count c.parts ≡ parts → FitsPair p c
   candidate_fits c four count same = of_pair (FitsPair p c) (λ first second tries e o h. parts_fit q first second p o c parts four count same h)
@@ -430,7 +438,7 @@ module _ (q : BodyView) (p : Pair) (parts : List ℕ) (ws : List CertificateView
       → ArePulledRows p.first.space (pair_obligations p c) ts → ArePulledRows p.first.space (answer_forms q (Contained parts ws)) ts
   obligation_rows_are c ts same are = of_pair (ArePulledRows p.first.space (answer_forms q (Contained parts ws)) ts) (λ first second tries e o h.
       subst (λ fs. ArePulledRows p.first.space fs ts) (ap (obligations q first second) same
-          ∙ sym (ap (λ v. answer_forms_by q v (Contained parts ws)) e)) (text_rows q first second p o c ts are))
+      ∙ sym (ap (λ v. answer_forms_by q v (Contained parts ws)) e)) (text_rows q first second p o c ts are))
 
 -- ---- a code
 
@@ -496,7 +504,7 @@ rows_over q (Region rows) is_region fits = by_verb q.verb (verb_fits q (Region r
         let size = size_of (space_of q.names) in
         all_of (IsOver size) (map (λ r. r.1) rows)
         (every-map (IsOver size) (λ r. r.1) rows (every-same (IsRowIn size) (λ r. IsOver size r.1) rows (λ r k. k.coordinates)
-            (every_of (IsRowIn size) rows fits)))
+        (every_of (IsRowIn size) rows fits)))
     by_verb (Contain first second tries) fits = absurd fits
 rows_over q (Contained parts ws) is_region fits = absurd is_region
 rows_over q (Open tried) is_region fits = absurd is_region

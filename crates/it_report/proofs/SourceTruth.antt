@@ -47,10 +47,10 @@ valid_is_true_by_copies line names q copies r ws valid reads about =
     let source = source_read line (Copies q copies) (Yes ws) reads in
     let claim = valid_is_true line names (Copies q copies) (Yes ws) valid reads in
     let limits = All-head (λ (q : QuestionView). IsQuestion q.body) q []
-        (copied_questions_are_within (source.head ++ source.text) copies (q ∷ []) source.asks.reads) in
+    (copied_questions_are_within (source.head ++ source.text) copies (q ∷ []) source.asks.reads) in
     yes_by_copies q.body (extended q.body copies) copies r limits about source.asks.extension
     (λ image polymatroid lines. own_lines (extended q.body copies) r q.body.verb about
-        (subst (λ (v : VerbView). IsClaimTrueBy (extended q.body copies) v (Yes ws)) about claim) image (polymatroid, lines))
+    (subst (λ (v : VerbView). IsClaimTrueBy (extended q.body copies) v (Yes ws)) about claim) image (polymatroid, lines))
 
 -- ---- a sharing file
 
@@ -69,7 +69,7 @@ place_there x back values fits =
     let fs = targets (length x.names.variables) x.relation in
     let as_many = length-map fs (terms_in (made_question x).body) in
     let there = target_is_there (made_question x).body x.relation refl back values (length x.names.variables)
-        (map (terms_in (made_question x).body) fs) as_many fits in
+    (map (terms_in (made_question x).body) fs) as_many fits in
     omega (arith, as_many, there)
 
 module _ (x : SharingView) (within : IsSharing x) where
@@ -99,4 +99,4 @@ valid_is_true_of_sharing line names x a valid reads =
     let source = source_read line (Sharing x) a reads in
     let shape = fits_question line (Sharing x) a reads in
     true_of_sharing x (sharing_is_within source.text x source.makes.reads).0 a shape (made_shape x a shape)
-        (made_claim x a (valid_is_true line names (Sharing x) a valid reads))
+    (made_claim x a (valid_is_true line names (Sharing x) a valid reads))

@@ -97,10 +97,10 @@ module _ (q : BodyView) (p : ProblemView) (is : IsProblemOf q p) where
     target_holds : (f : Form) (t : Terms) (w : CertificateView) → IsPulledRow p.space f t → proof_verdict p t w ≡ Valid → pos 0 ≤ℤ f m
     target_holds f t w row e =
         let met : AreMet m p.constraints = (question_met q p.space p.constraints is.space is.constraints m h.empty).1
-            (to_problem (λ s. AreTrueAt s.variables m (problem_lines q)) lines) in
+        (to_problem (λ s. AreTrueAt s.variables m (problem_lines q)) lines) in
         let by : CertifiesRow p t w = ((valid_yes_is p t w is.limits row.coordinates).0 e).0 in
         subst (λ (x : ℤ). pos 0 ≤ℤ x) (row.same m h.empty) (yes_is_true p t w is.limits row.coordinates by m
-            (to_problem (λ s. IsPolymatroid s.variables m) h) met)
+        (to_problem (λ s. IsPolymatroid s.variables m) h) met)
 
     -- forms of which each has a valid certificate are at least 0 at the polymatroid
     all_hold : (fs : List Form) (ts : List Terms) (ws : List CertificateView) → ArePulledRows p.space fs ts → length ws ≡ length fs
@@ -118,7 +118,7 @@ module _ (q : BodyView) (p : ProblemView) (is : IsProblemOf q p) where
       → length ws ≡ length (targets (length q.names.variables) r) → proofs_verdict p ts ws ≡ Valid → IsClaimTrueBy q (Prove r) (Yes ws)
   yes_true r ts ws are l e m t =
       (targets_met r.sign (side_at (variable_count q) m (common_denominator r) r.left)
-          (side_at (variable_count q) m (common_denominator r) r.right) (form_of (variable_count q) r) m refl).0
+      (side_at (variable_count q) m (common_denominator r) r.right) (form_of (variable_count q) r) m refl).0
       (all_hold m t.0 t.1 (targets (variable_count q) r) ts ws are (l ∙ targets_counted (length q.names.variables) (variable_count q) r) e)
 
   no_true : (r : RelationView) (ts : List Terms) (back : Bool) (values : List ℤ) → ArePulledRows p.space (targets (variable_count q) r) ts
@@ -147,9 +147,9 @@ module _ (q : BodyView) (p : ProblemView) (is : IsProblemOf q p) where
       obligations_contain q first second tries parts k about (parts_as_named first second parts ws fits)
       (λ m inside.
       let polymatroid : IsPolymatroid (variable_count q) m = subst (λ v. IsPolymatroid (length (names_under q.names v).variables) m)
-          (sym about) inside.polymatroid in
+      (sym about) inside.polymatroid in
       let lines : AreTrueAt (variable_count q) m (problem_lines q) = subst
-          (λ v. AreTrueAt (length (names_under q.names v).variables) m (lines_under q.lines v)) (sym about) inside.lines_hold in
+      (λ v. AreTrueAt (length (names_under q.names v).variables) m (lines_under q.lines v)) (sym about) inside.lines_hold in
       all_hold m polymatroid lines (obligations q first second parts) ts ws are (fits.obligations ∙ sym (obligations_counted q first second parts)) e)
 
 judged_true : (q : BodyView) (verb : VerbView) (a : AnswerView) → q.verb ≡ verb → IsQuestion q → QuestionHasSmallNumbers q
@@ -172,7 +172,7 @@ judged_true q (Prove r) a about k small fits e =
     by_answer (No back values) fits e = no_true q (problem_of q) is r (map (terms_in q) (targets (variable_count q) r)) back values are
         (point_is_complete q r about back values (space_of (problem_names q)) refl fits)
         (target_is_there q r about back values (variable_count q) (map (terms_in q) (targets (variable_count q) r))
-            (length-map (targets (variable_count q) r) (terms_in q)) fits)
+        (length-map (targets (variable_count q) r) (terms_in q)) fits)
         (some_same (point_verdict (problem_of q) (map (terms_in q) (targets (variable_count q) r)) back values) Valid e)
     by_answer (Undecided cause) fits e = tt
     by_answer (Region rows) fits e = tt
@@ -194,7 +194,7 @@ judged_true q (Contain first second tries) a about k small fits e =
         let rows = map (terms_in q) (obligations q first second parts) in
         contained_true q (problem_of q) (question_poses q k small) first second tries parts rows ws about k
         (obligation_rows_there q k small first second tries about parts (parts_as_named first second parts ws shape)) shape
-            (some_same (proofs_verdict (problem_of q) rows ws) Valid e)
+        (some_same (proofs_verdict (problem_of q) rows ws) Valid e)
     by_answer (Open tried) fits e = tt
 
 pub valid_is_true : ValidIsTrue
@@ -202,15 +202,15 @@ valid_is_true line names source a h reads =
     let e : h.reading ≡ Answered source a = same_read h.reading (Answered source a) (one_reading line (Ok h.reading) (Ok (Answered source a)) h.reads reads) in
     let judged : IsAnswerVerdict (asked source).body a (Judged names Valid) = subst (λ x. IsReadingVerdict x (Judged names Valid)) e h.verdict in
     judged_true (asked source).body (asked source).body.verb a refl (limits_question line source a reads)
-        (small_numbers line source a reads) (fits_question line source a reads) judged.1
+    (small_numbers line source a reads) (fits_question line source a reads) judged.1
 
 -- a valid no with a code
 pub valid_code_is_true : ValidCodeIsTrue
 valid_code_is_true line names source back values c h reads =
     let e : h.reading ≡ Coded source (No back values) c = same_read h.reading (Coded source (No back values) c)
-        (one_reading line (Ok h.reading) (Ok (Coded source (No back values) c)) h.reads reads) in
+    (one_reading line (Ok h.reading) (Ok (Coded source (No back values) c)) h.reads reads) in
     let judged : IsCodedVerdict (asked source).body (No back values) c (Judged names Valid) = subst
-        (λ y. IsReadingVerdict y (Judged names Valid)) e h.verdict in
+    (λ y. IsReadingVerdict y (Judged names Valid)) e h.verdict in
     let read = coded_is reads.reads.own reads.value source (No back values) c reads.reads.is in
     let own : IsSourceOf reads.value source = subst (IsSourceAt reads.value) read.0 reads.reads.source in (
       judged_true (asked source).body (asked source).body.verb (No back values) refl (source_limits reads.value source own)

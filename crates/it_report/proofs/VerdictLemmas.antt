@@ -65,7 +65,7 @@ unfolding yes_verdict
 yes_over gs size t w =
     told_over (size + 1) _ (either_over (size + 1) (of_scale w.scale) _ (chosen_over (size + 1) (int_lt w.scale (pos 1)) (Some (BadScale w.scale)) None tt tt)
     (either_over (size + 1) (of_weights gs w.weights) (of_coordinates gs t w 1 size) (weights_over (size + 1) gs w.weights)
-        (coordinates_over (size + 1) gs t w 1 size (omega arith))))
+    (coordinates_over (size + 1) gs t w 1 size (omega arith))))
 
 two_over : (b : ℕ) (c : Bool) (v u : Verdict) → IsVerdictOver b v → IsVerdictOver b u → IsVerdictOver b (if c then v else u)
 two_over b true v u h k = h

@@ -50,7 +50,7 @@ module _ {A : Type 0} (F : OrderedField A) (m n : ℕ) where
       precedes_agrees : (i k : ℕ) → i < m → k < m → precedes (operations_of F) m n t c i k ≡ precedes (operations_of F) m n s c i k
       precedes_agrees i k hi hk =
           ap₂ (λ x y. cond (F.order.is_least (difference F.ring x y)) (F.order.is_least (difference F.ring y x)
-              && ltb (t.basis i) (t.basis k)) true) (ratio_agrees i (omega arith)) (ratio_agrees k (omega arith))
+          && ltb (t.basis i) (t.basis k)) true) (ratio_agrees i (omega arith)) (ratio_agrees k (omega arith))
           ∙ ap₂ (λ x y. cond (F.order.is_least (difference F.ring (ratio (operations_of F) m n s c i) (ratio (operations_of F) m n s c k)))
           (F.order.is_least (difference F.ring (ratio (operations_of F) m n s c k) (ratio (operations_of F) m n s c i)) && ltb x y) true)
           (a.basics i hi) (a.basics k hk)
@@ -75,7 +75,7 @@ module _ {A : Type 0} (F : OrderedField A) (m n : ℕ) where
     pivot_agrees r c hr hc = record {
       entries = λ i j hi hj.
           ap₂ (λ x y. cond (eqb i r) (F.ring.mul x (F.order.inv y)) (difference F.ring (t.entry i j)
-              (F.ring.mul x (F.ring.mul (t.entry i c) (F.order.inv y))))) (a.entries r j hr hj) (a.entries r c hr (omega arith))
+          (F.ring.mul x (F.ring.mul (t.entry i c) (F.order.inv y))))) (a.entries r j hr hj) (a.entries r c hr (omega arith))
           ∙ ap₂ (λ x y. cond (eqb i r) (F.ring.mul (s.entry r j) (F.order.inv (s.entry r c)))
           (difference F.ring x (F.ring.mul (s.entry r j) (F.ring.mul y (F.order.inv (s.entry r c)))))) (a.entries i j hi hj)
           (a.entries i c hi (omega arith));
@@ -87,14 +87,14 @@ module _ {A : Type 0} (F : OrderedField A) (m n : ℕ) where
         let c = entering_column (operations_of F) m n t in
         let r = leaving_row (operations_of F) m n t (entering_column (operations_of F) m n t) in
         let same : leaving_row (operations_of F) m n t (entering_column (operations_of F) m n t)
-            ≡ leaving_row (operations_of F) m n s (entering_column (operations_of F) m n s) =
+        ≡ leaving_row (operations_of F) m n s (entering_column (operations_of F) m n s) =
         leaving_agrees (entering_column (operations_of F) m n t) (entering_most t) m (omega arith) ∙ ap (leaving_row (operations_of F) m n s) entering_agrees in
         subst (λ (x : ℕ). Agree (next (operations_of F) m n t) (pivot (operations_of F) s x (entering_column (operations_of F) m n s))) same
         (subst (λ (y : ℕ). Agree (next (operations_of F) m n t) (pivot (operations_of F) s
-            (leaving_row (operations_of F) m n t (entering_column (operations_of F) m n t)) y)) entering_agrees
+        (leaving_row (operations_of F) m n t (entering_column (operations_of F) m n t)) y)) entering_agrees
         (pivot_agrees (leaving_row (operations_of F) m n t (entering_column (operations_of F) m n t))
-            (entering_column (operations_of F) m n t) (leaving_most t (entering_column (operations_of F) m n t) m (omega arith))
-            (entering_most t)))
+        (entering_column (operations_of F) m n t) (leaving_most t (entering_column (operations_of F) m n t) m (omega arith))
+        (entering_most t)))
 
   after_agrees : (t s : SimplexTable A) → Agree t s → (k : ℕ) → Agree (table_after (operations_of F) m n t k) (table_after (operations_of F) m n s k)
   after_agrees t s a zero = a
@@ -103,4 +103,4 @@ module _ {A : Type 0} (F : OrderedField A) (m n : ℕ) where
   pub steps_left_agrees : (t s : SimplexTable A) → Agree t s → steps_left F m n t ≡ steps_left F m n s
   steps_left_agrees t s a = ap (λ (f : ℕ → Bool). first_false f 0 (suc (most_steps F m n)))
       (same_functions (λ k. ap (λ c. ltb c n) (entering_agrees (table_after (operations_of F) m n t k)
-          (table_after (operations_of F) m n s k) (after_agrees t s a k))))
+      (table_after (operations_of F) m n s k) (after_agrees t s a k))))

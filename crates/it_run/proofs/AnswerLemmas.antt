@@ -31,7 +31,7 @@ module _ (old new : TableauView) (p : FeasibilityProblem Rational) (budget : Opt
       → ws ≡ weights rationals (height new) new.generator_columns (table new) → RunsTo (height old) old.generator_columns p budget (table old) (Weights ws)
   by_weights ws f r e = subst (λ (ws : List (ℕ × Rational)). RunsTo (height old) old.generator_columns p budget (table old) (Weights ws))
       (sym (e ∙ ap₂ (λ m n. weights rationals m n (table new)) f.height f.generator_columns))
-          (read_run (height old) old.generator_columns p budget (table old) (Weights (table new)) r)
+      (read_run (height old) old.generator_columns p budget (table old) (Weights (table new)) r)
 
   pub by_point : (q : List Rational) → KeepsFrame old new → HasSigns old p → ReachesBy (height old) old.generator_columns budget (table old) (Point (table new))
       → (HasSigns new p → q ≡ point rationals (height new) new.generator_columns p (table new))
@@ -43,8 +43,11 @@ module _ (old new : TableauView) (p : FeasibilityProblem Rational) (budget : Opt
 
 -- a start has the invariants
 pub holds_start : (t : TableauView) → HasProblem t → HasInvariantsForSome t
-holds_start t s = (s.0, subst (λ (x : SimplexTable Rational). HasInvariants rationals (height t) t.generator_columns s.0 x)
-    (sym s.1.table_is) (start_has_invariants field_ℚ (height t) t.generator_columns s.0))
+holds_start t s = (
+  s.0,
+  subst (λ (x : SimplexTable Rational). HasInvariants rationals (height t) t.generator_columns s.0 x)
+      (sym s.1.table_is) (start_has_invariants field_ℚ (height t) t.generator_columns s.0),
+)
 
 pub if_ok : {X E : Type 0} (r : Result X E) (P Q : X → Type 0) → IfOk r P → ((x : X) → P x → Q x) → IfOk r Q
 if_ok (Ok x) P Q h f = f x h

@@ -25,7 +25,7 @@ module _ {A : Type 0} (F : OrderedField A) (m n : ℕ) where
       row_by_basis F m n p s t g h i j (omega arith)
       ∙ sum_same F.ring m (λ l. F.ring.mul (t.entry i (s.basis l)) (s.entry l j)) (λ l. F.ring.mul (s.entry l j) (cond (eqb l k) F.ring.unit F.ring.null))
       (λ l q. ap (λ x. F.ring.mul x (s.entry l j)) (by_cases l q (w l q) (cases_eq l k))
-          ∙ F.ring.mul_comm (cond (eqb l k) F.ring.unit F.ring.null) (s.entry l j))
+      ∙ F.ring.mul_comm (cond (eqb l k) F.ring.unit F.ring.null) (s.entry l j))
       ∙ sum_unit F.ring m (λ l. s.entry l j) k hk
     where
       by_cases : (l : ℕ) → l < m → (x : ℕ) × (x < m) × (s.basis l ≡ t.basis x) → (l ≡ k) ⊎ (l ≡ k → ⊥)
@@ -67,12 +67,12 @@ module _ {A : Type 0} (F : OrderedField A) (m n : ℕ) where
       let open_i : IsAboveZero F (t.entry i.0 c) = subst (IsAboveZero F) (sym (other c)) q.above in
       let up : IsAtLeastZero F (difference F.ring (ratio (operations_of F) m n s c k.0) (ratio (operations_of F) m n s c x)) = q.least k.0 k.1 open_k in
       let down : IsAtLeastZero F (difference F.ring (ratio (operations_of F) m n s c x) (ratio (operations_of F) m n s c k.0)) = subst
-          (λ (y : A). IsAtLeastZero F (difference F.ring y (ratio (operations_of F) m n s c k.0))) ri
-          (subst (λ (y : A). IsAtLeastZero F (difference F.ring (ratio (operations_of F) m n t c i.0) y)) rk (l.least i.0 i.1 open_i)) in
+      (λ (y : A). IsAtLeastZero F (difference F.ring y (ratio (operations_of F) m n s c k.0))) ri
+      (subst (λ (y : A). IsAtLeastZero F (difference F.ring (ratio (operations_of F) m n t c i.0) y)) rk (l.least i.0 i.1 open_i)) in
       let even : ratio (operations_of F) m n s c k.0 ≡ ratio (operations_of F) m n s c x = equal_by_order F m n
-          (ratio (operations_of F) m n s c k.0) (ratio (operations_of F) m n s c x) up down in
+      (ratio (operations_of F) m n s c k.0) (ratio (operations_of F) m n s c x) up down in
       equal_by_bounds (t.basis r) (s.basis x) (subst (λ (y : ℕ). s.basis x ≤ y) (sym k.2) (q.first k.0 k.1 open_k even))
-          (subst (λ (y : ℕ). t.basis r ≤ y) (sym i.2) (l.first i.0 i.1 open_i (ri ∙ sym even ∙ sym rk)))
+      (subst (λ (y : ℕ). t.basis r ≤ y) (sym i.2) (l.first i.0 i.1 open_i (ri ∙ sym even ∙ sym rk)))
     where
       equal_by_bounds : (a b : ℕ) → b ≤ a → a ≤ b → a ≡ b
       equal_by_bounds a b h k = omega arith
@@ -101,7 +101,7 @@ module _ {A : Type 0} (F : OrderedField A) (m n : ℕ) where
           (leaving_row (operations_of F) m n t (entering_column (operations_of F) m n t))
           (leaving_row (operations_of F) m n s (entering_column (operations_of F) m n s)) h g w v
           (subst (λ (y : ℕ). Leaves F m n t y (leaving_row (operations_of F) m n t (entering_column (operations_of F) m n t)))
-              entering_agree first_leaves) second_leaves
+          entering_agree first_leaves) second_leaves
 
       by_cases : (i ≡ leaving_row (operations_of F) m n t (entering_column (operations_of F) m n t))
           ⊎ (i ≡ leaving_row (operations_of F) m n t (entering_column (operations_of F) m n t) → ⊥)
@@ -121,7 +121,7 @@ module _ {A : Type 0} (F : OrderedField A) (m n : ℕ) where
             ∙ sym (old_basis F m n s (leaving_row (operations_of F) m n s (entering_column (operations_of F) m n s))
             (entering_column (operations_of F) m n s) k.0
             (λ y. e (basic_columns_differ F m n p t h i (leaving_row (operations_of F) m n t (entering_column (operations_of F) m n t)) hi
-                first_leaves.row (k.2 ∙ ap s.basis y ∙ sym leaving_agree)))),
+            first_leaves.row (k.2 ∙ ap s.basis y ∙ sym leaving_agree)))),
       )
 
   -- two tables of the problem with the same set of basic columns
@@ -158,7 +158,7 @@ module _ {A : Type 0} (F : OrderedField A) (m n : ℕ) where
       (suc (most_steps F m n)) (steps_left F m n s) (omega arith)
       (same_moving p (table_after (operations_of F) m n t (steps_left F m n s)) (table_after (operations_of F) m n s (steps_left F m n s))
       (same_basis_after p t s a (steps_left F m n s) (λ j l. first_before (λ k. is_moving F m n (table_after (operations_of F) m n s k)) 0
-          (suc (most_steps F m n)) j (omega arith) l)) ∙ e)
+      (suc (most_steps F m n)) j (omega arith) l)) ∙ e)
 
   steps_left_at_most : (p : FeasibilityProblem A) (t : SimplexTable A) → HasInvariants (operations_of F) m n p t → steps_left F m n t ≤ most_steps F m n
   steps_left_at_most p t h = by_cases (cases_lt (steps_left F m n t) (suc (most_steps F m n)))
@@ -177,8 +177,12 @@ module _ {A : Type 0} (F : OrderedField A) (m n : ℕ) where
 
   pub runs_end : (p : FeasibilityProblem A) (t : SimplexTable A) → HasInvariants (operations_of F) m n p t
       → (k : ℕ) × (k ≤ most_steps F m n) × IsStuck (operations_of F) m n (table_after (operations_of F) m n t k)
-  runs_end p t h = (steps_left F m n t, steps_left_at_most p t h, stuck_if F m n (table_after (operations_of F) m n t (steps_left F m n t))
-      (is_stuck_after_steps_left p t h))
+  runs_end p t h = (
+    steps_left F m n t,
+    steps_left_at_most p t h,
+    stuck_if F m n (table_after (operations_of F) m n t (steps_left F m n t))
+        (is_stuck_after_steps_left p t h),
+  )
 
   module _ (p : FeasibilityProblem A) (t : SimplexTable A) (h : HasInvariants (operations_of F) m n p t) (N : ℕ)
       (go : (k : ℕ) → k < N → ¬ (IsStuck (operations_of F) m n (table_after (operations_of F) m n t k))) where
@@ -197,9 +201,9 @@ module _ {A : Type 0} (F : OrderedField A) (m n : ℕ) where
     steps_left_fall a (suc d) l = subst (λ (x : ℕ). steps_left F m n (table_after (operations_of F) m n t x)
         < steps_left F m n (table_after (operations_of F) m n t a)) later_step
         (chain (steps_left F m n (table_after (operations_of F) m n t (suc (a + suc d))))
-            (steps_left F m n (table_after (operations_of F) m n t (a + suc d))) (steps_left F m n (table_after (operations_of F) m n t a))
+        (steps_left F m n (table_after (operations_of F) m n t (a + suc d))) (steps_left F m n (table_after (operations_of F) m n t a))
         (steps_fall F m n p (table_after (operations_of F) m n t (a + suc d)) (invariants_after (a + suc d) (omega arith))
-            (go (a + suc d) (omega arith))) (steps_left_fall a d (omega arith)))
+        (go (a + suc d) (omega arith))) (steps_left_fall a d (omega arith)))
       where
         later_step : suc (a + suc d) ≡ a + suc (suc d)
         later_step = omega arith
@@ -214,10 +218,10 @@ module _ {A : Type 0} (F : OrderedField A) (m n : ℕ) where
     never_set_again a b l q w v = bounds_clash (steps_left F m n (table_after (operations_of F) m n t a))
         (steps_left F m n (table_after (operations_of F) m n t b))
         (steps_left_with_same_basis p (table_after (operations_of F) m n t a) (table_after (operations_of F) m n t b)
-            (record { one = invariants_after a (omega arith); two = invariants_after b q; there = w; back = v })
-            (is_stuck_after_steps_left p (table_after (operations_of F) m n t b) (invariants_after b q)))
+        (record { one = invariants_after a (omega arith); two = invariants_after b q; there = w; back = v })
+        (is_stuck_after_steps_left p (table_after (operations_of F) m n t b) (invariants_after b q)))
         (subst (λ (x : ℕ). steps_left F m n (table_after (operations_of F) m n t x)
-            < steps_left F m n (table_after (operations_of F) m n t a)) steps_reach (steps_left_fall a (b - a - 1) (omega arith)))
+        < steps_left F m n (table_after (operations_of F) m n t a)) steps_reach (steps_left_fall a (b - a - 1) (omega arith)))
       where
         steps_reach : a + suc (b - a - 1) ≡ b
         steps_reach = omega arith

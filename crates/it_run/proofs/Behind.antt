@@ -21,7 +21,7 @@ module _ {A : Type 0} (F : OrderedField A) (m n : ℕ) (p : FeasibilityProblem A
       ∙ sum_same F.ring m (λ q. sum_to F.ring m (λ k. F.ring.mul (x k) (F.ring.mul (s k q) (t.entry q j))))
       (λ q. F.ring.mul (b.entry i (t.basis q)) (t.entry q j))
       (λ q l. sum_same F.ring m (λ k. F.ring.mul (x k) (F.ring.mul (s k q) (t.entry q j)))
-          (λ k. F.ring.mul (F.ring.mul (x k) (s k q)) (t.entry q j)) (λ k _. sym (F.ring.mul_assoc (x k) (s k q) (t.entry q j)))
+      (λ k. F.ring.mul (F.ring.mul (x k) (s k q)) (t.entry q j)) (λ k _. sym (F.ring.mul_assoc (x k) (s k q) (t.entry q j)))
       ∙ sum_times F.ring m (λ k. F.ring.mul (x k) (s k q)) (t.entry q j)
       ∙ ap (λ z. F.ring.mul z (t.entry q j)) (sym (hb.combines i (t.basis q) hi)))
     where

@@ -153,7 +153,7 @@ module _ {A : Type 0} (F : OrderedField A) (m n : ℕ) where
             (opposite_of_below (row_ratio i) (row_ratio best_row) e)) (λ x. same-least (row_ratio k) (row_ratio i) (ap row_ratio x));
         first = λ k l w x. below_suc (λ k. t.basis i ≤ t.basis k) k l
             (λ a. absurd (not_both F (difference F.ring (row_ratio i) (row_ratio best_row)) e
-                (subst (λ (y : A). IsAtLeastZero F (difference F.ring y (row_ratio best_row))) x (s.least k a w))))
+            (subst (λ (y : A). IsAtLeastZero F (difference F.ring y (row_ratio best_row))) x (s.least k a w))))
             (λ x. subst (λ (y : ℕ). t.basis i ≤ t.basis y) (sym x) (omega arith));
       }
       row_is_best o s true false e f g = absurd (false≢true g)
@@ -183,7 +183,7 @@ module _ {A : Type 0} (F : OrderedField A) (m n : ℕ) where
             (λ x. subst (λ (y : ℕ). IsAtLeastZero F (difference F.ring (row_ratio y) (row_ratio best_row))) (sym x) e);
         first = λ k l w x. below_suc (λ k. t.basis best_row ≤ t.basis k) k l (λ a. s.first k a w x)
             (λ y. subst (λ (z : ℕ). t.basis best_row ≤ t.basis z) (sym y) (basis_at_most d f g
-                (same-least (row_ratio best_row) (row_ratio i) (sym x ∙ ap row_ratio y))));
+            (same-least (row_ratio best_row) (row_ratio i) (sym x ∙ ap row_ratio y))));
       }
         where
           basis_at_most : (d : Bool) → F.order.is_least (difference F.ring (row_ratio best_row) (row_ratio i)) ≡ d
@@ -194,8 +194,11 @@ module _ {A : Type 0} (F : OrderedField A) (m n : ℕ) where
 
       by_test : (b : Bool) → is_candidate (operations_of F) t c i ≡ b → IsBestOrNone t c i best_row
           → IsBestOrNone t c (suc i) (cond b (cond (eqb best_row m) i (cond (precedes (operations_of F) m n t c i best_row) i best_row)) best_row)
-      by_test false o (inl s) = inl (s.0, λ k l. below_suc (λ k. is_candidate (operations_of F) t c k ≡ false) k l (s.1 k)
-          (λ e. ap (is_candidate (operations_of F) t c) e ∙ o))
+      by_test false o (inl s) = inl (
+        s.0,
+        λ k l. below_suc (λ k. is_candidate (operations_of F) t c k ≡ false) k l (s.1 k)
+            (λ e. ap (is_candidate (operations_of F) t c) e ∙ o),
+      )
       by_test false o (inr s) = inr record {
         row = (let r = s.row in omega arith);
         above = s.above;

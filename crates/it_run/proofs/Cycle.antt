@@ -55,7 +55,7 @@ module _ {A : Type 0} (F : OrderedField A) (m n : ℕ) where
         by_cases : ((i : ℕ) → i < m → (base k i < n) ⊎ (base k i ≡ n + i)) → (base k i < n) ⊎ (n ≤ base k i) → ⊥
         by_cases _ (inl q) = below-apart F ((table_after (operations_of F) m n t k).entry m (col k)) (column_enters k l).below
             (ap ((table_after (operations_of F) m n t k).entry m) (sym e) ∙ basic_cost F m n p (table_after (operations_of F) m n t k)
-                (invariants_after k (omega arith)) i hi ∙ ap (λ b. cond b F.ring.null (F.ring.neg F.ring.unit)) (lt-ltb (base k i) n q))
+            (invariants_after k (omega arith)) i hi ∙ ap (λ b. cond b F.ring.null (F.ring.neg F.ring.unit)) (lt-ltb (base k i) n q))
         by_cases _ (inr q) = let c : col k < n = (column_enters k l).column in absurd (omega arith)
 
     -- ---- the right sides
@@ -80,7 +80,7 @@ module _ {A : Type 0} (F : OrderedField A) (m n : ℕ) where
     gain-above k l = mul-above F (F.ring.neg ((table_after (operations_of F) m n t k).entry m (col k)))
         (F.order.inv ((table_after (operations_of F) m n t k).entry (row k) (col k)))
         (neg-above F ((table_after (operations_of F) m n t k).entry m (col k)) (column_enters k l).below)
-            (inv-positive ((table_after (operations_of F) m n t k).entry (row k) (col k)) (row_leaves k l).above)
+        (inv-positive ((table_after (operations_of F) m n t k).entry (row k) (col k)) (row_leaves k l).above)
 
     gain-least : (k : ℕ) → k < N → IsAtLeastZero F (F.ring.mul (right k (row k)) (gain k))
     gain-least k l = F.order.mul-least (right k (row k)) (gain k) ((invariants_after k (omega arith)).rights (row k) (row_leaves k l).row)
@@ -95,10 +95,10 @@ module _ {A : Type 0} (F : OrderedField A) (m n : ℕ) where
         no_steps = omega arith
     right_side_rises k (suc d) l = subst (λ (x : ℕ). IsAtLeastZero F (difference F.ring (right x m) (right k m))) later_step
         (subst (IsAtLeastZero F) (ring F.ring (right (k + d) m ∷ right k m ∷ F.ring.mul (right (k + d) (row (k + d))) (gain (k + d)) ∷ [])
-            (plus (plus (v 0) (minus (v 1))) (v 2)) (plus (plus (v 0) (v 2)) (minus (v 1))) refl
+        (plus (plus (v 0) (minus (v 1))) (v 2)) (plus (plus (v 0) (v 2)) (minus (v 1))) refl
         ∙ ap (λ x. difference F.ring x (right k m)) (sym (right_side_gains (k + d) (omega arith))))
         (F.order.add-least (difference F.ring (right (k + d) m) (right k m)) (F.ring.mul (right (k + d) (row (k + d))) (gain (k + d)))
-            (right_side_rises k d (omega arith)) (gain-least (k + d) (omega arith))))
+        (right_side_rises k d (omega arith)) (gain-least (k + d) (omega arith))))
       where
         later_step : suc (k + d) ≡ k + suc d
         later_step = omega arith
@@ -114,8 +114,8 @@ module _ {A : Type 0} (F : OrderedField A) (m n : ℕ) where
       same_cost : (k : ℕ) → a ≤ k → k ≤ b → right k m ≡ right a m
       same_cost k f g = equal_by_order F m n (right k m) (right a m) (right_side_rises_to a k f (omega arith))
           (subst (λ (x : A). IsAtLeastZero F (difference F.ring x (right k m)))
-              (sym (same_right F m n p (table_after (operations_of F) m n t a) (table_after (operations_of F) m n t b)
-              (invariants_after a (omega arith)) (invariants_after b last) again)) (right_side_rises_to k b g last))
+          (sym (same_right F m n p (table_after (operations_of F) m n t a) (table_after (operations_of F) m n t b)
+          (invariants_after a (omega arith)) (invariants_after b last) again)) (right_side_rises_to k b g last))
 
       -- the leaving row's right side is 0
       right_null : (k : ℕ) → a ≤ k → k < b → right k (row k) ≡ F.ring.null
@@ -139,7 +139,7 @@ module _ {A : Type 0} (F : OrderedField A) (m n : ℕ) where
           by_cases : (i ≡ row k) ⊎ (i ≡ row k → ⊥) → right (suc k) i ≡ right k i
           by_cases (inl e) = subst (λ (x : ℕ). right (suc k) x ≡ right k x) (sym e)
               (pivot_row F m n (table_after (operations_of F) m n t k) (row k) (col k) (n + m)
-                  ∙ ap (λ x. F.ring.mul x (F.order.inv ((table_after (operations_of F) m n t k).entry (row k) (col k)))) (right_null k f g)
+              ∙ ap (λ x. F.ring.mul x (F.order.inv ((table_after (operations_of F) m n t k).entry (row k) (col k)))) (right_null k f g)
               ∙ F.ring.mul_comm F.ring.null (F.order.inv ((table_after (operations_of F) m n t k).entry (row k) (col k)))
               ∙ mul-null F.ring (F.order.inv ((table_after (operations_of F) m n t k).entry (row k) (col k))) ∙ sym (right_null k f g))
           by_cases (inr d) = other_row F m n (table_after (operations_of F) m n t k) (row k) (col k) i (n + m) d
@@ -223,8 +223,13 @@ module _ {A : Type 0} (F : OrderedField A) (m n : ℕ) where
 
       -- the greatest column that leaves
       greatest_exists : (d : ℕ) → a + suc d ≤ b → (k : ℕ) × (a ≤ k) × (k < a + suc d) × ((j : ℕ) → a ≤ j → j < a + suc d → base j (row j) ≤ base k (row k))
-      greatest_exists zero l = (a, omega arith, omega arith, λ j f g. let e : j ≡ a = omega arith
-          in subst (λ (x : ℕ). base x (row x) ≤ base a (row a)) (sym e) (omega arith))
+      greatest_exists zero l = (
+        a,
+        omega arith,
+        omega arith,
+        λ j f g. let e : j ≡ a = omega arith
+            in subst (λ (x : ℕ). base x (row x) ≤ base a (row a)) (sym e) (omega arith),
+      )
       greatest_exists (suc d) l = by_cases (greatest_exists d (omega arith))
         where
           by_cases : ((k : ℕ) × (a ≤ k) × (k < a + suc d) × ((j : ℕ) → a ≤ j → j < a + suc d → base j (row j) ≤ base k (row k)))
@@ -259,8 +264,13 @@ module _ {A : Type 0} (F : OrderedField A) (m n : ℕ) where
               → (base (from + d) i ≡ x → (k : ℕ) × (from ≤ k) × (k < from + d) × (col k ≡ x))
               → (k : ℕ) × (from ≤ k) × (k < from + suc d) × (col k ≡ x)
           by_cases (inl q) _ ih = let s = ih q in (s.0, s.1, omega (arith, s.2), s.3)
-          by_cases (inr q) (inl y) ih = (from + d, omega arith, omega arith, sym (entering_becomes_basic (from + d))
-              ∙ ap (base (suc (from + d))) (sym y) ∙ ap (λ z. base z i) later_step ∙ e)
+          by_cases (inr q) (inl y) ih = (
+            from + d,
+            omega arith,
+            omega arith,
+            sym (entering_becomes_basic (from + d))
+                ∙ ap (base (suc (from + d))) (sym y) ∙ ap (λ z. base z i) later_step ∙ e,
+          )
           by_cases (inr q) (inr y) ih = absurd (q (sym (other_rows_keep_basis (from + d) i y) ∙ ap (λ z. base z i) later_step ∙ e))
 
       arrives_to : (i x from to : ℕ) → from ≤ to → base from i ≢ x → base to i ≡ x → (k : ℕ) × (from ≤ k) × (k < to) × (col k ≡ x)
@@ -338,15 +348,15 @@ module _ {A : Type 0} (F : OrderedField A) (m n : ℕ) where
           sum_is : sum_to F.ring m term ≡ F.ring.add (cost Q (col P)) (F.ring.neg (cost P (col P)))
           sum_is =
               sum_same F.ring m term (λ i. F.ring.add (F.ring.mul (cost Q (base P i)) (at_entering i))
-                  (F.ring.neg (F.ring.mul (cost_of (operations_of F) m n (base P i)) (at_entering i))))
+              (F.ring.neg (F.ring.mul (cost_of (operations_of F) m n (base P i)) (at_entering i))))
               (λ i _. ring F.ring (cost Q (base P i) ∷ cost_of (operations_of F) m n (base P i) ∷ at_entering i ∷ [])
-                  (times (plus (v 0) (minus (v 1))) (v 2)) (plus (times (v 0) (v 2)) (minus (times (v 1) (v 2)))) refl)
+              (times (plus (v 0) (minus (v 1))) (v 2)) (plus (times (v 0) (v 2)) (minus (times (v 1) (v 2)))) refl)
               ∙ sum_add F.ring m (λ i. F.ring.mul (cost Q (base P i)) (at_entering i))
               (λ i. F.ring.neg (F.ring.mul (cost_of (operations_of F) m n (base P i)) (at_entering i)))
               ∙ ap₂ F.ring.add (sym (row_by_basis F m n p (table_after (operations_of F) m n t P) (table_after (operations_of F) m n t Q)
               (invariants_after P (omega arith)) (invariants_after Q (omega arith)) m (col P) (omega arith)))
               (sum_neg (λ i. F.ring.mul (cost_of (operations_of F) m n (base P i)) (at_entering i))
-                  ∙ ap F.ring.neg (sym ((invariants_after P (omega arith)).costs (col P))))
+              ∙ ap F.ring.neg (sym ((invariants_after P (omega arith)).costs (col P))))
 
           sum_above : IsAboveZero F (sum_to F.ring m term)
           sum_above = subst (IsAboveZero F) (sym sum_is) (add-above F (cost Q (col P)) (F.ring.neg (cost P (col P))) (lesser_cost_least (col P) entering_less)
@@ -383,20 +393,20 @@ module _ {A : Type 0} (F : OrderedField A) (m n : ℕ) where
               less_top l z k (inl q) = product_neg_right (cost Q (base P i)) (at_entering i) (lesser_cost_least (base P i) l) q k
               less_top l z k (inr q) =
                   let w : top ≤ base P i = (row_leaves P (omega arith)).first i hi q
-                      (null_ratio i z ∙ sym (null_ratio (row P) (right_null P fP gP))) in absurd (omega arith)
+                  (null_ratio i z ∙ sym (null_ratio (row P) (right_null P fP gP))) in absurd (omega arith)
 
               by_cases : ((Goes (base P i)) × (right P i ≡ F.ring.null)) ⊎ ((j : ℕ) → a ≤ j → j ≤ b → base j i ≡ base P i) → ⊥
               by_cases (inr u) = above-apart F (term i) g (no_product (cost Q (base P i)) (cost_of (operations_of F) m n (base P i)) (at_entering i)
                   (ap (cost Q) (sym (u Q fQ (omega arith))) ∙ basic_cost F m n p (table_after (operations_of F) m n t Q)
-                      (invariants_after Q (omega arith)) i hi ∙ ap (cost_of (operations_of F) m n) (u Q fQ (omega arith))))
+                  (invariants_after Q (omega arith)) i hi ∙ ap (cost_of (operations_of F) m n) (u Q fQ (omega arith))))
               by_cases (inl s) = by_column (cases_eq (base P i) top) (goes_least (base P i) s.0)
                 where
                   by_column : (base P i ≡ top) ⊎ (base P i ≡ top → ⊥) → base P i ≤ top → ⊥
                   by_column (inl e) l =
                       let same : i ≡ row P = basic_columns_differ F m n p (table_after (operations_of F) m n t P)
-                          (invariants_after P (omega arith)) i (row P) hi row_within e in
+                      (invariants_after P (omega arith)) i (row P) hi row_within e in
                       product_neg (cost Q top) (at_entering (row P)) (below-neg F (cost Q top) top_below)
-                          (above-least F (at_entering (row P)) (row_leaves P (omega arith)).above)
+                      (above-least F (at_entering (row P)) (row_leaves P (omega arith)).above)
                       (subst (λ (k : ℕ). IsAboveZero F (F.ring.mul (cost Q (base P k)) (at_entering k))) same (subst (IsAboveZero F) (term_is_product l) g))
                   by_column (inr d) l = less_top (omega arith) s.1 (subst (IsAboveZero F) (term_is_product l) g)
                       (cases_Bool (F.order.is_least (F.ring.neg (at_entering i))))

@@ -57,7 +57,7 @@ module _ {A : Type 0} (F : OrderedField A) (m n : ℕ) where
       → (i : ℕ) → i < m → artificial_right t i ≡ F.ring.null
   done_null p t h d i l = all_null F m (artificial_right t) (artificial_least p t h)
       (ring F.ring (sum_to F.ring m (artificial_right t) ∷ []) (v 0) (minus (minus (v 0))) refl ∙ ap F.ring.neg (sym (right_cost p t h) ∙ d)
-          ∙ ring F.ring [] (minus nil) nil refl) i l
+      ∙ ring F.ring [] (minus nil) nil refl) i l
 
   -- a row's part in the sum at coordinate k
   abbrev part : FeasibilityProblem A → SimplexTable A → ℕ → ℕ → A
@@ -91,7 +91,7 @@ module _ {A : Type 0} (F : OrderedField A) (m n : ℕ) where
       → sum_to F.ring n (λ j. F.ring.mul (weight (operations_of F) m n t j) (p.column j k)) ≡ sum_to F.ring m (part p t k)
   by_columns p t k =
       sum_same F.ring n (λ j. F.ring.mul (weight (operations_of F) m n t j) (p.column j k))
-          (λ j. sum_to F.ring m (λ i. F.ring.mul (cond (eqb (t.basis i) j) (right_side i) F.ring.null) (p.column j k)))
+      (λ j. sum_to F.ring m (λ i. F.ring.mul (cond (eqb (t.basis i) j) (right_side i) F.ring.null) (p.column j k)))
       (λ j l. sym (sum_times F.ring m (λ i. cond (eqb (t.basis i) j) (right_side i) F.ring.null) (p.column j k)))
       ∙ sum_swap F.ring n m (λ j i. F.ring.mul (cond (eqb (t.basis i) j) (right_side i) F.ring.null) (p.column j k))
       ∙ sum_same F.ring m (λ i. sum_to F.ring n (λ j. F.ring.mul (cond (eqb (t.basis i) j) (right_side i) F.ring.null) (p.column j k)))
@@ -108,15 +108,15 @@ module _ {A : Type 0} (F : OrderedField A) (m n : ℕ) where
           → sum_to F.ring n (λ j. F.ring.mul (cond (eqb (t.basis i) j) (right_side i) F.ring.null) (p.column j k)) ≡ part p t k i
       inner i (inl h) =
           sum_same F.ring n (λ j. F.ring.mul (cond (eqb (t.basis i) j) (right_side i) F.ring.null) (p.column j k))
-              (λ j. cond (eqb j (t.basis i)) (F.ring.mul (right_side i) (p.column j k)) F.ring.null)
+          (λ j. cond (eqb j (t.basis i)) (F.ring.mul (right_side i) (p.column j k)) F.ring.null)
           (λ j l. by_test (eqb (t.basis i) j) (right_side i) (p.column j k)
-              ∙ ap (λ b. cond b (F.ring.mul (right_side i) (p.column j k)) F.ring.null) (eqb_comm (t.basis i) j))
+          ∙ ap (λ b. cond b (F.ring.mul (right_side i) (p.column j k)) F.ring.null) (eqb_comm (t.basis i) j))
           ∙ sum_one F.ring n (λ j. F.ring.mul (right_side i) (p.column j k)) (t.basis i) h
           ∙ ap (λ b. cond b (F.ring.mul (right_side i) (p.column (t.basis i) k)) F.ring.null) (sym (lt-ltb (t.basis i) n h))
       inner i (inr h) =
           sum_same F.ring n (λ j. F.ring.mul (cond (eqb (t.basis i) j) (right_side i) F.ring.null) (p.column j k)) (λ j. F.ring.null)
           (λ j l. ap (λ b. F.ring.mul (cond b (right_side i) F.ring.null) (p.column j k)) (ne_eqb (t.basis i) j (λ e. omega arith))
-              ∙ F.ring.mul_comm F.ring.null (p.column j k) ∙ mul-null F.ring (p.column j k))
+          ∙ F.ring.mul_comm F.ring.null (p.column j k) ∙ mul-null F.ring (p.column j k))
           ∙ sum_null F.ring n
           ∙ ap (λ b. cond b (F.ring.mul (right_side i) (p.column (t.basis i) k)) F.ring.null) (sym (le-ltb (t.basis i) n h))
 
@@ -148,7 +148,7 @@ module _ {A : Type 0} (F : OrderedField A) (m n : ℕ) where
           (sum_to F.ring (suc j) weighted_value) ≡ sum_to F.ring (suc j + left) weighted_value
       from_next h = let e : suc j ≡ j + 1 = omega arith in
           subst (λ (i : ℕ). F.ring.add (ring_combination (operations_of F) (weights_from_column (operations_of F) m n t i left) f)
-              (sum_to F.ring (suc j) weighted_value) ≡ sum_to F.ring (suc j + left) weighted_value) e h
+          (sum_to F.ring (suc j) weighted_value) ≡ sum_to F.ring (suc j + left) weighted_value) e h
 
       rest : A
       rest = ring_combination (operations_of F) (weights_from_column (operations_of F) m n t (j + 1) left) f
@@ -240,7 +240,7 @@ module _ {A : Type 0} (F : OrderedField A) (m n : ℕ) where
       → value_at_point (operations_of F) m n (point (operations_of F) m n p t) f ≡ t.entry m j
   point_value_of_column p t f j h e =
       sum_same F.ring m (λ k. F.ring.mul (f k) (get_or (point (operations_of F) m n p t) k F.ring.null))
-          (λ k. F.ring.mul (t.entry m (n + k)) (start_row (operations_of F) m n p k j))
+      (λ k. F.ring.mul (t.entry m (n + k)) (start_row (operations_of F) m n p k j))
       (λ k l. ap (F.ring.mul (f k)) (point_entry_is p t 0 m k l ∙ ap (point_value (operations_of F) m n p t) (from_zero k))
       ∙ ring F.ring (f k ∷ sign (operations_of F) p k ∷ t.entry m (n + k) ∷ []) (times (v 0) (times (v 1) (v 2)))
       (times (v 2) (times (v 1) (v 0))) refl ∙ ap (F.ring.mul (t.entry m (n + k))) (sym (e k l)))

@@ -89,8 +89,12 @@ module _ {S W P : Type 0} (IsDone IsStuck Fits : S → Type 0) (next : S → S) 
       by_cases (inl r) = (f.steps + 0, run_from_first_step None 0 f.steps s e f.before (inl r), λ k q. let h = r.1 in cc)
       by_cases (inr (inl r)) = (f.steps + 0, run_from_first_step None 0 f.steps s e f.before (inr (inl r)), λ k q. let h = r.2 in cc)
       by_cases (inr (inr (inl r))) = absurd (none_is_not_some f.steps r.2)
-      by_cases (inr (inr (inr r))) = (f.steps + 1, run_from_first_step None 1 f.steps s e f.before
-          (inr (inr (r.0, r.1, inl (r.3, r.4)))), λ k q. let h = r.4 in cc)
+      by_cases (inr (inr (inr r))) = (
+        f.steps + 1,
+        run_from_first_step None 1 f.steps s e f.before
+            (inr (inr (r.0, r.1, inl (r.3, r.4)))),
+        λ k q. let h = r.4 in cc,
+      )
 
   bound_first : (b : ℕ) (s : S) (e : RunEndView W P) → First (Some b) s e → Run b 0 s e
   bound_first b s e f = by_cases (cases_lt b f.steps) (b - f.steps) refl f.here

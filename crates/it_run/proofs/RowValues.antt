@@ -48,9 +48,9 @@ module _ (coordinates : List ℕ) (apart : AreApart coordinates) where
           (Q.integer (cond (eqb t.0 (get_or coordinates k 0)) t.1 (pos 0) +ℤ coefficient ts (get_or coordinates k 0)))
           (h (get_or coordinates k 0)))
           (λ k. Q.plus (Q.times (Q.integer (cond (eqb t.0 (get_or coordinates k 0)) t.1 (pos 0))) (h (get_or coordinates k 0)))
-              (Q.times (Q.integer (coefficient ts (get_or coordinates k 0))) (h (get_or coordinates k 0))))
+          (Q.times (Q.integer (coefficient ts (get_or coordinates k 0))) (h (get_or coordinates k 0))))
           (λ k l. ap (λ x. Q.times x (h (get_or coordinates k 0))) (whole_plus (cond (eqb t.0 (get_or coordinates k 0)) t.1 (pos 0))
-              (coefficient ts (get_or coordinates k 0)))
+          (coefficient ts (get_or coordinates k 0)))
           ∙ ring ring_ℚ (Q.integer (cond (eqb t.0 (get_or coordinates k 0)) t.1 (pos 0))
           ∷ Q.integer (coefficient ts (get_or coordinates k 0)) ∷ h (get_or coordinates k 0) ∷ [])
           (times (plus (v 0) (v 1)) (v 2)) (plus (times (v 0) (v 2)) (times (v 1) (v 2))) refl)
@@ -79,7 +79,7 @@ module _ (coordinates : List ℕ) (apart : AreApart coordinates) where
           for_each s = sym (sum_same ring_ℚ (length coordinates) (λ i. Q.times
               (Q.integer (cond (eqb t.0 (get_or coordinates i 0)) t.1 (pos 0))) (h (get_or coordinates i 0)))
               (λ i. cond (eqb i s.0) (Q.times (Q.integer t.1) (h (get_or coordinates i 0))) (Q.integer (pos 0)))
-                  (λ i l. by_cases i s.0 s.1 s.2 l (cases_eq i s.0))
+              (λ i l. by_cases i s.0 s.1 s.2 l (cases_eq i s.0))
               ∙ sum_one ring_ℚ (length coordinates) (λ i. Q.times (Q.integer t.1) (h (get_or coordinates i 0))) s.0 s.1
               ∙ ap (λ c. Q.times (Q.integer t.1) (h c)) s.2)
 
@@ -100,7 +100,7 @@ module _ (coordinates : List ℕ) (apart : AreApart coordinates) where
           ≡ sum_to ring_ℚ (length coordinates) (λ k. Q.times (Q.integer (coefficient row (get_or coordinates k 0))) (get_or q k (Q.integer (pos 0))))
       sum_is_value row = sum_same ring_ℚ (length coordinates) (λ k. Q.times (Q.integer (coefficient row (get_or coordinates k 0))) (h (get_or coordinates k 0)))
           (λ k. Q.times (Q.integer (coefficient row (get_or coordinates k 0))) (get_or q k (Q.integer (pos 0))))
-              (λ k l. ap (Q.times (Q.integer (coefficient row (get_or coordinates k 0)))) (e k l))
+          (λ k l. ap (Q.times (Q.integer (coefficient row (get_or coordinates k 0)))) (e k l))
 
 -- at an end by weights they sum to the target at each coordinate of the list
 pub sums_up : (coordinates : List ℕ) (columns : List Terms) (target : Terms) (ws : List (ℕ × Rational))
@@ -109,4 +109,4 @@ pub sums_up : (coordinates : List ℕ) (columns : List Terms) (target : Terms) (
     → ring_combination rationals ws (λ j. Q.integer (coefficient (get_or columns j []) c)) ≡ Q.integer (coefficient target c)
 sums_up coordinates columns target ws a c s =
     subst (λ (x : ℕ). ring_combination rationals ws (λ j. Q.integer (coefficient (get_or columns j []) x))
-        ≡ Q.integer (coefficient target x)) s.2 (a.sum_is s.0 s.1)
+    ≡ Q.integer (coefficient target x)) s.2 (a.sum_is s.0 s.1)

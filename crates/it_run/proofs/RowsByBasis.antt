@@ -33,7 +33,7 @@ module _ {A : Type 0} (F : OrderedField A) (m n : ℕ) where
       ∙ sum_same F.ring m (λ k. sum_to F.ring m (λ l. F.ring.mul (F.ring.mul (row_multiplier l) (S l (t.basis k))) (t.entry k j)))
       (λ k. F.ring.mul (s.entry i (t.basis k)) (t.entry k j))
       (λ k q. sum_times F.ring m (λ l. F.ring.mul (row_multiplier l) (S l (t.basis k))) (t.entry k j)
-          ∙ ap (λ y. F.ring.mul y (t.entry k j)) (sym (g.combines i (t.basis k) hi)))
+      ∙ ap (λ y. F.ring.mul y (t.entry k j)) (sym (g.combines i (t.basis k) hi)))
     where
       row_multiplier : ℕ → A
       row_multiplier l = s.entry i (n + l)
@@ -55,6 +55,6 @@ module _ {A : Type 0} (F : OrderedField A) (m n : ℕ) where
           ∙ sum_same F.ring m (λ k. F.ring.mul (s.entry i (t.basis k)) (t.entry k (n + m)))
           (λ k. F.ring.mul (t.entry k (n + m)) (cond (eqb k i) F.ring.unit F.ring.null))
           (λ k q. ap (λ b. F.ring.mul (s.entry i b) (t.entry k (n + m))) (e k q)
-              ∙ ap (λ x. F.ring.mul x (t.entry k (n + m))) (g.units i k l q ∙ ap (λ b. cond b F.ring.unit F.ring.null) (eqb_comm i k))
+          ∙ ap (λ x. F.ring.mul x (t.entry k (n + m))) (g.units i k l q ∙ ap (λ b. cond b F.ring.unit F.ring.null) (eqb_comm i k))
           ∙ F.ring.mul_comm (cond (eqb k i) F.ring.unit F.ring.null) (t.entry k (n + m)))
           ∙ sum_unit F.ring m (λ k. t.entry k (n + m)) i l)

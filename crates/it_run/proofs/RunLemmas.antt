@@ -81,8 +81,8 @@ module _ {A : Type 0} (F : OrderedField A) (m n : ℕ) where
       let e = entering_is F m n t (some_column F m n t s) in
       let l = leaving_is F m n p t (entering_column (operations_of F) m n t) h e.below in
       pivot_keeps_invariants F m n p t (leaving_row (operations_of F) m n t (entering_column (operations_of F) m n t))
-          (entering_column (operations_of F) m n t) h (may_enter F m n t (entering_column (operations_of F) m n t)
-          (leaving_row (operations_of F) m n t (entering_column (operations_of F) m n t)) e l)
+      (entering_column (operations_of F) m n t) h (may_enter F m n t (entering_column (operations_of F) m n t)
+      (leaving_row (operations_of F) m n t (entering_column (operations_of F) m n t)) e l)
 
 -- the weights or the point, read off the last table of a run
 module _ {S W P : Type 0} (IsDone IsStuck Fits : S → Type 0) (next : S → S) (weights : S → W) (point : S → P) where
@@ -124,7 +124,7 @@ module _ {A : Type 0} (F : OrderedField A) (m n : ℕ) where
       (weights (operations_of F) m n) (point (operations_of F) m n p) budget zero (start (operations_of F) m n p) e → EndIsRight p e
   run_right Fits p budget e r = for_each e
       (end_comes_from (IsDone (operations_of F) m n) (IsStuck (operations_of F) m n) Fits (next (operations_of F) m n)
-          (weights (operations_of F) m n) (point (operations_of F) m n p) (HasInvariants (operations_of F) m n p)
+      (weights (operations_of F) m n) (point (operations_of F) m n p) (HasInvariants (operations_of F) m n p)
       (λ t h d s. next_holds F m n p t h s) budget zero (start (operations_of F) m n p) e (start_has_invariants F m n p) r)
     where
       for_each : (e : RunEndView (List (ℕ × A)) (List A)) → EndComesFrom (IsDone (operations_of F) m n) (IsStuck (operations_of F) m n) Fits

@@ -76,8 +76,15 @@ module _ (m n : ℕ) where
 
   pub run_wide : (left k j : ℕ) (t : SimplexTable Rational) → 0 < left → ¬ (Done t) → IsWide m n t → j ≡ clip_number (suc k) → Reaches m n left k t (Width j)
   run_wide zero k j t h d w e = absurd (omega arith)
-  run_wide (suc left) k j t h d w e = inr (inr (d, w.0, inl (w.1, ap
-      (λ x. let r : RunEndView (SimplexTable Rational) (SimplexTable Rational) = Width x in r) e)))
+  run_wide (suc left) k j t h d w e = inr (inr (
+    d,
+    w.0,
+    inl (
+      w.1,
+      ap
+          (λ x. let r : RunEndView (SimplexTable Rational) (SimplexTable Rational) = Width x in r) e,
+    ),
+  ))
 
   pub run_more : (left k : ℕ) (t s : SimplexTable Rational) (e : RunEndView (SimplexTable Rational) (SimplexTable Rational)) → 0 < left
       → ¬ (Done t) → ¬ (Stuck t) → StepFits m n t → s ≡ next rationals m n t
@@ -86,8 +93,15 @@ module _ (m n : ℕ) where
   run_more (suc left) k t s e h d u f q r =
       let a : suc left - 1 ≡ left = omega arith in
       let b : k + 1 ≡ suc k = omega arith in
-      inr (inr (d, u, inr (f, subst (λ (x : SimplexTable Rational). Reaches m n left (suc k) x e) q
-          (subst (λ (x : ℕ). Reaches m n left x s e) b (subst (λ (x : ℕ). Reaches m n x (k + 1) s e) a r)))))
+      inr (inr (
+        d,
+        u,
+        inr (
+          f,
+          subst (λ (x : SimplexTable Rational). Reaches m n left (suc k) x e) q
+              (subst (λ (x : ℕ). Reaches m n left x s e) b (subst (λ (x : ℕ). Reaches m n x (k + 1) s e) a r)),
+        ),
+      ))
 
   pub run_budget : (left k : ℕ) (t : SimplexTable Rational) → left ≡ 0 → ¬ (Done t) → ¬ (Stuck t) → Reaches m n left k t (Pivots k)
   run_budget zero k t h d u = inr (inr (d, u, refl))
@@ -100,7 +114,7 @@ holds_next old new s h = (
   subst (λ (m : ℕ). HasInvariants rationals m new.generator_columns h.0 (table new)) (sym s.frame.height)
       (subst (λ (n : ℕ). HasInvariants rationals (height old) n h.0 (table new)) (sym s.frame.generator_columns)
       (subst (HasInvariants rationals (height old) old.generator_columns h.0) (sym s.table_is)
-          (next_holds field_ℚ (height old) old.generator_columns h.0 (table old) h.1 s.moves))),
+      (next_holds field_ℚ (height old) old.generator_columns h.0 (table old) h.1 s.moves))),
 )
 
 -- the end of the run after a step is its end from before it

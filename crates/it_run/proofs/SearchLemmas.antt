@@ -78,8 +78,13 @@ best_takes m n t c i q best hi o e h = subst (λ (k : ℕ). IsBestOf m n t c k (
         (leaving_row_of rationals m n t c i)) o
 
     by_option : (best : Option (ℕ × Rational)) → IsBestOf m n t c i best → IsBestOf m n t c (suc i) (best_after best i q t.basis)
-    by_option None h = (leaving_row_step ∙ ap (λ b. cond b i (cond (precedes rationals m n t c i (leaving_row_of rationals m n t c i)) i
-        (leaving_row_of rationals m n t c i))) (eq-eqb (leaving_row_of rationals m n t c i) m h), omega arith, e, o)
+    by_option None h = (
+      leaving_row_step ∙ ap (λ b. cond b i (cond (precedes rationals m n t c i (leaving_row_of rationals m n t c i)) i
+          (leaving_row_of rationals m n t c i))) (eq-eqb (leaving_row_of rationals m n t c i) m h),
+      omega arith,
+      e,
+      o,
+    )
     by_option (Some b) h = by_order_test (ratio_precedes q (t.basis i) b.1 (t.basis b.0)) refl
       where
         earlier_row_leaves : leaving_row_of rationals m n t c (suc i) ≡ cond (ratio_precedes q (t.basis i) b.1 (t.basis b.0)) i b.0

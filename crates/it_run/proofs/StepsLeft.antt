@@ -30,12 +30,12 @@ module _ {A : Type 0} (F : OrderedField A) (m n : ℕ) where
       → ((k : ℕ) → k ≤ most_steps → ¬ (IsStuck (operations_of F) m n (table_after (operations_of F) m n t k))) → ⊥
   not_always p t h s =
       let q = pigeonhole most_steps (λ k. digits (n + m) m (table_after (operations_of F) m n t k).basis)
-          (λ k l. digits_below (n + m) m (table_after (operations_of F) m n t k).basis
-          (basis_below p (table_after (operations_of F) m n t k) (invariants_after k l))) in
+      (λ k l. digits_below (n + m) m (table_after (operations_of F) m n t k).basis
+      (basis_below p (table_after (operations_of F) m n t k) (invariants_after k l))) in
       never_again F m n p t h most_steps (λ k l. s k (omega arith)) q.0 q.1 q.2 q.3
       (digits_tell (n + m) m (table_after (operations_of F) m n t q.0).basis (table_after (operations_of F) m n t q.1).basis
       (basis_below p (table_after (operations_of F) m n t q.0) (invariants_after q.0 (omega (arith, q.2, q.3))))
-          (basis_below p (table_after (operations_of F) m n t q.1) (invariants_after q.1 q.3)) q.4)
+      (basis_below p (table_after (operations_of F) m n t q.1) (invariants_after q.1 q.3)) q.4)
     where
       invariants_after : (k : ℕ) → k ≤ most_steps → HasInvariants (operations_of F) m n p (table_after (operations_of F) m n t k)
       invariants_after zero l = h
@@ -98,6 +98,6 @@ module _ {A : Type 0} (F : OrderedField A) (m n : ℕ) where
               (sym e) ∙ last_is_stuck))
           steps_fall_from (suc x) e =
               let b : steps_left (next (operations_of F) m n t)
-                  ≤ x = first_at_most (λ k. is_moving (table_after (operations_of F) m n (next (operations_of F) m n t) k)) 0
-                  (suc most_steps) x (omega arith)
+              ≤ x = first_at_most (λ k. is_moving (table_after (operations_of F) m n (next (operations_of F) m n t) k)) 0
+              (suc most_steps) x (omega arith)
               (ap is_moving (after_next t x) ∙ ap (λ k. is_moving (table_after (operations_of F) m n t k)) (sym e) ∙ last_is_stuck) in omega arith

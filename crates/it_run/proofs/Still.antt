@@ -63,5 +63,5 @@ module _ {A : Type 0} (F : OrderedField A) (m n : ℕ) (p : FeasibilityProblem A
       by_cases (inl e) = e
       by_cases (inr d) = absurd (F.order.apart
           (ap (λ b. cond b F.ring.unit F.ring.null) (sym (eq-eqb l l refl)) ∙ sym (h.units l l w.row w.row) ∙ ap (t.entry l) same_column
-              ∙ h.units l r w.row s.row
+          ∙ h.units l r w.row s.row
           ∙ ap (λ b. cond b F.ring.unit F.ring.null) (ne_eqb l r d)))

@@ -53,7 +53,7 @@ module _ (from now : TableauView) (number : ℕ) (w : IsRunUnderWay from now num
       → IsWide (height now) now.generator_columns (table now) → EndsWithoutBudget from (Width number)
   unbound_wide d u = subst (λ (k : ℕ). EndsWithoutBudget from (Width k)) (sym w.number_is)
       (run_ends 1 (Width (clip_number (suc w.made))) (run_wide (height now) now.generator_columns 1 w.made (clip_number (suc w.made))
-          (table now) (omega arith) d u refl) (λ k q. cc))
+      (table now) (omega arith) d u refl) (λ k q. cc))
 
   -- a step further
   pub step_is_made : (new : TableauView) (k : ℕ) → k ≡ clip_number (number + 1)

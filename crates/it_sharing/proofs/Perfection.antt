@@ -37,9 +37,9 @@ perfect_of : (n : ℕ) (listed : List ℕ) (h : ℕ → ℤ) → 1 ≤ n → IsP
 unfolding made_givens
 perfect_of n listed h some p e =
     let minimal = every_mapped (IsTrueAt n h) knows (minimal_sets listed)
-        (every_front (IsTrueAt n h) (map knows (minimal_sets listed)) (map knows_nothing (maximal_sets n listed)) e) in
+    (every_front (IsTrueAt n h) (map knows (minimal_sets listed)) (map knows_nothing (maximal_sets n listed)) e) in
     let maximal = every_mapped (IsTrueAt n h) knows_nothing (maximal_sets n listed)
-        (every_back (IsTrueAt n h) (map knows (minimal_sets listed)) (map knows_nothing (maximal_sets n listed)) e) in
+    (every_back (IsTrueAt n h) (map knows (minimal_sets listed)) (map knows_nothing (maximal_sets n listed)) e) in
     record {
       known = λ a k q. known_by_minimal n listed h some p (λ m j. (vanishes n h (Entropy secret m)).0
           (every_member (λ a. IsTrueAt n h (knows a)) m (minimal_sets listed) minimal j)) a k q;
@@ -54,7 +54,7 @@ made_of n listed h parties p =
     every-append (IsTrueAt n h) (map knows (minimal_sets listed)) (map knows_nothing (maximal_sets n listed))
     (every-map (IsTrueAt n h) knows (minimal_sets listed) (every_by_members (λ a. IsTrueAt n h (knows a)) (minimal_sets listed)
     (λ m j. let l = minimal_listed listed m j in (vanishes n h (Entropy secret m)).1
-        (p.known m (every_member (IsPartySet n) m listed parties l) (qualified_by listed m m l (inside_itself m))))))
+    (p.known m (every_member (IsPartySet n) m listed parties l) (qualified_by listed m m l (inside_itself m))))))
     (every-map (IsTrueAt n h) knows_nothing (maximal_sets n listed) (every_by_members (λ b. IsTrueAt n h (knows_nothing b)) (maximal_sets n listed)
     (λ m j. let u = maximal_unqualified n listed m j in (vanishes n h (Mutual secret m 0)).1 (p.hidden m u.0 u.1))))
 

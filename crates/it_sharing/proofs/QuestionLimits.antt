@@ -31,14 +31,19 @@ givens_over n listed some parties =
     let s : secret < 2 ^ n = pow_below 0 n (omega arith) in
     every-append (IsGivenOf n) (map knows (minimal_sets listed)) (map knows_nothing (maximal_sets n listed))
     (every-map (IsGivenOf n) knows (minimal_sets listed) (every_by_members (λ a. IsGivenOf n (knows a)) (minimal_sets listed)
-        (λ m j. vanishing_over n _ (s, (every_member (IsPartySet n) m listed parties (minimal_listed listed m j)).0))))
+    (λ m j. vanishing_over n _ (s, (every_member (IsPartySet n) m listed parties (minimal_listed listed m j)).0))))
     (every-map (IsGivenOf n) knows_nothing (maximal_sets n listed) (every_by_members (λ b. IsGivenOf n (knows_nothing b))
-        (maximal_sets n listed) (λ m j. vanishing_over n _ (s, (maximal_unqualified n listed m j).0.0, pow_pos n))))
+    (maximal_sets n listed) (λ m j. vanishing_over n _ (s, (maximal_unqualified n listed m j).0.0, pow_pos n))))
 
 how_many : (n : ℕ) (listed : List ℕ) → length (made_givens n listed) ≡ length (minimal_sets listed) + length (maximal_sets n listed)
 unfolding made_givens
-how_many n listed = omega (arith, length-append (map knows (minimal_sets listed)) (map knows_nothing (maximal_sets n listed)), length-map
-    (minimal_sets listed) knows, length-map (maximal_sets n listed) knows_nothing)
+how_many n listed = omega (
+  arith,
+  length-append (map knows (minimal_sets listed)) (map knows_nothing (maximal_sets n listed)),
+  length-map
+      (minimal_sets listed) knows,
+  length-map (maximal_sets n listed) knows_nothing,
+)
 
 pub question_limited : (x : SharingView) → IsSharing x
     → length (minimal_sets x.qualified) + length (maximal_sets (length x.names.variables) x.qualified) ≤ 64

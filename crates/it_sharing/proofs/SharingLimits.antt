@@ -70,8 +70,8 @@ more_new_grow : (most : ℕ) (u v : NamesView) → HasGrown most u v → Always 
 unfolding more_new
 more_new_grow most u =
     each_keeps (Punctuation Comma ∷ []) (λ v l. (None, tt {0})) (λ v u. new_name Variable most v) (λ v more. more) (HasGrown most u)
-        (λ v g l e m. always_weaker (new_name Variable most v) (λ q w. HasGrown most v w) _ (λ q w h. grown_more most u v w g h)
-        (new_name_grows most v))
+    (λ v g l e m. always_weaker (new_name Variable most v) (λ q w. HasGrown most v w) _ (λ q w h. grown_more most u v w g h)
+    (new_name_grows most v))
 
 new_names_grow : (most : ℕ) (v : NamesView) → Always (new_names Variable most v) (λ p w. HasGrown most v w)
 unfolding Always new_names
@@ -157,8 +157,12 @@ more_lists_keep v =
     let n = length v.variables in
     each_keeps (Keyword (codes "qualified") ∷ []) (λ s l. (limit_flag (most_qualified - length s), tt {0})) (λ s u. to_end (names (party_env v))) (λ s set. s ++ set ∷ []) (AreListed n)
     (λ s h l e m. always_weaker (to_end (names (party_env v))) (λ q set. IsListed n set) _
-    (λ q set k. let long = length-append s (set ∷ []) in (omega (arith, long), omega (arith, long, few_lists (length s) m), All-append
-        (IsListed n) s (set ∷ []) h.2 (All-cons (IsListed n) set [] k (All-nil (IsListed n)))))
+    (λ q set k. let long = length-append s (set ∷ []) in (
+      omega (arith, long),
+      omega (arith, long, few_lists (length s) m),
+      All-append
+          (IsListed n) s (set ∷ []) h.2 (All-cons (IsListed n) set [] k (All-nil (IsListed n))),
+    ))
     (line_keeps (names (party_env v)) (IsListed n) (parties_keep v)))
 
 -- ---- what is asked
@@ -178,8 +182,16 @@ bound_keeps v =
     let m = length v.rates in
     always_weaker (sum most_terms 1 s) _ _ (λ p left hl l e u.
     always_weaker (sum (most_terms - length left) (multiple_from 1 left) s) _ _
-        (λ q right hr. (record { few = omega (arith, hl.0, hr.0); left = hl.1; right = hr.1; some_multiple = hr.2.0; small_multiple = hr.2.1
-        }, refl))
+    (λ q right hr. (
+      record {
+        few = omega (arith, hl.0, hr.0);
+        left = hl.1;
+        right = hr.1;
+        some_multiple = hr.2.0;
+        small_multiple = hr.2.1;
+      },
+      refl,
+    ))
     (sum_keeps s n m (multiple_from 1 left) (most_terms - length left) (scope_covers v true) hl.2))
     (sum_keeps s n m 1 most_terms (scope_covers v true) one_is_multiple)
 
@@ -248,7 +260,7 @@ module _ (secret all : NamesView) (one : IsOne secret) (grown : HasGrown (length
   first_keeps set h =
       let n = length all.variables in
       always_weaker (more_lists (party_env all) (set ∷ [])) (λ q sets. AreListed n sets) (λ q sets. KeepsAlways (after_lists all sets))
-          (λ q sets listed. lists_keep sets listed)
+      (λ q sets listed. lists_keep sets listed)
       (more_lists_keep all (set ∷ []) (omega arith, omega arith, All-cons (IsListed n) set [] h (All-nil (IsListed n))))
 
   names_keep : KeepsAlways (after_names all)
@@ -256,14 +268,14 @@ module _ (secret all : NamesView) (one : IsOne secret) (grown : HasGrown (length
   names_keep l e m =
       let n = length all.variables in
       always_weaker (to_end (names (party_env all))) (λ q set. IsListed n set) (λ q set. KeepsAlways (after_first all set))
-          (λ q set h. first_keeps set h) (line_keeps (names (party_env all)) (IsListed n) (parties_keep all))
+      (λ q set h. first_keeps set h) (line_keeps (names (party_env all)) (IsListed n) (parties_keep all))
 
 secret_keeps : (secret : NamesView) → IsOne secret → KeepsAlways (after_secret secret)
 unfolding Always
 secret_keeps secret one l e m =
     let most = length secret.variables + most_parties in
     always_weaker (new_names Variable most secret) (λ q w. HasGrown most secret w) (λ q all. KeepsAlways (after_names all))
-        (λ q all grown. names_keep secret all one grown) (new_names_grow most secret)
+    (λ q all grown. names_keep secret all one grown) (new_names_grow most secret)
 
 sharing_keeps : KeepsAlways sharing
 unfolding Always sharing

@@ -37,7 +37,7 @@ aim_has : (v : NamesView) → Has (aim v) (one_of (Keyword (codes "prove") ∷ K
 unfolding aim
 aim_has v =
     has_if _ _ _ _ _ (λ u. has_then _ _ _ _ (has_then _ _ _ _ (relation_has _) (λ x. has_then _ _ _ _ end_has (λ u. has_give _) refl) refl)
-        (λ x. has_give _) refl)
+    (λ x. has_give _) refl)
     (has_then _ _ _ _ (word_has (codes "best") refl) (λ u. has_then _ _ _ _ (has_then _ _ _ _ (bound_has _) (λ x. has_then _ _ _ _ end_has (λ u. has_give _) refl) refl) (λ x. has_give _) refl) refl) refl
 
 pub sharing_has : Has sharing (one_of (Keyword (codes "secret") ∷ []))
@@ -47,5 +47,5 @@ sharing_has =
     has_then _ _ _ _ (word_has (codes "parties") refl) (λ u. has_then _ _ _ _ (new_names_has _ _ _) (λ all.
     has_then _ _ _ _ (word_has (codes "qualified") refl) (λ u. has_then _ _ _ _ (has_then _ _ _ _ (names_has _) (λ set. has_then _ _ _ _ end_has (λ u. has_give _) refl) refl) (λ first.
     has_then _ _ _ _ (lists_has _ _) (λ lists. has_then _ _ _ _ (aim_has all)
-        (λ asked. has_then _ _ _ _ (has_take _ (Bad codes.Unfinished) refl) (λ u. has_give _) refl) refl) refl) refl) refl) refl) refl)
-        refl) refl
+    (λ asked. has_then _ _ _ _ (has_take _ (Bad codes.Unfinished) refl) (λ u. has_give _) refl) refl) refl) refl) refl) refl) refl)
+    refl) refl

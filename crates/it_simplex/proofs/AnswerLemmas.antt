@@ -99,5 +99,5 @@ ends_once cs columns target budget d e (inr a) (inl b) = absurd (b.0 a.0)
 ends_once cs columns target budget d e (inr a) (inr b) =
     let m = length cs in let n = length columns in
     one_end_by (IsDone rationals m n) (IsStuck rationals m n) (StepFits m n) (next rationals m n) (weights rationals m n)
-        (point rationals m n (feasibility_problem cs columns target))
+    (point rationals m n (feasibility_problem cs columns target))
     budget (start_of cs columns target) d e a.1 b.1

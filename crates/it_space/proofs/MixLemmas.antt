@@ -158,8 +158,8 @@ module _ (at a b c : ℕ) (up down left right left' right' : Terms) (l : AreLate
           coefficient_step d n true q =
               let s : c ≡ d = eqb-true c d q in
               plus_none (coefficient terms d +ℤ mix a left b right c) (mix a left' b right' d)
-                  (ap (λ j. mix a left' b right' j) (sym s) ∙ no_coefficient) ∙ ap (λ j. coefficient terms d +ℤ mix a left b right j) s
-                  ∙ u.same d n
+              (ap (λ j. mix a left' b right' j) (sym s) ∙ no_coefficient) ∙ ap (λ j. coefficient terms d +ℤ mix a left b right j) s
+              ∙ u.same d n
           coefficient_step d n false q = ap₂ (λ x y. x +ℤ y) (plus_none (coefficient terms d) (pos 0) refl)
               (mixes d (λ s. eqb-false c d q (sym s))) ∙ u.same d n
 
@@ -270,7 +270,7 @@ cancel_told at up down new h k a b c is =
     let f = factors at up down h k in
     told_rising 0 new (cancelled_row at up down) (ascends_rise 0 new c)
     (rises-cancelled_row at up down (factor_above f.common (times_up at up down) (neg_ℤ (coefficient down at)) f.up_is
-        (omega (arith, ints))) (factor_above f.common (times_down at up down) (coefficient up at) f.down_is h) a b)
+    (omega (arith, ints))) (factor_above f.common (times_down at up down) (coefficient up at) f.down_is h) a b)
     (λ d. is.same d ∙ sym (coefficient-cancelled_row at up down d))
 
 pub where_fault : {F P Q : Type 0} → (F → P) → (P → Q) → F → Q

@@ -36,7 +36,7 @@ all_with : {X : Type 0} (P : X → Type 0) (xs : List X) (i : ℕ) (d : X) → i
 all_with P xs i d l own rest = subst (λ ys. All P ys) parts
     (All-append P (take i xs) (get_or xs i d ∷ drop (i + 1) xs) (all_front P (take i xs) (drop (suc i) xs) rest)
     (All-cons P (get_or xs i d) (drop (i + 1) xs) own (subst (λ n. All P (drop n xs)) (let e : suc i ≡ i + 1 = omega arith in e)
-        (all_back P (take i xs) (drop (suc i) xs) rest))))
+    (all_back P (take i xs) (drop (suc i) xs) rest))))
   where
     parts : take i xs ++ get_or xs i d ∷ drop (i + 1) xs ≡ xs
     parts = ap (λ ys. take i xs ++ ys) (sym (drop_more xs i d l)) ∙ take-append-drop i xs
@@ -71,7 +71,7 @@ module _ (s : Space) (h : IsSpace s) (rows : List Terms) (d : DropView) (over : 
           let met = rates_meet (constants s) x (constants_speak_of_sets s) zero in
           let certified = (valid_yes_is (with_rows (constants s) others) own d.proof drop_problem (over d.row [] listed)).0 valid in
           yes_is_true (with_rows (constants s) others) own d.proof drop_problem (over d.row [] listed) certified.0 x met.0
-              (problem_is_met x (constants s) others met.1 a)
+          (problem_is_met x (constants s) others met.1 a)
 
   pub drop_leaves_hull : (kept : List ℕ) (rays : List (List ℤ)) → AreNoSets s.variables kept → drop_verdict s rows d ≡ Valid
       → IsHull kept rows rays → IsHull kept others rays

@@ -44,16 +44,25 @@ module _ (f : Frame) (h : IsFrame f) where
       in record { over = n.0; few = let k = n.1 in omega (arith, k, h.few_rows) }
 
   few_left : (rows : List Terms) (d : DropView) → AreFew rows → d.row < length rows → AreFew (remove rows d.row)
-  few_left rows d a l = record { over = all-remove (IsOver (size_of f.space)) rows d.row a.over; few = let k = fewer-remove rows d.row l
-      in let few = a.few in omega (arith, k, few) }
+  few_left rows d a l = record {
+    over = all-remove (IsOver (size_of f.space)) rows d.row a.over;
+    few = let k = fewer-remove rows d.row l
+        in let few = a.few in omega (arith, k, few);
+  }
 
   -- the rows that a step leaves are those of a hull again
   next_rows : (ray : ℕ) (rows next : List Terms) (s : StepView) → AreHullRows f rows → StepEnds f ray rows s (Ok next) → AreHullRows f next
   next_rows ray rows next s a (Region left, e, is) = drops_keep f.space ray (AreHullRows f)
-      (λ rs d g l v. record { over = all-remove (IsOver (size_of f.space)) rs d.row g.over; free = all-remove
-          (RowLacks (2 ^ f.space.variables + f.spare)) rs d.row g.free })
-      0 left s.drops next (record { over = (few_next rows left s.ray a.over e).over; free = next_free
-          (2 ^ f.space.variables) f.rows s.ray f.spare rows left e }) (sym is)
+      (λ rs d g l v. record {
+        over = all-remove (IsOver (size_of f.space)) rs d.row g.over;
+        free = all-remove
+            (RowLacks (2 ^ f.space.variables + f.spare)) rs d.row g.free;
+      })
+      0 left s.drops next (record {
+        over = (few_next rows left s.ray a.over e).over;
+        free = next_free
+            (2 ^ f.space.variables) f.rows s.ray f.spare rows left e;
+      }) (sym is)
   next_rows ray rows next s a (Rows rate, e, is) = absurd (cc)
   next_rows ray rows next s a (Wide rate, e, is) = absurd (cc)
 
@@ -68,10 +77,15 @@ module _ (f : Frame) (h : IsFrame f) where
     step_going : (ray : ℕ) (rows next : List Terms) (rays : List (List ℤ)) (s : StepView) → IsHull kept rows rays
         → All (IsOver (size_of f.space)) rows → StepEnds f ray rows s (Ok next) → IsGoing (rays ++ s.ray ∷ []) next
     step_going ray rows next rays s hull over (Region left, e, is) = drops_keep f.space ray (IsGoing (rays ++ s.ray ∷ []))
-        (λ rs d g l v. record { hull = drop_leaves_hull f.space h.space rs d g.rows_few.over g.rows_few.few l kept
-            (rays ++ s.ray ∷ []) no_sets v g.hull; rows_few = few_left rs d g.rows_few l })
-        0 left s.drops next (record { hull = one_more_ray (2 ^ f.space.variables) f.rows s.ray f.spare kept rows left rays k.away hull e;
-            rows_few = few_next rows left s.ray over e }) (sym is)
+        (λ rs d g l v. record {
+          hull = drop_leaves_hull f.space h.space rs d g.rows_few.over g.rows_few.few l kept
+              (rays ++ s.ray ∷ []) no_sets v g.hull;
+          rows_few = few_left rs d g.rows_few l;
+        })
+        0 left s.drops next (record {
+          hull = one_more_ray (2 ^ f.space.variables) f.rows s.ray f.spare kept rows left rays k.away hull e;
+          rows_few = few_next rows left s.ray over e;
+        }) (sym is)
     step_going ray rows next rays s hull over (Rows rate, e, is) = absurd (cc)
     step_going ray rows next rays s hull over (Wide rate, e, is) = absurd (cc)
 
@@ -83,7 +97,7 @@ module _ (f : Frame) (h : IsFrame f) where
     steps_right ray rows rays (s ∷ steps) end hull over (Ok next, e, later) =
         let g = step_going ray rows next rays s hull over e in
         subst (λ (ps : List (List ℤ)). IsRightSpan kept ps end) (append_assoc rays (s.ray ∷ []) (rays_of steps))
-            (steps_right (ray + 1) next (rays ++ s.ray ∷ []) steps end g.hull g.rows_few.over later)
+        (steps_right (ray + 1) next (rays ++ s.ray ∷ []) steps end g.hull g.rows_few.over later)
     steps_right ray rows rays (s ∷ steps) end hull over (Err fault, e, later) = subst (λ o. IsRightSpan kept (rays ++ s.ray ∷ rays_of steps) o) (sym later) tt
 
 pub spans_are_right : SpansAreRight
@@ -100,7 +114,7 @@ pub one_span_end : OneSpanEnd
 one_span_end f ray rows [] end other e d = e ∙ sym d
 one_span_end f ray rows (s ∷ steps) end other (first, e, later) (second, d, more) =
     by_first first later (subst (λ (o : Result (List Terms) Fault). GoesOn (λ next end. StepsEnd f (ray + 1) next steps end) o other)
-        (sym (one_step_end f ray rows s first second e d)) more)
+    (sym (one_step_end f ray rows s first second e d)) more)
     (λ next a b. one_span_end f (ray + 1) next steps end other a b)
   where
     by_first : (o : Result (List Terms) Fault) → GoesOn (λ next end. StepsEnd f (ray + 1) next steps end) o end
@@ -123,7 +137,7 @@ pub drops_of_region : (f : Frame) (q : ProblemView) (rows : List Terms) (ray : L
 drops_of_region f q rows ray e next h g a is r =
     let same : f.space ≡ q.space = sym (ap (λ (p : ProblemView). p.space) g) in
     let n = few_next f h rows next.rows.items ray a.over (subst
-        (λ (x : Eliminated). RayEnds (2 ^ f.space.variables) f.rows ray f.spare rows (eliminated_view x)) is r) in record {
+    (λ (x : Eliminated). RayEnds (2 ^ f.space.variables) f.rows ray f.spare rows (eliminated_view x)) is r) in record {
       givens = g ∙ ap (λ (x : Space). constants x) same;
       over = subst (λ (x : Space). All (IsOver (size_of x)) next.rows.items) same n.over;
       few = n.few;

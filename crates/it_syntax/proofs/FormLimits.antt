@@ -164,19 +164,21 @@ unfolding more_terms
 more_terms_keep s n m k most c = each_keeps signs (λ ts l. (None, is_of (Punctuation Minus) l))
     (λ ts minus. allowed (most - length ts) (term (multiple_from k ts) s minus)) (λ ts t. ts ++ t ∷ []) (AreFew n m k most)
     (λ ts h l e u. always_allowed _ _ _ (term_takes _ s _) (λ left. always_weaker (term _ s _) _ _
-        (λ p t ht. one_more_term n m k most ts t left h ht) (term_keeps s n m _ _ c h.2)))
+    (λ p t ht. one_more_term n m k most ts t left h ht) (term_keeps s n m _ _ c h.2)))
 
 terms_keep : (s : Scope) (n m k most : ℕ) (minus : Bool) → Covers s n m → IsMultiple k → Always (terms most k s minus) (λ p ts. AreFew n m k most ts)
 unfolding terms Always
 terms_keep s n m k most minus c small = always_allowed _ _ _ (term_takes k s minus)
     (λ left. always_weaker (term k s minus) _ _ (λ p t ht. more_terms_keep s n m k most c (t ∷ [])
-        (omega (arith, left), All-cons (λ (t : Term). IsAtomOf n m t.atom) t [] ht.0 (All-nil (λ (t : Term). IsAtomOf n m t.atom)), ht.1))
-        (term_keeps s n m k minus c small))
+    (omega (arith, left), All-cons (λ (t : Term). IsAtomOf n m t.atom) t [] ht.0 (All-nil (λ (t : Term). IsAtomOf n m t.atom)), ht.1))
+    (term_keeps s n m k minus c small))
 
 pub sum_keeps : (s : Scope) (n m k most : ℕ) → Covers s n m → IsMultiple k → Always (sum most k s) (λ p ts. AreFew n m k most ts)
 unfolding sum Always
-sum_keeps s n m k most c small = (λ l e u. terms_keep s n m k most false c small,
-    (λ l e u. terms_keep s n m k most true c small, terms_keep s n m k most false c small))
+sum_keeps s n m k most c small = (
+  λ l e u. terms_keep s n m k most false c small,
+  (λ l e u. terms_keep s n m k most true c small, terms_keep s n m k most false c small),
+)
 
 -- ---- relations
 
@@ -212,7 +214,7 @@ unfolding more_members
 more_members_keep d env n least k = each_keeps (Punctuation d ∷ []) (λ sets l. (None, tt))
     (λ sets u. allowed (16 - length sets) (names env)) (λ sets s. sets ++ s ∷ []) (AreSetsOf n least 16)
     (λ sets h l e u. always_allowed _ _ _ (names_take env) (λ left. always_weaker (names env) _ _
-        (λ p s hs. one_more_member n least sets s left h hs) (names_keep env n k)))
+    (λ p s hs. one_more_member n least sets s left h hs) (names_keep env n k)))
 
 chain_keeps : (env : Environment) (n : ℕ) → Knows env n → Always (chain env) (λ p g. IsGivenOf n g)
 unfolding chain Always
@@ -222,8 +224,12 @@ chain_keeps env n k = always_weaker (names env) _ _ (λ p a ha l e u. always_wea
     (names_keep env n k)
   where
     three : (a b c : ℕ) → IsSet n a → IsSet n b → IsSet n c → AreSetsOf n 3 16 (a ∷ b ∷ c ∷ [])
-    three a b c ha hb hc = record { some = omega arith; few = omega arith; within = All-cons (IsSet n) a (b ∷ c ∷ []) ha
-        (All-cons (IsSet n) b (c ∷ []) hb (All-cons (IsSet n) c [] hc (All-nil (IsSet n)))) }
+    three a b c ha hb hc = record {
+      some = omega arith;
+      few = omega arith;
+      within = All-cons (IsSet n) a (b ∷ c ∷ []) ha
+          (All-cons (IsSet n) b (c ∷ []) hb (All-cons (IsSet n) c [] hc (All-nil (IsSet n))));
+    }
 
 after_bar_keeps : (env : Environment) (n : ℕ) → Knows env n → Always (after_bar env) (λ p s. IsSet n s)
 unfolding after_bar Always

@@ -142,7 +142,7 @@ chain_has : (env : Environment) → Has (chain env) (a_constraint (Punctuation A
 unfolding chain
 chain_has env =
     has_then _ _ _ _ (names_has env) (λ a. has_then _ _ _ _ (has_symbol Arrow)
-        (λ u. has_then _ _ _ _ (names_has env) (λ b. has_then _ _ _ _ (has_symbol Arrow) (λ u. has_then _ _ _ _ (names_has env) (λ c.
+    (λ u. has_then _ _ _ _ (names_has env) (λ b. has_then _ _ _ _ (has_symbol Arrow) (λ u. has_then _ _ _ _ (names_has env) (λ c.
     has_then _ _ _ _ (members_has Arrow env _ refl) (λ sets. has_give _) refl) refl) refl) refl) refl) refl
 
 after_bar_has : (env : Environment) → Has (after_bar env) (one_or (Punctuation Bar ∷ []) some_names nothing)

@@ -82,8 +82,13 @@ wrong_body at bytes m h = ap (λ (b : List ℕ). drop (length h.gap) b) h.whole 
 
 blank_or_wrong : (at : ℕ) (bytes : List ℕ) (m : Misspelling) → IsMisspellingAt at bytes m → AreAll is_space bytes → ⊥
 blank_or_wrong at bytes m h k = not_wrong h.body
-    (omega (arith, run_once is_space bytes (length h.gap) (length bytes) (wrong_run at bytes m h)
-    (blank_run is_space bytes k), ap length h.whole, length-append h.gap h.body)) h.wrong
+    (omega (
+      arith,
+      run_once is_space bytes (length h.gap) (length bytes) (wrong_run at bytes m h)
+          (blank_run is_space bytes k),
+      ap length h.whole,
+      length-append h.gap h.body,
+    )) h.wrong
   where
     not_wrong : (body : List ℕ) → length body ≡ 0 → IsWrong m.code body → ⊥
     not_wrong [] e w = wrong_some m.code w
@@ -93,7 +98,7 @@ token_or_wrong : (at : ℕ) (bytes : List ℕ) (m : Misspelling) (t : Token) (re
 token_or_wrong at bytes m t rest h c =
     let f = found_of at (length h.gap) bytes t rest (wrong_run at bytes m h) c in
     wrong_prefix m.code t.kind (t.end - t.start) h.body h.wrong (subst (λ (b : List ℕ). IsTokenPrefix t.kind (t.end - t.start) b)
-        (wrong_body at bytes m h) f.shape)
+    (wrong_body at bytes m h) f.shape)
 
 misspelling_at : ℕ → Code → Misspelling
 misspelling_at column code = record { column = column; code = code }
@@ -120,7 +125,7 @@ until_one at bytes (t ∷ ts) [] m (Some k) h g = absurd (token_or_wrong at byte
 until_one at bytes (t ∷ ts) (u ∷ us) m k h g =
     let one = one_cut at bytes (length h.1.gap) t u h.0 g.0 (gap_run at bytes t h.0 h.1) h.1 g.1 in
     let rest : SpellsUntil t.end h.0 us k = subst (λ (r : List ℕ). SpellsUntil t.end r us k) (sym one.1)
-        (subst (λ (v : Token). SpellsUntil v.end g.0 us k) (sym one.0) g.2) in
+    (subst (λ (v : Token). SpellsUntil v.end g.0 us k) (sym one.0) g.2) in
     let more = until_one t.end h.0 ts us m k h.2 rest in
     (ap (λ (v : Token). v ∷ ts) one.0 ∙ ap (λ (vs : List Token). u ∷ vs) more.0, more.1)
 
@@ -140,7 +145,7 @@ pub goes_on_more : (line : List ℕ) (so_far : List Token) (at g n : ℕ) (rest 
     → GoesOn line so_far at rest → GoesOn line (so_far ++ t ∷ []) t.end (drop n (drop g rest))
 goes_on_more line so_far at g n rest t run shape start end w ts m h =
     subst (λ (us : List Token). SpellsUntil 0 line us m) (sym (append_assoc so_far (t ∷ []) ts))
-        (w (t ∷ ts) m (drop n (drop g rest), cut_made at g n rest t run shape start end, h))
+    (w (t ∷ ts) m (drop n (drop g rest), cut_made at g n rest t run shape start end, h))
 
 -- nothing but spaces is left
 pub ends_blank : (line : List ℕ) (so_far : List Token) (at g : ℕ) (rest : List ℕ) → IsLongestRun is_space rest g → length (drop g rest) ≡ 0
@@ -172,10 +177,13 @@ until_within line at bytes [] m e h = tt
 until_within line at bytes (t ∷ ts) m e h =
     let c = h.1 in
     let total : length bytes ≡ length c.gap + (length c.text + length h.0) = ap length c.whole ∙ length-append c.gap (c.text ++ h.0)
-        ∙ ap (λ (n : ℕ). length c.gap + n) (length-append c.text h.0) in
-    let end : t.end + length h.0 ≡ length line = omega (arith, c.start, c.end, total, e) in
-    ((omega (arith, c.end), omega (arith, end)), text_length t.kind c.text (t.end - t.start)
-        (omega (arith, c.end)) c.spelled, until_within line t.end h.0 ts m end h.2)
+    ∙ ap (λ (n : ℕ). length c.gap + n) (length-append c.text h.0) in
+    let end : t.end + length h.0 ≡ length line = omega (arith, c.start, c.end, total, e) in (
+      (omega (arith, c.end), omega (arith, end)),
+      text_length t.kind c.text (t.end - t.start)
+          (omega (arith, c.end)) c.spelled,
+      until_within line t.end h.0 ts m end h.2,
+    )
 
 -- the tokens of a line lie in it
 pub until_in_line : (line : List ℕ) (ts : List Token) (m : Option Misspelling) → SpellsUntil 0 line ts m → InLine line ts

@@ -116,7 +116,7 @@ pub multiple_next : (first : ℕ) (ts : List Term) (i m : ℕ) (t : Term) → i 
     → (1 ≤ m) × (1 ≤ t.denominator) × (lcm m t.denominator ≤ 2 ^ 32)
 multiple_next first ts i m t l e s =
     let rest : multiple_from (lcm m t.denominator) (drop (i + 1) ts)
-        ≡ multiple_from first ts = subst (λ xs. multiple_from m xs ≡ multiple_from first ts) (drop_item ts i t l e) s.same in
+    ≡ multiple_from first ts = subst (λ xs. multiple_from m xs ≡ multiple_from first ts) (drop_item ts i t l e) s.same in
     let here = start_limited (lcm m t.denominator) (drop (i + 1) ts) (subst IsMultiple (sym rest) s.small) in
     let parts = lcm_parts m t.denominator here.0 in
     (parts.0, parts.1, here.1)

@@ -105,7 +105,7 @@ prefix_map p (v ∷ vs) = ap (λ (n : ℕ). cond (not (p v.items)) (1 + n) 0) (p
 pub position_map : (p : List ℕ → Bool) (vs : List (Vec ℕ Global)) → position p (map (λ v. v.items) vs) ≡ position (λ v. p v.items) vs
 position_map p vs =
     ap (λ (n : ℕ). place n (length (map (λ (v : Vec ℕ Global). v.items) vs))) (prefix_map p vs)
-        ∙ ap (λ (n : ℕ). place (position_or_len (λ (v : Vec ℕ Global). p v.items) vs) n) (length-map vs (λ (v : Vec ℕ Global). v.items))
+    ∙ ap (λ (n : ℕ). place (position_or_len (λ (v : Vec ℕ Global). p v.items) vs) n) (length-map vs (λ (v : Vec ℕ Global). v.items))
 
 none_any : (name : List ℕ) (vs : List (Vec ℕ Global)) → AllByRecursion (λ y. bytes_eq name y ≡ false) (map (λ v. v.items) vs)
     → list_any (λ v. bytes_eq name v.items) vs ≡ false

@@ -156,8 +156,13 @@ starts_prefix f (b ∷ text) rest h = h
 -- a token and what ends it have a shape
 pub shape_of : (k : TokenKind) (text rest : List ℕ) → IsText k text → EndsToken k rest → IsTokenPrefix k (length text) (text ++ rest)
 shape_of kinds.Word text rest t e = (starts_prefix is_ascii_alphabetic text rest t.0, run_of_text is_word_byte text rest t.1 e, t.2)
-shape_of (kinds.Number v) text rest t e = (starts_prefix is_ascii_digit text rest t.0, run_of_text is_ascii_digit text rest
-    (value_digits 0 text v t.1) e, rw (take_at text rest (length text) refl) t.1, t.2)
+shape_of (kinds.Number v) text rest t e = (
+  starts_prefix is_ascii_digit text rest t.0,
+  run_of_text is_ascii_digit text rest
+      (value_digits 0 text v t.1) e,
+  rw (take_at text rest (length text) refl) t.1,
+  t.2,
+)
 shape_of (kinds.Symbol s) text rest t e = (subst (λ (u : List ℕ). symbol_of (u ++ rest) ≡ Some s) (sym t) (symbol_spelled s rest e), ap length t)
 
 starts_take : (f g : ℕ → Bool) (body : List ℕ) (n : ℕ) → StartsWith f body → IsLongestRun g body n → ((b : ℕ) → f b ≡ true → g b ≡ true)
@@ -172,16 +177,27 @@ letter_wordly b h = rw h refl
 
 -- and back
 pub shape_text : (k : TokenKind) (n : ℕ) (body : List ℕ) → IsTokenPrefix k n body → IsText k (take n body) × (EndsToken k (drop n body) × (n ≤ length body))
-shape_text kinds.Word n body h = ((starts_take is_ascii_alphabetic is_word_byte body n h.0 h.1 letter_wordly, h.1.all,
-    omega (arith, length-take n body, h.2)), (h.1.stops, h.1.within))
+shape_text kinds.Word n body h = (
+  (
+    starts_take is_ascii_alphabetic is_word_byte body n h.0 h.1 letter_wordly,
+    h.1.all,
+    omega (arith, length-take n body, h.2),
+  ),
+  (h.1.stops, h.1.within),
+)
 shape_text (kinds.Number v) n body h = ((starts_take is_ascii_digit is_ascii_digit body n h.0 h.1 (λ b e. e), h.2, h.3), (h.1.stops, h.1.within))
 shape_text (kinds.Symbol s) n body h =
     let is : body ≡ symbol_text s ++ drop (length (symbol_text s)) body = symbol_is s body h.0 in
     let there : symbol_of (symbol_text s ++ drop (length (symbol_text s)) body) ≡ Some s = ap symbol_of (sym is) ∙ h.0 in
     let taken : take (length (symbol_text s)) body ≡ symbol_text s = ap (take (length (symbol_text s))) is
-        ∙ take_at (symbol_text s) _ (length (symbol_text s)) refl in
-    (ap (λ (m : ℕ). take m body) h.1 ∙ taken, (subst (λ (m : ℕ). EndsToken (kinds.Symbol s) (drop m body)) (sym h.1)
-        (symbol_ends s _ there), omega (arith, h.1, ap length is, length-append (symbol_text s) (drop (length (symbol_text s)) body))))
+    ∙ take_at (symbol_text s) _ (length (symbol_text s)) refl in (
+      ap (λ (m : ℕ). take m body) h.1 ∙ taken,
+      (
+        subst (λ (m : ℕ). EndsToken (kinds.Symbol s) (drop m body)) (sym h.1)
+            (symbol_ends s _ there),
+        omega (arith, h.1, ap length is, length-append (symbol_text s) (drop (length (symbol_text s)) body)),
+      ),
+    )
 
 -- the kind and the length are those of one token
 first_letter : (f : ℕ → Bool) (s : Symbol) (body : List ℕ) → symbol_of body ≡ Some s → StartsWith f body
@@ -248,7 +264,7 @@ pub record Found (at g : ℕ) (body : List ℕ) (t : Token) (rest : List ℕ) : 
 pub found_of : (at g : ℕ) (bytes : List ℕ) (t : Token) (rest : List ℕ) → IsLongestRun is_space bytes g → Cut at bytes t rest → Found at g (drop g bytes) t rest
 found_of at g bytes t rest r c =
     let gap_run : IsLongestRun is_space bytes (length c.gap) = subst (λ (b : List ℕ). IsLongestRun is_space b (length c.gap)) (sym c.whole)
-        (run_of_text is_space c.gap (c.text ++ rest) c.blank (text_stops t.kind c.text rest c.spelled)) in
+    (run_of_text is_space c.gap (c.text ++ rest) c.blank (text_stops t.kind c.text rest c.spelled)) in
     let gap_is : length c.gap ≡ g = run_once is_space bytes (length c.gap) g gap_run r in
     let body_is : drop g bytes ≡ c.text ++ rest = ap (λ (b : List ℕ). drop g b) c.whole ∙ drop_at c.gap (c.text ++ rest) g gap_is in
     let n_is : t.end - t.start ≡ length c.text = omega (arith, c.end) in
@@ -329,8 +345,13 @@ pub blank_none : (at g : ℕ) (rest : List ℕ) (t : Token) (r : List ℕ) → I
 blank_none at g rest t r run c h =
     let f = found_of at g rest t r run c in
     let e = run_once is_space rest g (length rest) run (blank_run is_space rest h) in
-    omega (arith, length-drop g rest, e, shape_some t.kind (t.end - t.start) (drop g rest) f.shape,
-        (shape_text t.kind (t.end - t.start) (drop g rest) f.shape).1.1)
+    omega (
+      arith,
+      length-drop g rest,
+      e,
+      shape_some t.kind (t.end - t.start) (drop g rest) f.shape,
+      (shape_text t.kind (t.end - t.start) (drop g rest) f.shape).1.1,
+    )
 
 -- a word past the limit in front, and yet no token
 pub word_long : (n : ℕ) (body : List ℕ) → StartsWith is_ascii_alphabetic body → IsLongestRun is_word_byte body n → 16 < n

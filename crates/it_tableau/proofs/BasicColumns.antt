@@ -18,7 +18,7 @@ module _ {A : Type 0} (F : OrderedField A) (m n : ℕ) where
       by_cases (inl d) = d
       by_cases (inr d) = absurd (F.order.apart
           (ap (λ b. cond b F.ring.unit F.ring.null) (sym (eq-eqb i i refl)) ∙ sym (h.units i i hi hi) ∙ ap (t.entry i) e ∙ h.units i k hi hk
-              ∙ ap (λ b. cond b F.ring.unit F.ring.null) (ne_eqb i k d)))
+          ∙ ap (λ b. cond b F.ring.unit F.ring.null) (ne_eqb i k d)))
 
   -- a sum of the rows through a pivot
   pub pivot_sum : (t : SimplexTable A) (r c : ℕ) (f S : ℕ → A) → r < m → F.ring.mul (t.entry r c) (F.order.inv (t.entry r c)) ≡ F.ring.unit
@@ -32,11 +32,11 @@ module _ {A : Type 0} (F : OrderedField A) (m n : ℕ) where
       sum_of_differences m ∙ ap₂ (λ a b. F.ring.add a (F.ring.neg (F.ring.mul b (F.ring.mul (t.entry r j) u)))) (sym (s j)) (sym (s c)) in
       let none : X r ≡ F.ring.null =
       ring F.ring (f r ∷ t.entry r j ∷ t.entry r c ∷ u ∷ []) (times (v 0) (plus (v 1) (minus (times (v 1) (times (v 2) (v 3))))))
-          (plus (times (v 0) (v 1)) (minus (times (times (v 0) (v 1)) (times (v 2) (v 3))))) refl
+      (plus (times (v 0) (v 1)) (minus (times (times (v 0) (v 1)) (times (v 2) (v 3))))) refl
       ∙ ap (λ y. F.ring.add (F.ring.mul (f r) (t.entry r j)) (F.ring.neg (F.ring.mul (F.ring.mul (f r) (t.entry r j)) y))) inverse
       ∙ ring F.ring (f r ∷ t.entry r j ∷ []) (plus (times (v 0) (v 1)) (minus (times (times (v 0) (v 1)) one))) nil refl in
       sym (sum_same F.ring m (λ i. F.ring.mul (cond (eqb i r) (S c) (f i)) ((pivot (operations_of F) t r c).entry i j))
-          (λ i. cond (eqb i r) x (X i)) (λ i l. by_test (eqb i r) i)
+      (λ i. cond (eqb i r) x (X i)) (λ i l. by_test (eqb i r) i)
       ∙ sum_changed F.ring m X r x h
       ∙ ap₂ (λ a b. F.ring.add a (F.ring.add x (F.ring.neg b))) whole none
       ∙ ring F.ring (S j ∷ x ∷ []) (plus (plus (v 0) (minus (v 1))) (plus (v 1) (minus nil))) (v 0) refl)

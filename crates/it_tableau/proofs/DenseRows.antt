@@ -72,7 +72,7 @@ module _ (w : ℕ) (old by : RowTerms) (r s : Rational) where
         by_cases (inr h) =
             let same : j ≡ w = (let n = row_length w old r in omega (arith, l, h, n)) in
             subst (λ (x : Rational). EntryFits x (entry_at (dense_row w by s) j) q) (sym (row_end w old r j same))
-                (subst (λ (y : Rational). EntryFits r y q) (sym (row_end w by s j same)) e)
+            (subst (λ (y : Rational). EntryFits r y q) (sym (row_end w by s j same)) e)
 
     pub right_fits : RowFits (dense_row w old r) (dense_row w by s) q → EntryFits r s q
     right_fits f = subst (λ (x : Rational). EntryFits x s q) (row_end w old r w refl)

@@ -35,7 +35,7 @@ module _ (width : ℕ) (old : RowTerms) (p : Rational) (i : ℕ) (out : RowTerms
             (f ∙ ap (λ y. times y (inverse p)) (sym here))
             (subst (λ (y : Rational). IsNarrow (times y (inverse p))) (sym here) w)
             (built_skip (λ k. times (entry_in old k) (inverse p)) (λ k. IsNarrow (times (entry_in old k) (inverse p))) m.next c out
-                (column_from width old i m.next m.rest h)
+            (column_from width old i m.next m.rest h)
             (λ k x y. quotient_of_null (entry_in old k) p (before_column width old i m.next m.rest h k x y)) m.divided);
       }
 
@@ -51,8 +51,11 @@ module _ (width : ℕ) (old : RowTerms) (p : Rational) (i : ℕ) (out : RowTerms
         by_cases (inr a) = (quotient_of_null (entry_in old k) p (rest_over width old i m.next m.rest h k a)).0
 
     pub division_ends : AreDivided old p width out
-    division_ends = record { entries = λ k. by_cases k (cases_lt k m.next); ascend = climbs_weaker 0 m.next width out
-        (rest_upto width old i m.next m.rest) m.divided.climbs }
+    division_ends = record {
+      entries = λ k. by_cases k (cases_lt k m.next);
+      ascend = climbs_weaker 0 m.next width out
+          (rest_upto width old i m.next m.rest) m.divided.climbs;
+    }
       where
         by_cases : (k : ℕ) → (k < m.next) ⊎ (m.next ≤ k) → entry_in out k ≡ times (entry_in old k) (inverse p)
         by_cases k (inl a) = m.divided.entries k a

@@ -190,7 +190,7 @@ module _ (cs : List ℕ) (columns : List Terms) (target : Terms) where
         let n = length columns in
         let start : IsBuilt f F n terms = record { entries = lists.entries; climbs = lists.ascend; fits = whole_entry } in
         let before : IsBuilt f F (n + k) terms = built_skip f F n (n + k) terms (omega arith)
-            (λ j l h. no_unit j l (omega (arith, h, row)) (λ e. omega (arith, e, h))) start in
+        (λ j l h. no_unit j l (omega (arith, h, row)) (λ e. omega (arith, e, h))) start in
         let unit : IsBuilt f F (n + k + 1) out = built_more f F (n + k) terms out v a ev (subst IsWholeNumber ev wv) before in
         built_skip f F (n + k + 1) (n + length cs) out (omega (arith, row)) (λ j l h. no_unit j (omega (arith, l)) h (λ e. omega (arith, e, l))) unit
 

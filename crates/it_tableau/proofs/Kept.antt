@@ -73,7 +73,7 @@ module _ {A : Type 0} (F : OrderedField A) (m n : ℕ) where
       (start_row (operations_of F) m n p k ((pivot (operations_of F) t r c).basis i)) ((pivot (operations_of F) t r c).entry i j))
   kept_spans p t r c hr inverse h k j hk =
       pivot_sum F m n t r c (λ i. start_row (operations_of F) m n p k (t.basis i)) (λ j. start_row (operations_of F) m n p k j) hr inverse
-          (λ j. h.spans k j hk) j
+      (λ j. h.spans k j hk) j
       ∙ sum_same F.ring m (λ i. F.ring.mul (cond (eqb i r) (start_row (operations_of F) m n p k c)
       (start_row (operations_of F) m n p k (t.basis i))) ((pivot (operations_of F) t r c).entry i j))
       (λ i. F.ring.mul (start_row (operations_of F) m n p k ((pivot (operations_of F) t r c).basis i)) ((pivot (operations_of F) t r c).entry i j))
@@ -133,14 +133,14 @@ module _ {A : Type 0} (F : OrderedField A) (m n : ℕ) where
   kept_low b r t u hb hr hu ht = subst (IsAtLeastZero F) (ring F.ring (b ∷ r ∷ t ∷ u ∷ [])
       (plus (v 0) (times (v 1) (times (minus (v 2)) (v 3)))) (plus (v 0) (minus (times (v 1) (times (v 2) (v 3))))) refl)
       (F.order.add-least b (F.ring.mul r (F.ring.mul (F.ring.neg t) u)) hb
-          (F.order.mul-least r (F.ring.mul (F.ring.neg t) u) hr (F.order.mul-least (F.ring.neg t) u ht hu)))
+      (F.order.mul-least r (F.ring.mul (F.ring.neg t) u) hr (F.order.mul-least (F.ring.neg t) u ht hu)))
 
   kept_high : (b r t u w : A) → IsAtLeastZero F t → F.ring.mul t w ≡ F.ring.unit
       → IsAtLeastZero F (F.ring.add (F.ring.mul b w) (F.ring.neg (F.ring.mul r u)))
       → IsAtLeastZero F (F.ring.add b (F.ring.neg (F.ring.mul r (F.ring.mul t u))))
   kept_high b r t u w ht e h = subst (IsAtLeastZero F)
       (ring F.ring (b ∷ r ∷ t ∷ u ∷ w ∷ []) (times (v 2) (plus (times (v 0) (v 4)) (minus (times (v 1) (v 3)))))
-          (plus (times (v 0) (times (v 2) (v 4))) (minus (times (v 1) (times (v 2) (v 3))))) refl
+      (plus (times (v 0) (times (v 2) (v 4))) (minus (times (v 1) (times (v 2) (v 3))))) refl
       ∙ ap (λ x. F.ring.add (F.ring.mul b x) (F.ring.neg (F.ring.mul r (F.ring.mul t u)))) e
       ∙ ring F.ring (b ∷ r ∷ t ∷ u ∷ []) (plus (times (v 0) one) (minus (times (v 1) (times (v 2) (v 3)))))
       (plus (v 0) (minus (times (v 1) (times (v 2) (v 3))))) refl)
@@ -157,13 +157,13 @@ module _ {A : Type 0} (F : OrderedField A) (m n : ℕ) where
           → IsAtLeastZero F ((pivot (operations_of F) t r c).entry i (n + m))
       by_cases (inl e) q = subst (λ (k : ℕ). IsAtLeastZero F ((pivot (operations_of F) t r c).entry k (n + m))) (sym e)
           (subst (IsAtLeastZero F) (sym (pivot_row t r c (n + m))) (F.order.mul-least (t.entry r (n + m)) (F.order.inv (t.entry r c))
-              (h.rights r l.row) inverse_at_least_zero))
+          (h.rights r l.row) inverse_at_least_zero))
       by_cases (inr e) (inl q) = subst (IsAtLeastZero F) (sym (other_row t r c i (n + m) e))
           (kept_low (t.entry i (n + m)) (t.entry r (n + m)) (t.entry i c) (F.order.inv (t.entry r c)) (h.rights i hi)
-              (h.rights r l.row) inverse_at_least_zero q)
+          (h.rights r l.row) inverse_at_least_zero q)
       by_cases (inr e) (inr q) = subst (IsAtLeastZero F) (sym (other_row t r c i (n + m) e))
           (kept_high (t.entry i (n + m)) (t.entry r (n + m)) (t.entry i c) (F.order.inv (t.entry r c)) (F.order.inv (t.entry i c))
-              (above-least F (t.entry i c) q) (inv-above F (t.entry i c) q) (l.least i hi q))
+          (above-least F (t.entry i c) q) (inv-above F (t.entry i c) q) (l.least i hi q))
 
   kept_units : (p : FeasibilityProblem A) (t : SimplexTable A) (r c : ℕ) → r < m
       → F.ring.mul (t.entry r c) (F.order.inv (t.entry r c)) ≡ F.ring.unit → HasInvariants (operations_of F) m n p t → (i k : ℕ) → i < m

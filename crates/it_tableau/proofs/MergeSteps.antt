@@ -33,7 +33,7 @@ module _ (width : ℕ) (old by : RowTerms) (q : Rational) (i j : ℕ) (out : Row
       → IsBuilt (less_at old by q) (λ k. EntryFits (entry_in old k) (entry_in by k) q) c out
   merge_skips c h ho hb = built_skip (less_at old by q) (λ k. EntryFits (entry_in old k) (entry_in by k) q) m.next c out h (λ k a l.
       let w = difference_of_null_entry (entry_in old k) (entry_in by k) q (subst IsNarrow (sym (ho k a l)) zero_narrow) (hb k a l)
-          in (w.0, w.1 ∙ ho k a l)) m.merged
+      in (w.0, w.1 ∙ ho k a l)) m.merged
 
   merge_adds : (c : ℕ) (new : RowTerms) (v : Rational) → IsAppended out c v new → v ≡ less_at old by q c → EntryFits (entry_in old c) (entry_in by c) q
       → IsBuilt (less_at old by q) (λ k. EntryFits (entry_in old k) (entry_in by k) q) c out
@@ -103,7 +103,7 @@ module _ (width : ℕ) (old by : RowTerms) (q : Rational) (i j : ℕ) (out : Row
         merged = merge_adds c new v a (f ∙ ap₂ (λ x y. plus x (minus (times y q))) (sym x) (sym y))
             (subst (λ (x : Rational). EntryFits x (entry_in by c) q) (sym x) (subst (λ (y : Rational). EntryFits (number_of_term old i) y q) (sym y) w))
             (merge_skips c from (before_column width old i m.next m.old_rest h)
-                (λ k a b. before_column width by j m.next m.by_rest l k a (omega (arith, b, s))));
+            (λ k a b. before_column width by j m.next m.by_rest l k a (omega (arith, b, s))));
       }
 
   pub refused_by : j < length by → ¬ (IsNarrow (times (number_of_term by j) q)) → ¬ (MergeFits old by q)
@@ -113,7 +113,7 @@ module _ (width : ℕ) (old by : RowTerms) (q : Rational) (i j : ℕ) (out : Row
       → ¬ (EntryFits (number_of_term old i) (number_of_term by j) q) → ¬ (MergeFits old by q)
   refused_both h l s n f = n (subst (λ (x : Rational). EntryFits x (number_of_term by j) q) (at_column width old i m.next m.old_rest h)
       (subst (λ (y : Rational). EntryFits (entry_in old (column_at old i)) y q)
-          (ap (entry_in by) s ∙ at_column width by j m.next m.by_rest l) (f (column_at old i))))
+      (ap (entry_in by) s ∙ at_column width by j m.next m.by_rest l) (f (column_at old i))))
 
   module _ (h : length old ≤ i) (l : length by ≤ j) where
     pub all_differences_fit : MergeFits old by q
@@ -126,8 +126,11 @@ module _ (width : ℕ) (old by : RowTerms) (q : Rational) (i j : ℕ) (out : Row
             (rest_over width by j m.next m.by_rest l k a)).0
 
     pub merge_ends : AreMerged old by q width out
-    merge_ends = record { entries = λ k. by_cases k (cases_lt k m.next); ascend = climbs_weaker 0 m.next width out
-        (rest_upto width old i m.next m.old_rest) m.merged.climbs }
+    merge_ends = record {
+      entries = λ k. by_cases k (cases_lt k m.next);
+      ascend = climbs_weaker 0 m.next width out
+          (rest_upto width old i m.next m.old_rest) m.merged.climbs;
+    }
       where
         by_cases : (k : ℕ) → (k < m.next) ⊎ (m.next ≤ k) → entry_in out k ≡ less_at old by q k
         by_cases k (inl a) = m.merged.entries k a

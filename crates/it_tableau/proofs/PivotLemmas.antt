@@ -63,7 +63,7 @@ pivot_ends old now own y r c i p hr h u g = record {
       (row_at (slice_set now r y) k)) u.p_is
       (subst (λ (x : List Rational). IsReduced (row_at old k) x (times (entry_at (row_at old k) c) (inverse p)) (row_at (slice_set now r y) k)) u.own_is
       (subst (IsReduced (row_at old k) own (times (entry_at (row_at old k) c) (inverse p))) (sym (get_or-set_other now r k y [] d))
-          (u.done k (omega arith) d)));
+      (u.done k (omega arith) d)));
   own = subst (IsDivided (row_at old r) (entry_at (row_at old r) c)) (sym (get_or-set_same now r y [] (omega (arith, u.same))))
       (subst (λ (q : Rational). IsDivided (row_at old r) q y) u.p_is (subst (λ (x : List Rational). IsDivided x p y) u.own_is g));
 }

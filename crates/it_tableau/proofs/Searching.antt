@@ -25,7 +25,7 @@ entry_of_term from to (t ∷ ts) (suc i) d a h =
     let later : i < length ts = omega arith in
     let beyond = (climbs_far (suc t.0) to ts i i d a.3 (omega arith) later).0 in
     ap (λ b. cond b t.1 (entry_in ts (get_or ts i d).0)) (ne_eqb t.0 (get_or ts i d).0 (λ e. omega (arith, beyond, e)))
-        ∙ entry_of_term (suc t.0) to ts i d a.3 later
+    ∙ entry_of_term (suc t.0) to ts i d a.3 later
 
 entry_without_term : (ts : RowTerms) (c : ℕ) → ((i : ℕ) (d : ℕ × Rational) → i < length ts → (get_or ts i d).0 ≢ c) → entry_in ts c ≡ integer (pos 0)
 entry_without_term [] c h = refl

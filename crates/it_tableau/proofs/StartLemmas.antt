@@ -30,7 +30,7 @@ module _ {A : Type 0} (F : OrderedField A) (m n : ℕ) where
   pub row_artificial : (p : FeasibilityProblem A) (k i : ℕ) → i < m → start_row (operations_of F) m n p k (n + i) ≡ cond (eqb i k) F.ring.unit F.ring.null
   row_artificial p k i h =
       ap₂ (λ b c. cond b (F.ring.mul (sign (operations_of F) p k) (p.column (n + i) k))
-          (cond c (F.ring.mul (sign (operations_of F) p k) (p.target k)) (cond (eqb (n + i) (n + k)) F.ring.unit F.ring.null)))
+      (cond c (F.ring.mul (sign (operations_of F) p k) (p.target k)) (cond (eqb (n + i) (n + k)) F.ring.unit F.ring.null)))
       (le-ltb (n + i) n (omega arith)) (ne_eqb (n + i) (n + m) (λ e. omega arith))
       ∙ ap (λ b. cond b F.ring.unit F.ring.null) (eqb_shift n i k)
 
@@ -50,7 +50,7 @@ module _ {A : Type 0} (F : OrderedField A) (m n : ℕ) where
   artificial_cost : (p : FeasibilityProblem A) (k : ℕ) → k < m → (start (operations_of F) m n p).entry m (n + k) ≡ F.ring.neg F.ring.unit
   artificial_cost p k h = start_cost p (n + k) ∙ ap F.ring.neg
       (sum_same F.ring m (λ i. start_row (operations_of F) m n p i (n + k)) (λ i. cond (eqb i k) F.ring.unit F.ring.null)
-          (λ i l. row_artificial p i k h ∙ ap (λ b. cond b F.ring.unit F.ring.null) (eqb_comm k i))
+      (λ i l. row_artificial p i k h ∙ ap (λ b. cond b F.ring.unit F.ring.null) (eqb_comm k i))
       ∙ sum_one F.ring m (λ i. F.ring.unit) k h)
 
   -- the sum of the negated rows
@@ -69,8 +69,8 @@ module _ {A : Type 0} (F : OrderedField A) (m n : ℕ) where
       → sum_to F.ring m (λ i. F.ring.mul (f i) (g i)) ≡ start_row (operations_of F) m n p k j
   sum_picks_row p k j f g h hf hg =
       sum_same F.ring m (λ i. F.ring.mul (f i) (g i)) (λ i. F.ring.mul (start_row (operations_of F) m n p i j)
-          (cond (eqb i k) F.ring.unit F.ring.null)) (λ i l. ap₂ F.ring.mul (hf i l) (hg i l)
-          ∙ F.ring.mul_comm (cond (eqb i k) F.ring.unit F.ring.null) (start_row (operations_of F) m n p i j))
+      (cond (eqb i k) F.ring.unit F.ring.null)) (λ i l. ap₂ F.ring.mul (hf i l) (hg i l)
+      ∙ F.ring.mul_comm (cond (eqb i k) F.ring.unit F.ring.null) (start_row (operations_of F) m n p i j))
       ∙ sum_unit F.ring m (λ i. start_row (operations_of F) m n p i j) k h
 
   pub start_has_invariants : (p : FeasibilityProblem A) → HasInvariants (operations_of F) m n p (start (operations_of F) m n p)

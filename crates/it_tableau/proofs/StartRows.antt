@@ -32,7 +32,7 @@ start_rows_more cs columns target k rows x a s w = record {
         (feasibility_problem cs columns target) i) (length columns + length cs + 1))
         (sym (ap (λ j. row_at (rows ++ x ∷ []) j) (q ∙ sym a.rows_are) ∙ get_or-append_seam rows x [] []))
         (subst (λ (j : ℕ). ListsValues (start_row rationals (length cs) (length columns) (feasibility_problem cs columns target) j)
-            (length columns + length cs + 1) x) (sym q) s)
+        (length columns + length cs + 1) x) (sym q) s)
     entries_by_cases i l (inr d) = subst (ListsValues (start_row rationals (length cs) (length columns)
         (feasibility_problem cs columns target) i) (length columns + length cs + 1))
         (sym (get_or_append_left rows (x ∷ []) [] i (omega (arith, a.rows_are)))) (a.entries_are i (omega arith))

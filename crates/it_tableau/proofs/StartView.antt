@@ -39,7 +39,7 @@ module _ (cs : List ℕ) (columns : List Terms) (target : Terms) where
   entry_past k j h l =
       let p : FeasibilityProblem Rational = feasibility_problem cs columns target in
       ap (λ b. cond b (Q.times (sign rationals p k) (p.column j k)) (cond (eqb j (n + m)) (Q.times (sign rationals p k) (p.target k))
-          (cond (eqb j (n + k)) (Q.integer (pos 1)) (Q.integer (pos 0))))) (le-ltb j n (omega arith))
+      (cond (eqb j (n + k)) (Q.integer (pos 1)) (Q.integer (pos 0))))) (le-ltb j n (omega arith))
       ∙ ap₂ (λ b d. cond b (Q.times (sign rationals p k) (p.target k)) (cond d (Q.integer (pos 1)) (Q.integer (pos 0))))
       (ne_eqb j (n + m) (λ e. omega arith)) (ne_eqb j (n + k) (λ e. omega arith))
 
@@ -58,7 +58,7 @@ module _ (cs : List ℕ) (columns : List Terms) (target : Terms) where
         let h : i < length cs = omega (arith, a.rows_are) in
         subst (λ (x : Rational). SumFits x (column_sum rows j i)) (sym ((a.entries_are i h).entries j l))
         (subst (SumFits (entry i j)) (sym (sum_is i j (omega arith) l)) (sums_fit (length cs) (λ i. entry i j) (λ i q. a.wholes i j q l)
-            (λ k h. fits k j h l) i h))
+        (λ k h. fits k j h l) i h))
 
     module _ (cost : List Rational) (s : ListsValues (λ j. Q.minus (column_sum rows j (length rows))) (length columns + length cs + 1) cost) where
       cost_is : (j : ℕ) → j < length columns + length cs + 1 → entry_at cost j ≡ Q.minus (sum_to ring_ℚ (length cs) (λ i. entry i j))

@@ -43,7 +43,7 @@ module _ (terms : RowTerms) (old : List Rational) (narrow : AreNarrow old) (i : 
     pub addition_is_refused : ¬ (SumFits (number_of_term terms i) (entry_at now (column_at terms i))) → ¬ (SumsFit terms old)
     addition_is_refused n fits = n (subst (λ (x : Rational). SumFits x (entry_at now (column_at terms i))) (at_column (length old) terms i w.next w.rest h)
         (subst (SumFits (entry_in terms (column_at terms i))) (sym sum_is_unchanged)
-            (fits (column_at terms i) (let c = column_in in let e = w.count in omega (arith, c, e)))))
+        (fits (column_at terms i) (let c = column_in in let e = w.count in omega (arith, c, e)))))
 
     pub term_is_added : (new : List Rational) → SumFits (number_of_term terms i) (entry_at now (column_at terms i))
         → IsNumberAdded now (column_at terms i) (number_of_term terms i) new → IsRowAdditionUnderWay terms old (i + 1) new
@@ -118,7 +118,7 @@ module _ (rows : List (List Rational)) (width k : ℕ) (terms : RowTerms) (lists
   pub row_is_refused : k < length rows → ¬ (SumsFit terms sums) → ¬ ((j : ℕ) → j < width → ColumnFits rows j)
   row_is_refused h n fits = n (λ j l. let m : j < width = (let e = w.sums_are.length_is in omega (arith, e, l)) in
       subst (λ (x : Rational). SumFits x (entry_at sums j)) (sym (lists.entries j m))
-          (subst (SumFits (entry_at (row_at rows k) j)) (sym (w.sums_are.entries j m)) (fits j m k h)))
+      (subst (SumFits (entry_at (row_at rows k) j)) (sym (w.sums_are.entries j m)) (fits j m k h)))
 
   pub row_is_summed : (new : List Rational) → SumsFit terms sums → IsRowAdded terms sums new → AreNarrow new → AreSummed rows width (k + 1) new
   row_is_summed new fits a narrow = record {
@@ -131,7 +131,7 @@ module _ (rows : List (List Rational)) (width k : ℕ) (terms : RowTerms) (lists
     narrow = narrow;
     fits = λ j l. fits_more k (λ i. SumFits (entry_at (row_at rows i) j) (column_sum rows j i)) (w.fits j l)
         (subst (λ (x : Rational). SumFits x (column_sum rows j k)) (lists.entries j l)
-            (subst (SumFits (entry_in terms j)) (w.sums_are.entries j l) (fits j (column_in_sums j l))));
+        (subst (SumFits (entry_in terms j)) (w.sums_are.entries j l) (fits j (column_in_sums j l))));
   }
     where
       one_more : (n : ℕ) → suc n ≡ n + 1

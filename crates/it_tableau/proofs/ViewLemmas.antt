@@ -56,14 +56,14 @@ pivot_is_shown m n old new basis r c hr hc s p = ap₂ (λ (e : ℕ → ℕ → 
         ≡ Q.times (entry_at (row_at old r) j) (Q.inverse (entry_at (row_at old r) c))
     own_row_entry i j e = ap (λ b. cond b (Q.times (entry_at (row_at old r) j) (Q.inverse (entry_at (row_at old r) c)))
         (Q.plus (entry_at (row_at old i) j) (Q.minus (Q.times (entry_at (row_at old r) j)
-            (Q.times (entry_at (row_at old i) c) (Q.inverse (entry_at (row_at old r) c))))))) (eq-eqb i r e)
+        (Q.times (entry_at (row_at old i) c) (Q.inverse (entry_at (row_at old r) c))))))) (eq-eqb i r e)
 
     other_row_entry : (i j : ℕ) → (i ≡ r → ⊥) → (pivot rationals (table_of old basis) r c).entry i j
         ≡ Q.plus (entry_at (row_at old i) j) (Q.minus (Q.times (entry_at (row_at old r) j)
         (Q.times (entry_at (row_at old i) c) (Q.inverse (entry_at (row_at old r) c)))))
     other_row_entry i j d = ap (λ b. cond b (Q.times (entry_at (row_at old r) j) (Q.inverse (entry_at (row_at old r) c)))
         (Q.plus (entry_at (row_at old i) j) (Q.minus (Q.times (entry_at (row_at old r) j)
-            (Q.times (entry_at (row_at old i) c) (Q.inverse (entry_at (row_at old r) c))))))) (ne_eqb i r d)
+        (Q.times (entry_at (row_at old i) c) (Q.inverse (entry_at (row_at old r) c))))))) (ne_eqb i r d)
 
     zero_times : (x y : Rational) → x ≡ Q.integer (pos 0) → Q.times x y ≡ Q.integer (pos 0)
     zero_times x y e = ap (λ z. Q.times z y) e ∙ ring ring_ℚ (y ∷ []) (times nil (v 0)) nil refl

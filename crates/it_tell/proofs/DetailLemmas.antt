@@ -33,14 +33,19 @@ module _ {X A : Type 0} (shown : A → List ℕ) (tells : X → A → Type 0) wh
       → get_or items i x ≡ x → tells x a → new ≡ now ++ shown a → Appended old new items (i + 1)
   appended_more old now new items i x a u within read told is =
       under_way_more (λ (s : Unit {0}) (x : X) (a : A). tells x a) (λ (s : Unit {0}) (x : X) (a : A). s)
-          (λ (k : ℕ) (x : X) (a : A). shown a) (Some old) (Some now) (Some new) tt items i tt x a
+      (λ (k : ℕ) (x : X) (a : A). shown a) (Some old) (Some now) (Some new) tt items i tt x a
       (shown a) u within read told refl is
 
   pub all_appended : (old new : List ℕ) (items : List X) (i : ℕ) → Appended old new items i → length items ≤ i → AppendsEach shown tells items old new
   unfolding AppendsEach
-  all_appended old new items i u all =
-      (u.out, (under_way_done (λ (s : Unit {0}) (x : X) (a : A). tells x a) (λ (s : Unit {0}) (x : X) (a : A). s)
-          (λ (k : ℕ) (x : X) (a : A). shown a) (Some old) (Some new) tt items i tt u all, u.wrote))
+  all_appended old new items i u all = (
+    u.out,
+    (
+      under_way_done (λ (s : Unit {0}) (x : X) (a : A). tells x a) (λ (s : Unit {0}) (x : X) (a : A). s)
+          (λ (k : ℕ) (x : X) (a : A). shown a) (Some old) (Some new) tt items i tt u all,
+      u.wrote,
+    ),
+  )
 
 -- ---- a proof
 

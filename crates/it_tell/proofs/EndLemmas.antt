@@ -18,19 +18,41 @@ module _ (r : Call) (options : Options) (asked : AsksToTell r options) where
       → EndOfBytes (tell_mode options) r.taken r.taken_after r.write_faults r.write_faults_after bytes s → Ends r s
   end_of_report bytes Done read report (stayed, h) =
       ((read, stayed), inl (record { options = options; asked = asked; bytes = bytes; out = h.out; report = report; output = h.output; wrote = h.wrote }))
-  end_of_report bytes Invalid read report (stayed, h) = ((read, stayed),
-      record { options = options; asked = asked; bytes = bytes; out = h.out; report = report; output = h.output; wrote = h.wrote })
+  end_of_report bytes Invalid read report (stayed, h) = (
+    (read, stayed),
+    record { options = options; asked = asked; bytes = bytes; out = h.out; report = report; output = h.output; wrote = h.wrote },
+  )
   end_of_report bytes Usage read report h = absurd h
   end_of_report bytes ReadFault read report h = absurd h
   end_of_report bytes Refused read report (stayed, text, (line, column, code, fault, is), gains) = absurd fault
   end_of_report bytes WriteFault read report (failed, inl (text, (line, column, code, fault, is), took)) = absurd fault
-  end_of_report bytes WriteFault read report (failed, inr part) =
-      ((read, failed), inr (inl (record { options = options; asked = asked; bytes = bytes; out = part.out; report = report; output
-          = part.output; wrote = part.wrote })))
+  end_of_report bytes WriteFault read report (failed, inr part) = (
+    (read, failed),
+    inr (inl (record {
+      options = options;
+      asked = asked;
+      bytes = bytes;
+      out = part.out;
+      report = report;
+      output
+          = part.output;
+      wrote = part.wrote;
+    })),
+  )
   end_of_report bytes Memory read report (stayed, inl wrote) = ((read, stayed), inl ((options, asked), wrote))
-  end_of_report bytes Memory read report (stayed, inr first) =
-      ((read, stayed), inr (record { options = options; asked = asked; bytes = bytes; out = first.out; report = report; output
-          = first.output; wrote = first.wrote }))
+  end_of_report bytes Memory read report (stayed, inr first) = (
+    (read, stayed),
+    inr (record {
+      options = options;
+      asked = asked;
+      bytes = bytes;
+      out = first.out;
+      report = report;
+      output
+          = first.output;
+      wrote = first.wrote;
+    }),
+  )
 
   -- it was too long
   pub end_of_long_report : (s : Status) → r.read_faults_after ≡ r.read_faults → GaveMore r.left r.left_after most_bytes
@@ -52,8 +74,11 @@ pub end_of_text : (r : Call) (settings : Settings) (text : List ℕ) (s : Status
 end_of_text r settings text s reading shown untouched (inl (is, stayed, wrote)) =
     subst (Ends r) (sym is) ((untouched.1, stayed), inr (text, (record { asked = ap (option_and_then shown_by) reading ∙ shown; unread = untouched }, wrote)))
 end_of_text r settings text s reading shown untouched (inr (is, failed, took)) =
-    subst (Ends r) (sym is) ((untouched.1, failed), inr (inr
-        (text, (record { asked = ap (option_and_then shown_by) reading ∙ shown; unread = untouched }, took))))
+    subst (Ends r) (sym is) (
+      (untouched.1, failed),
+      inr (inr
+          (text, (record { asked = ap (option_and_then shown_by) reading ∙ shown; unread = untouched }, took))),
+    )
 
 -- the words have no reading
 pub end_of_usage : (r : Call) → HasNone r → IsUntouched r → r.write_faults_after ≡ r.write_faults → Wrote r [] → Ends r Usage

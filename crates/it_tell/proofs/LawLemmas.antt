@@ -58,11 +58,15 @@ written : (r : Call) (options : Options) (s : Status) (bytes old new : List ℕ)
 written r options s bytes old new asked h left taken taken_after =
     let gave : Gave (Some bytes) r.left_after h.bytes = subst (λ (o : Option (List ℕ)). Gave o r.left_after h.bytes) left h.report.0 in
     let gained : Gains (Some old) (Some new) h.out = subst (λ (o : Option (List ℕ)). Gains o (Some new) h.out) taken
-        (subst (λ (o : Option (List ℕ)). Gains r.taken o h.out) taken_after h.wrote) in
-    let same : h.options ≡ options = one_asked r h.options options h.asked asked in
-    (h.out, (subst (λ (o : Options). WholeOutput (tell_mode o) bytes h.out s) same
-        (subst (λ (b : List ℕ). WholeOutput (tell_mode h.options) b h.out s) (end_comes_last bytes h.bytes r.left_after gave) h.output),
-        gained))
+    (subst (λ (o : Option (List ℕ)). Gains r.taken o h.out) taken_after h.wrote) in
+    let same : h.options ≡ options = one_asked r h.options options h.asked asked in (
+      h.out,
+      (
+        subst (λ (o : Options). WholeOutput (tell_mode o) bytes h.out s) same
+            (subst (λ (b : List ℕ). WholeOutput (tell_mode h.options) b h.out s) (end_comes_last bytes h.bytes r.left_after gave) h.output),
+        gained,
+      ),
+    )
 
 -- who asks for a telling asks for no text
 no_text_asked : (r : Call) (options : Options) (text : List ℕ) → AsksToTell r options → AsksForText r text → ⊥
@@ -81,7 +85,7 @@ headline r options s bytes old new asked ends (inl is) left taken taken_after = 
     by_end (faultless, inr shown) = absurd (no_text_asked r options shown.0 asked shown.1.0.asked)
 headline r options s bytes old new asked ends (inr is) left taken taken_after =
     subst (λ (t : Status). (out : List ℕ) × (WholeOutput (tell_mode options) bytes out t × (new ≡ old ++ out))) (sym is)
-        (written r options Invalid bytes old new asked (subst (Ends r) is ends).1 left taken taken_after)
+    (written r options Invalid bytes old new asked (subst (Ends r) is ends).1 left taken taken_after)
 
 -- ---- each line
 
@@ -224,7 +228,7 @@ told_codes_are_true options line source back values code details (h, lines) = by
     on_code : (v : LineVerdict) (r : HasReading line v) → IsCodedVerdict (asked source).body (No back values) code v
     on_code v r =
         let same = same_read r.reading (reports.Coded source (No back values) code)
-            (one_reading line (Ok r.reading) (Ok (reports.Coded source (No back values) code)) r.reads h.reads) in
+        (one_reading line (Ok r.reading) (Ok (reports.Coded source (No back values) code)) r.reads h.reads) in
         subst (λ (x : Reading). IsReadingVerdict x v) same r.verdict
 
     by_verdict : (v : LineVerdict) → IsVerdict line v → is_invalid v ≡ false
@@ -237,5 +241,5 @@ told_codes_are_true options line source back values code details (h, lines) = by
     by_verdict (Hulled v) is accepted = absurd (on_code (Hulled v) is)
     by_verdict (Judged names v) is accepted =
         let true_code = valid_code_is_true line names source back values code
-            (subst (λ (w : Verdict). IsVerdict line (Judged names w)) (not_invalid_is_valid v accepted) is) h.reads in
+        (subst (λ (w : Verdict). IsVerdict line (Judged names w)) (not_invalid_is_valid v accepted) is) h.reads in
         (true_code.0, true_code.3)

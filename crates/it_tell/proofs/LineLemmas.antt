@@ -80,7 +80,7 @@ module _ (line : List ℕ) (source : Source) (a : AnswerView) (reads : ReadsRepo
   pub on_answer : (h : HasVerdict line) → IsAnswerVerdict (asked source).body a h.verdict
   on_answer h =
       let same = same_read h.said.reading (reports.Answered source a) (one_reading line (Ok h.said.reading)
-          (Ok (reports.Answered source a)) h.said.reads reads) in
+      (Ok (reports.Answered source a)) h.said.reads reads) in
       subst (λ x. IsReadingVerdict x h.verdict) same h.said.verdict
 
 -- the verdict on a no with a code is that on the no, where it isn't an invalid one
@@ -112,7 +112,7 @@ can_be_printed line r read limits h = by_reading read.0 r read.1 read.2 limits
         let small = subst (λ (x : QuestionView). QuestionHasSmallNumbers x.body) same.0 (small_numbers line source a reads) in
         let verdict : IsAnswerVerdict (question_body q) (answer_view answer) h.verdict =
         subst (λ b. IsAnswerVerdict (question_body q) b h.verdict) same.1 (subst
-            (λ (x : QuestionView). IsAnswerVerdict x.body a h.verdict) same.0 (on_answer line source a reads h)) in
+        (λ (x : QuestionView). IsAnswerVerdict x.body a h.verdict) same.0 (on_answer line source a reads h)) in
         printable (question_body q) limits.0 (question_poses (question_body q) limits.0 small) h.verdict h.accepted answer limits.1 verdict
     by_reading (reports.Answered source a) (variants.Coded q answer code) same reads limits = absurd same
     by_reading (reports.Answered source a) (variants.Derived q answer origins) same reads limits = absurd same
@@ -124,7 +124,7 @@ can_be_printed line r read limits h = by_reading read.0 r read.1 read.2 limits
         let small = subst (λ (x : QuestionView). QuestionHasSmallNumbers x.body) same.0 (coded_numbers line source a c reads) in
         let verdict : IsAnswerVerdict (question_body q) (answer_view answer) h.verdict =
         subst (λ b. IsAnswerVerdict (question_body q) b h.verdict) same.1 (subst
-            (λ (x : QuestionView). IsAnswerVerdict x.body a h.verdict) same.0 (on_coded line source a c reads h)) in
+        (λ (x : QuestionView). IsAnswerVerdict x.body a h.verdict) same.0 (on_coded line source a c reads h)) in
         printable (question_body q) limits.0 (question_poses (question_body q) limits.0 small) h.verdict h.accepted answer limits.1.answered verdict
     by_reading (reports.Coded source a c) (variants.Derived q answer origins) same reads limits = absurd same
     by_reading (reports.Coded source a c) (variants.Factored q best) same reads limits = absurd same
@@ -135,7 +135,7 @@ can_be_printed line r read limits h = by_reading read.0 r read.1 read.2 limits
     by_reading (reports.Derived source a ws) (variants.Derived q answer origins) same reads limits =
         let small = subst (λ (x : QuestionView). QuestionHasSmallNumbers x.body) same.0 (derived_numbers line source a ws reads) in
         printable (question_body q) limits.0 (question_poses (question_body q) limits.0 small) Skipped refl answer limits.1.answered
-            (region_skipped (question_body q) (answer_view answer) limits.1.region)
+        (region_skipped (question_body q) (answer_view answer) limits.1.region)
     by_reading (reports.Derived source a ws) (variants.Factored q best) same reads limits = absurd same
     by_reading (reports.Derived source a ws) (variants.Bounded q bounds) same reads limits = absurd same
     by_reading (reports.Derived source a ws) variants.Misfit same reads limits = absurd same
@@ -168,7 +168,7 @@ reported_line options k line text r read h told = by_reading read.0 r read.1 rea
     by_reading (reports.Answered source a) (variants.Answered q answer) same reads told =
         let back : IsAnsweredText options k (asked source).body a text =
         subst (λ b. IsAnsweredText options k (asked source).body b text) (sym same.1)
-            (subst (λ (x : QuestionView). IsAnsweredText options k x.body (answer_view answer) text) (sym same.0) told) in
+        (subst (λ (x : QuestionView). IsAnsweredText options k x.body (answer_view answer) text) (sym same.0) told) in
         record { telling = tellings.Answered source a back.0; is = (accepts line source a reads h, back.1.0); text_is = back.1.1; invalid_is = refl }
     by_reading (reports.Answered source a) (variants.Coded q answer code) same reads told = absurd same
     by_reading (reports.Answered source a) (variants.Derived q answer origins) same reads told = absurd same
@@ -196,7 +196,7 @@ reported_line options k line text r read h told = by_reading read.0 r read.1 rea
     by_reading (reports.Derived source a ws) (variants.Derived q answer origins) same reads told =
         let back : IsAnsweredText options k (asked source).body a text =
         subst (λ b. IsAnsweredText options k (asked source).body b text) (sym same.1)
-            (subst (λ (x : QuestionView). IsAnsweredText options k x.body (answer_view answer) text) (sym same.0) told) in
+        (subst (λ (x : QuestionView). IsAnsweredText options k x.body (answer_view answer) text) (sym same.0) told) in
         record {
           telling = tellings.Derived source a ws back.0;
           is = (record { verdict = h.verdict; is = h.is; accepted = h.accepted; reads = reads }, back.1.0);
@@ -209,9 +209,13 @@ reported_line options k line text r read h told = by_reading read.0 r read.1 rea
     by_reading (reports.Factored source b) (variants.Answered q answer) same reads told = absurd same
     by_reading (reports.Factored source b) (variants.Coded q answer code) same reads told = absurd same
     by_reading (reports.Factored source b) (variants.Derived q answer origins) same reads told = absurd same
-    by_reading (reports.Factored source b) (variants.Factored q best) same reads told = record
-        { telling = tellings.Factored source b; is = accepts_best line source b reads h; text_is = told
-        ∙ ap (λ x. numbered_line k (best_words x)) (sym same.1); invalid_is = refl }
+    by_reading (reports.Factored source b) (variants.Factored q best) same reads told = record {
+      telling = tellings.Factored source b;
+      is = accepts_best line source b reads h;
+      text_is = told
+          ∙ ap (λ x. numbered_line k (best_words x)) (sym same.1);
+      invalid_is = refl;
+    }
     by_reading (reports.Factored source b) (variants.Bounded q bounds) same reads told = absurd same
     by_reading (reports.Factored source b) variants.Misfit same reads told = absurd same
     by_reading (reports.Bounded source b) (variants.Answered q answer) same reads told = absurd same

@@ -117,7 +117,7 @@ pub rates_more : (n : ℕ) (rows : List (Mark × Terms)) (i : ℕ) (row : Mark �
     → rows_by_rates n (take (i + 1) rows) ≡ put_in_order n row (rows_by_rates n (take i rows))
 rates_more n rows i row h read =
     ap (rows_by_rates n) (take_more rows i row h ∙ ap (λ (r : Mark × Terms). take i rows ++ r ∷ []) read)
-        ∙ fold-append (λ (sorted : List (Mark × Terms)) (r : Mark × Terms). put_in_order n r sorted) [] (take i rows) (row ∷ [])
+    ∙ fold-append (λ (sorted : List (Mark × Terms)) (r : Mark × Terms). put_in_order n r sorted) [] (take i rows) (row ∷ [])
 
 -- ---- what holds of each row holds of each in order
 
@@ -178,14 +178,14 @@ pub row_put : (n : ℕ) (row : Bor (Mark × Terms)) (old shown new : List (Bor (
     → rows_at new ≡ put_in_order n row.now (rows_at old)
 row_put n row old shown new i same place is =
     ap rows_at is ∙ map-insert (λ (r : Bor (Mark × Terms)). r.now) old i row
-        ∙ sym (subst (λ (rs : List (Bor (Mark × Terms))). put_in_order n row.now (rows_at rs) ≡ insert (rows_at rs) i row.now) same place)
+    ∙ sym (subst (λ (rs : List (Bor (Mark × Terms))). put_in_order n row.now (rows_at rs) ≡ insert (rows_at rs) i row.now) same place)
 
 -- one more reference
 pub turn_more : (rows : List (Mark × Terms)) (row : Bor (Mark × Terms)) (old new : List (Bor (Mark × Terms))) (i : ℕ) → i < length rows
     → row.now ≡ get_or rows i row.now → new ≡ old ++ row ∷ [] → rows_at old ≡ take i rows → rows_at new ≡ take (i + 1) rows
 turn_more rows row old new i h read is before =
     ap rows_at is ∙ map-append (λ (r : Bor (Mark × Terms)). r.now) old (row ∷ [])
-        ∙ ap₂ (λ (xs ys : List (Mark × Terms)). xs ++ ys) before (ap (λ (r : Mark × Terms). r ∷ []) read) ∙ sym (take_more rows i row.now h)
+    ∙ ap₂ (λ (xs ys : List (Mark × Terms)). xs ++ ys) before (ap (λ (r : Mark × Terms). r ∷ []) read) ∙ sym (take_more rows i row.now h)
 
 -- each row that is told is over the names that all are over
 pub told_is_over : (v : NamesView) (style : Style) (n : ℕ) (rows : List (Mark × Terms)) (refs : List (Bor (Mark × Terms))) (i : ℕ)
@@ -194,4 +194,4 @@ pub told_is_over : (v : NamesView) (style : Style) (n : ℕ) (rows : List (Mark 
 told_is_over v style n rows refs i d all are h =
     let P : Mark × Terms → Type 0 = λ (row : Mark × Terms). IsRowOver v row.1 in
     subst P (row_read refs i d h) (All-get_or P (rows_at refs) i (get_or refs i d).now (in_rows refs i h)
-        (subst (All P) (sym are) (all_told P n style rows all)))
+    (subst (All P) (sym are) (all_told P n style rows all)))

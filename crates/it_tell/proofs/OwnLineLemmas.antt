@@ -62,7 +62,7 @@ pub valid_is_by_shannon : (p : ProblemView) (row : Terms) (w : CertificateView) 
     → v ≡ yes_verdict (generators p) (size_of p.space) row w → v ≡ Valid → IsByShannon p.space.variables (value row)
 valid_is_by_shannon p row w v posed none over is valid q k =
     yes_is_true p row w posed over ((valid_yes_is p row w posed over).0 (sym is ∙ valid)).0 q k
-        (subst (λ (cs : List Constraint). All (IsMet q) cs) (sym none) (All-nil (IsMet q)))
+    (subst (λ (cs : List Constraint). All (IsMet q) cs) (sym none) (All-nil (IsMet q)))
 
 -- such an obligation has no lines
 pub obligation_free : (q : BodyView) (options : Options) (s : Space) (row : Terms) (w : CertificateView) (old : List ℕ)
@@ -83,7 +83,7 @@ pub sets_more : (variables names : List (List ℕ)) (sets : List ℕ) (from i : 
     → new ++ sets_with (i + 1 == 0) variables (drop (from + (i + 1)) names) (drop (i + 1) sets) ≡ all
 sets_more variables names sets from i out mid new all named set m n e =
     ap (λ (t : List ℕ). new ++ t) rest_is ∙ ap (λ (t : List ℕ). t ++ rest) (n ∙ ap (λ (t : List ℕ). t ++ here) m)
-        ∙ append_assoc (out ++ before) here rest ∙ append_assoc out before (here ++ rest)
+    ∙ append_assoc (out ++ before) here rest ∙ append_assoc out before (here ++ rest)
     ∙ ap (λ (t : List ℕ). out ++ t) (sym (append_assoc before here rest) ∙ sym next) ∙ e
   where
     before : List ℕ
@@ -149,8 +149,14 @@ unfolding AppendsEach AppendsOwnLine AppendsOwnProofs
 own_line_appended q options parts origin rows ws relation below comment old mid new says proved c m n = λ forms are. (
   indented_line (own_line_comment q parts origin relation (length below == 0)) ++ below,
   (
-    record { relation = relation; proofs = below; says = says_of_forms (problem_names q) forms rows relation are says; are = proofs_are
-        forms are; out_is = refl },
+    record {
+      relation = relation;
+      proofs = below;
+      says = says_of_forms (problem_names q) forms rows relation are says;
+      are = proofs_are
+          forms are;
+      out_is = refl;
+    },
     n ∙ ap (λ (t : List ℕ). t ++ below) (m ∙ ap (λ (t : List ℕ). old ++ indented_line t) c)
         ∙ append_assoc old (indented_line (own_line_comment q parts origin relation (length below == 0))) below,
   ),
@@ -180,8 +186,14 @@ module _ {X A : Type 0} (shown : A → List ℕ) (tells : X → A → Type 0) wh
   first_told : (x : X) (a : A) (xs : List X) (old now new : List ℕ) → tells x a → now ≡ old ++ shown a → AppendsEach shown tells xs now new
       → AppendsEach shown tells (x ∷ xs) old new
   unfolding AppendsEach
-  first_told x a xs old now new t e h = (shown a ++ h.0, ((a, h.0, t, renumbered 1 (1 + 1) xs h.0 h.1.0, refl), h.1.1
-      ∙ ap (λ (b : List ℕ). b ++ h.0) e ∙ append_assoc old (shown a) h.0))
+  first_told x a xs old now new t e h = (
+    shown a ++ h.0,
+    (
+      (a, h.0, t, renumbered 1 (1 + 1) xs h.0 h.1.0, refl),
+      h.1.1
+          ∙ ap (λ (b : List ℕ). b ++ h.0) e ∙ append_assoc old (shown a) h.0,
+    ),
+  )
 
 -- ---- all lines
 
@@ -246,18 +258,18 @@ line_more q options parts c cs rows proofs old now new first later = λ s t f os
         let told = first fs (t, subst (λ (j : ℕ). ArePulledRows t fs (take j rows)) counted halves.0) in
         let proofs_are : take (length fs) (map certificate_view (take (obliged c.kind) proofs)) ≡ take (length fs) ws =
         subst (λ (j : ℕ). take (length fs) (map certificate_view (take j proofs)) ≡ take (length fs) ws) counted
-            (front_of_front certificate_view (length fs) proofs) in
+        (front_of_front certificate_view (length fs) proofs) in
         let line_is : own_line c.origin fs (map certificate_view (take (obliged c.kind) proofs))
-            ≡ own_line o fs ws = ap₂ (line_with fs) are.placed.0 proofs_are in
+        ≡ own_line o fs ws = ap₂ (line_with fs) are.placed.0 proofs_are in
         let rest_is : map certificate_view (drop (obliged c.kind) proofs)
-            ≡ drop (length fs) ws = subst (λ (j : ℕ). map certificate_view (drop j proofs) ≡ drop (length fs) ws) counted
-            (map_rest certificate_view (length fs) proofs) in
+        ≡ drop (length fs) ws = subst (λ (j : ℕ). map certificate_view (drop j proofs) ≡ drop (length fs) ws) counted
+        (map_rest certificate_view (length fs) proofs) in
         first_told (λ lines. lines) (AreOwnLineTexts q options parts) (own_line o fs ws) told.0
-            (own_lines_by f os ds (drop (length fs) ws)) old now new (subst (λ (l : OwnLine). AreOwnLineTexts q options parts l told.0)
-            line_is told.1.0) told.1.1
+        (own_lines_by f os ds (drop (length fs) ws)) old now new (subst (λ (l : OwnLine). AreOwnLineTexts q options parts l told.0)
+        line_is told.1.0) told.1.1
         (subst (λ (ps : List CertificateView). AppendsEach (λ lines. lines) (AreOwnLineTexts q options parts) (own_lines_by f os ds ps) now new) rest_is
         (later s t f os ds (record { placed = are.placed.1; stated = are.stated.1 })
-            (subst (λ (j : ℕ). ArePulledRows t (demand_obligations f ds) (drop j rows)) counted halves.1)))
+        (subst (λ (j : ℕ). ArePulledRows t (demand_obligations f ds) (drop j rows)) counted halves.1)))
 
 -- a list from a place on
 rest_from : {X : Type 0} (xs : List X) (i : ℕ) (x : X) → i < length xs → x ≡ get_or xs i x → drop i xs ≡ x ∷ drop (i + 1) xs
@@ -271,7 +283,7 @@ pub lines_go_on : (q : BodyView) (options : Options) (parts : List ℕ) (own : L
     → AppendsEachOwnLine q options parts (drop i own) rows (map certificate_view proofs) old new
 lines_go_on q options parts own i c rows proofs old now new h read first later =
     subst (λ (cs : List Constraint). AppendsEachOwnLine q options parts cs rows (map certificate_view proofs) old new)
-        (sym (rest_from own i c h read)) (line_more q options parts c (drop (i + 1) own) rows proofs old now new first later)
+    (sym (rest_from own i c h read)) (line_more q options parts c (drop (i + 1) own) rows proofs old now new first later)
 
 -- `lines_go_on` where a call has split the rows and the proofs
 pub lines_after : (q : BodyView) (options : Options) (parts : List ℕ) (own : List Constraint) (i : ℕ) (c : Constraint)
@@ -284,9 +296,9 @@ pub lines_after : (q : BodyView) (options : Options) (parts : List ℕ) (own : L
 lines_after q options parts own i c rows front back proofs proofs_front proofs_back count old now new h read e f b pf pb first later =
     lines_go_on q options parts own i c rows proofs old now new h read
     (subst₂ (λ (rs : List Terms) (ps : List Certificate). AppendsOwnLine q options parts c.origin rs (map certificate_view ps) old now)
-        (f ∙ ap (λ (k : ℕ). take k rows) e) (pf ∙ ap (λ (k : ℕ). take k proofs) e) first)
+    (f ∙ ap (λ (k : ℕ). take k rows) e) (pf ∙ ap (λ (k : ℕ). take k proofs) e) first)
     (subst₂ (λ (rs : List Terms) (ps : List Certificate). AppendsEachOwnLine q options parts (drop (i + 1) own) rs
-        (map certificate_view ps) now new) (b ∙ ap (λ (k : ℕ). drop k rows) e) (pb ∙ ap (λ (k : ℕ). drop k proofs) e) later)
+    (map certificate_view ps) now new) (b ∙ ap (λ (k : ℕ). drop k rows) e) (pb ∙ ap (λ (k : ℕ). drop k proofs) e) later)
 
 -- the obligations of the constraints from a place on
 pub obligations_go_on : (own : List Constraint) (i : ℕ) (c : Constraint) (count : ℕ) → i < length own → c ≡ get_or own i c
@@ -322,7 +334,7 @@ module _ (q : BodyView) (parts : List ℕ) (ws : List CertificateView) (cs : Lis
       by_verb (Eliminate rates) own are = absurd own
       by_verb (Contain a b tries) own are =
           obligations_there (space_of b.names) (space_of (problem_names q))
-              (pulled_coordinate (length a.names.variables) (length b.names.variables) (substituted_sets (length q.names.variables) parts))
+          (pulled_coordinate (length a.names.variables) (length b.names.variables) (substituted_sets (length q.names.variables) parts))
           (line_demands (length b.names.variables) b.lines) cs rows own.stated are
 
   -- lines that aren't plain
@@ -339,7 +351,7 @@ module _ (q : BodyView) (parts : List ℕ) (ws : List CertificateView) (cs : Lis
       by_verb (Eliminate rates) own are = absurd own
       by_verb (Contain a b tries) own are =
           h (space_of b.names) (space_of (problem_names q)) (pulled_coordinate (length a.names.variables) (length b.names.variables)
-              (substituted_sets (length q.names.variables) parts))
+          (substituted_sets (length q.names.variables) parts))
           (line_origins (length b.names.variables) b.lines) (line_demands (length b.names.variables) b.lines) own are
 
       by_style : (style : Style) → options.style ≡ style → (details : List ℕ) × (AreContainedLines q options style parts ws details × (new ≡ old ++ details))
@@ -353,4 +365,4 @@ pub rows_over : (q : BodyView) (free : ProblemView) (parts : List ℕ) (ws : Lis
 rows_over q free parts ws rows is are =
     subst (λ (s : Space). All (IsOver (size_of s)) rows) (sym is.space)
     (zip-right (IsPulledRow (space_of (problem_names q))) (IsOver (size_of (space_of (problem_names q))))
-        (λ f row pulled. pulled.coordinates) (answer_forms_by q q.verb (Contained parts ws)) rows are)
+    (λ f row pulled. pulled.coordinates) (answer_forms_by q q.verb (Contained parts ws)) rows are)

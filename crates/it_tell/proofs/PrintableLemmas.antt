@@ -104,7 +104,7 @@ module _ (q : BodyView) (p : ProblemView) (is : IsProblemOf q p) where
       let each = each_valid (proof_verdict p t (certificate_view c)) (proofs_verdict p ts (map certificate_view cs)) e in
       All-cons (λ (c : Certificate). All (λ (w : ℕ × ℤ). w.0 < length (elementals (variable_count q)) + length (question_demands q)) c.weights.items) c cs
       (generators_there t c (All-head (IsOver (size_of p.space)) t ts u) each.0)
-          (all_listed ts cs (All-tail (IsOver (size_of p.space)) t ts u) (omega (arith, l)) each.1)
+      (all_listed ts cs (All-tail (IsOver (size_of p.space)) t ts u) (omega (arith, l)) each.1)
 
 terms_up_to : (q : BodyView) (fs : List Form) → All (IsOver (size_of (space_of (problem_names q)))) (map (terms_in q) fs)
 terms_up_to q [] = All-nil (IsOver (size_of (space_of (problem_names q))))
@@ -116,7 +116,7 @@ proofs_listed : (q : BodyView) → IsProblemOf q (problem_of q) → (fs : List F
     → AreListed (variable_count q) (length (question_demands q)) cs
 proofs_listed q posed fs cs counted valid =
     all_listed q (problem_of q) posed (map (terms_in q) fs) cs (terms_up_to q fs)
-        (sym (length-map cs certificate_view) ∙ sym counted ∙ sym (length-map fs (terms_in q))) valid
+    (sym (length-map cs certificate_view) ∙ sym counted ∙ sym (length-map fs (terms_in q))) valid
 
 -- ---- how many forms an answer has proofs of
 
@@ -157,7 +157,7 @@ parts_named : (q : BodyView) (first second : RegionView) (tries : List (List ℕ
 parts_named q first second tries parts about k each =
     let region = (subst (IsVerbOver q.names) about k.verb).1 in
     each ∙ region.counted ∙ ap length (sym (ap (auxiliary_names q.names) about ∙ ap (drop (length q.names.variables)) region.variables
-        ∙ drop-append_seam q.names.variables region.own))
+    ∙ drop-append_seam q.names.variables region.own))
 
 module _ (q : BodyView) (k : IsQuestion q) (posed : IsProblemOf q (problem_of q)) (v : LineVerdict) (accepted : is_invalid v ≡ false) where
   printable_relation : (r : RelationView) (a : Answer) → q.verb ≡ Prove r → HasQuestionShape q (answer_view a)
@@ -167,7 +167,7 @@ module _ (q : BodyView) (k : IsQuestion q) (posed : IsProblemOf q (problem_of q)
       let ws = map certificate_view proofs.items in
       let forms = answer_forms q (Yes ws) in
       proofs_listed q posed forms proofs.items (yes_counted q ws fits) (judged_valid q (Yes ws) v
-          (proofs_verdict (problem_of q) (map (terms_in q) forms) ws) refl is accepted)
+      (proofs_verdict (problem_of q) (map (terms_in q) forms) ws) refl is accepted)
   printable_relation r (answers.No back point) about fits is h =
       let own : problem_names q ≡ q.names = ap (names_under q.names) about in
       let size : length point ≡ size_of (space_of (problem_names q)) = subst (λ (ns : NamesView). length point ≡ size_of (space_of ns)) (sym own) h.0 in
@@ -176,7 +176,7 @@ module _ (q : BodyView) (k : IsQuestion q) (posed : IsProblemOf q (problem_of q)
       (omega (arith, size, pow_pos (variable_count q)), omega (arith, size, pow_mono {i = variable_count q} {j = 10} few, few_rates))
   printable_relation r (answers.Undecided cause) about fits is h =
       subst (λ (ns : NamesView). IsCauseOf (length ns.rates) cause) (sym
-          (let own : problem_names q ≡ q.names = ap (names_under q.names) about in own)) (cause_of_rates q.names cause h)
+      (let own : problem_names q ≡ q.names = ap (names_under q.names) about in own)) (cause_of_rates q.names cause h)
   printable_relation r (answers.Region rows) about fits is h = absurd h
   printable_relation r (answers.Contained parts proofs) about fits is h = absurd h
   printable_relation r (answers.Open tried) about fits is h = absurd h
@@ -187,10 +187,10 @@ module _ (q : BodyView) (k : IsQuestion q) (posed : IsProblemOf q (problem_of q)
   printable_region rates (answers.No back point) about h = absurd h
   printable_region rates (answers.Undecided cause) about h =
       subst (λ (ns : NamesView). IsCauseOf (length ns.rates) cause) (sym
-          (let own : problem_names q ≡ q.names = ap (names_under q.names) about in own)) (cause_of_rates q.names cause h)
+      (let own : problem_names q ≡ q.names = ap (names_under q.names) about in own)) (cause_of_rates q.names cause h)
   printable_region rates (answers.Region rows) about h =
       subst (λ (ns : NamesView). All (λ (row : Mark × Terms). IsRowOver ns row.1) rows.items)
-          (sym (let own : problem_names q ≡ q.names = ap (names_under q.names) about in own)) (rows_over q.names rows.items h)
+      (sym (let own : problem_names q ≡ q.names = ap (names_under q.names) about in own)) (rows_over q.names rows.items h)
   printable_region rates (answers.Contained parts proofs) about h = absurd h
   printable_region rates (answers.Open tried) about h = absurd h
 

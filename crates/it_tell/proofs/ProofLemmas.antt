@@ -139,7 +139,7 @@ pub proofs_more : (q : BodyView) (options : Options) (rows : List Terms) (cs : L
     → ProofsAppended q options rows (map certificate_view cs) old new (i + 1)
 proofs_more q options rows cs row c old now new i before as_many within row_read read told =
     rows_more proof_lines (AreProofTexts q options) (texts_carried q options) rows cs row c told.texts old now new i before as_many within
-        row_read read told.are told.new_is
+    row_read read told.are told.new_is
 
 pub all_proofs : (q : BodyView) (options : Options) (rows : List Terms) (ws : List CertificateView) (old new : List ℕ) (i : ℕ)
     → ProofsAppended q options rows ws old new i → length ws ≤ i → AppendsProofs q options rows ws old new
@@ -165,7 +165,7 @@ pub obligations_more : (q : BodyView) (options : Options) (rows : List Terms) (c
 unfolding AppendsObligation
 obligations_more q options rows cs row c old now new i before as_many within row_read read told =
     rows_more obligation_lines (TellsObligation q options) (obligation_carried q options) rows cs row c told.0 old now new i before as_many
-        within row_read read told.1.0 told.1.1
+    within row_read read told.1.0 told.1.1
 
 pub all_obligations : (q : BodyView) (options : Options) (rows : List Terms) (ws : List CertificateView) (old new : List ℕ) (i : ℕ)
     → ObligationsAppended q options rows ws old new i → length ws ≤ i → AppendsOwnProofs q options rows ws old new

@@ -56,7 +56,7 @@ pub told_stops : (options : Options) (a b c : Option (List ℕ)) (bytes rest lin
 told_stops options a b c bytes rest line after k some_invalid invalid text piece h split told same took =
     let next = item_of_drop k (split_lines bytes) (split_lines after) line (h.rest_is ∙ split) in
     replies_stop (tell_mode options) a b c bytes (split_lines bytes) k h.tellings line told.telling text piece refl h.written next.0 next.1
-        told.is told.text_is same took
+    told.is told.text_is same took
 
 pub told_first : (options : Options) (a b : Option (List ℕ)) (bytes rest : List ℕ) (k : ℕ) (some_invalid : Bool)
     → IsTold options a b bytes rest k some_invalid → WroteFirst (tell_mode options) a b bytes

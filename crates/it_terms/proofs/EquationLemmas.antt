@@ -52,6 +52,10 @@ pub told_by_equation : {E : Type 0} (v : NamesView) (text : List ℕ) (target : 
     → s ≡ record { variables = length v.variables; rates = length v.rates } → IsEquationText v text r
     → IfOk result (λ b. OnTrue b (IsProofOf s.variables r target g)) → IfOk result (λ b. OnTrue b (TellsProof v target g text))
 told_by_equation v text target g s r (Ok b) e is h =
-    OnTrue_from b (TellsProof v target g text) (λ t. record { relation = r; is = is; proves = subst
-        (λ (z : Space). IsProofOf z.variables r target g) e (OnTrue_at t h) })
+    OnTrue_from b (TellsProof v target g text) (λ t. record {
+      relation = r;
+      is = is;
+      proves = subst
+          (λ (z : Space). IsProofOf z.variables r target g) e (OnTrue_at t h);
+    })
 told_by_equation v text target g s r (Err x) e is h = tt

@@ -19,8 +19,17 @@ moved_spelling k at at' bytes [] e h = h
 moved_spelling k at at' bytes (t ∷ ts) e h =
     let c = h.1 in (
       h.0,
-      record { gap = c.gap; text = c.text; whole = c.whole; blank = c.blank; spelled = c.spelled; ends = c.ends; start
-          = omega (arith, c.start, e); end = omega (arith, c.end) },
+      record {
+        gap = c.gap;
+        text = c.text;
+        whole = c.whole;
+        blank = c.blank;
+        spelled = c.spelled;
+        ends = c.ends;
+        start
+            = omega (arith, c.start, e);
+        end = omega (arith, c.end);
+      },
       moved_spelling k t.end (k + t.end) h.0 ts refl h.2,
     )
 

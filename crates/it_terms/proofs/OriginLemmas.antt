@@ -55,16 +55,18 @@ module _ (n : ℕ) (cs : List Constraint) where
   same_allowed (w ∷ ws) a o =
       let allowed = All-head (IsAllowed (forms_of (generator_list n cs))) w ws a in
       let here = generator_is w.0 (All-head (IsOfConstraint n) w ws o).0 allowed.0 in
-      All-cons (IsAllowed (forms_of (map of_constraint cs))) (by_constraint (length (elementals n)) w) (map (by_constraint (length (elementals n))) ws)
-      (subst (λ (m : ℕ). w.0 - length (elementals n) < m) (sym (length-map cs of_constraint)) here.0, λ e. allowed.1
-          (ap (λ (g : Generator). is_equation g.kind) here.1 ∙ e))
+      All-cons (IsAllowed (forms_of (map of_constraint cs))) (by_constraint (length (elementals n)) w) (map (by_constraint (length (elementals n))) ws) (
+        subst (λ (m : ℕ). w.0 - length (elementals n) < m) (sym (length-map cs of_constraint)) here.0,
+        λ e. allowed.1
+            (ap (λ (g : Generator). is_equation g.kind) here.1 ∙ e),
+      )
       (same_allowed ws (All-tail (IsAllowed (forms_of (generator_list n cs))) w ws a) (All-tail (IsOfConstraint n) w ws o))
 
   none_is_zero : (ws : List (ℕ × ℤ)) → All (IsOfConstraint n) ws → All (λ w. w.1 ≢ pos 0) (map (by_constraint (length (elementals n))) ws)
   none_is_zero [] o = All-nil (λ w. w.1 ≢ pos 0)
   none_is_zero (w ∷ ws) o =
       All-cons (λ w. w.1 ≢ pos 0) (by_constraint (length (elementals n)) w) (map (by_constraint (length (elementals n))) ws)
-          (All-head (IsOfConstraint n) w ws o).1
+      (All-head (IsOfConstraint n) w ws o).1
       (none_is_zero ws (All-tail (IsOfConstraint n) w ws o))
 
 -- a row is the sum of constraints that its certificate weighs
@@ -82,7 +84,7 @@ sum_of_certificate q row w k over o =
       nonzero = none_is_zero n q.constraints w.weights o.own;
       adds_up = λ p z.
           adds_up_everywhere (size + 1) (forms_of gs) (value row) w (λ i l. value_linear size (generator_at gs i).row
-              (rows i (record { kind = Inequality; row = [] }) l)) (value_linear size row over) c p z
+          (rows i (record { kind = Inequality; row = [] }) l)) (value_linear size row over) c p z
           ∙ same_sum n q.constraints p w.weights c.allowed o.own;
     }
 
@@ -93,7 +95,7 @@ pub comes_from : (q : BodyView) (p : ProblemView) (row : Terms) (w : Certificate
 comes_from q p row w ws posed over o e =
     inr (subst (λ (us : List (ℕ × ℤ)). IsSumOf (constraints_of (question_demands (under_all_lines q))) (value row) us) (sym e)
     (sum_of_same (forms_of (map of_constraint p.constraints)) (constraints_of (question_demands (under_all_lines q))) (value row)
-        (map (by_constraint (length (elementals p.space.variables))) w.weights)
+    (map (by_constraint (length (elementals p.space.variables))) w.weights)
     (stated_are_same p.space (question_demands (under_all_lines q)) p.constraints posed.constraints.stated) (sum_of_certificate p row w posed.limits over o)))
 
 -- without weights nothing is said of where a row comes from

@@ -84,7 +84,7 @@ said_by_functions v s g lines ds r row text space is said says = record {
   is = is;
   same = subst (λ (z : Space). SaysRowUnder z.variables g lines r row) space
       (λ p k zeros. subst (λ (q : ℕ → ℤ). Holds s.variables q r ↔ (pos 0 ≤ℤ value row q))
-          (spread_out_same s.variables g lines ds p said k zeros) (says p k.empty));
+      (spread_out_same s.variables g lines ds p said k zeros) (says p k.empty));
 }
 
 -- ---- the lines of a question

@@ -96,7 +96,7 @@ chosen_are_there cs [] (x ∷ chosen) a = absurd a
 chosen_are_there cs (l ∷ lines) [] a = absurd a
 chosen_are_there cs (l ∷ lines) (x ∷ chosen) a =
     All-cons (λ l. l < (forms_of (map of_constraint cs)).count) l lines (subst (λ (m : ℕ). l < m) (sym (length-map cs of_constraint)) a.0.0)
-        (chosen_are_there cs lines chosen a.1)
+    (chosen_are_there cs lines chosen a.1)
 
 pub chosen_are_said : (s : Space) (cs chosen : List Constraint) (lines : List ℕ) → All (λ c. IsOver (size_of s) c.row) chosen → AreChosen cs lines chosen
     → All (IsSaid s.variables (forms_of (map of_constraint cs)) lines) (dependences_of (record { space = s; constraints = chosen }))

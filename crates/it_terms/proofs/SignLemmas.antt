@@ -34,7 +34,7 @@ pub together_more : (rows others : List Terms) (i : ℕ) (row other : Terms) →
 together_more rows others i row other inside within is other_is here before =
     subst₂ (λ (xs ys : List Terms). AllZip AreLeastTogether xs ys) (sym (take_at_read rows i row inside).1) (sym (take_at_read others i other within).1)
     (zip-append AreLeastTogether (take i rows) (get_or rows i row ∷ []) (take i others) (get_or others i other ∷ []) before
-        (subst₂ (λ (x y : Terms). AreLeastTogether x y) is other_is here, tt))
+    (subst₂ (λ (x y : Terms). AreLeastTogether x y) is other_is here, tt))
 
 -- forms are at least 0 where the rows are that have the signs of theirs
 least_by_rows : (s : Space) (p : ℕ → ℤ) → p 0 ≡ pos 0 → (fs : List Form) (own rows : List Terms) → AreRowsOf s fs own → AllZip AreLeastTogether own rows
@@ -67,6 +67,10 @@ pub forms_told : {E : Type 0} (v : NamesView) (forms : List Form) (text : List �
     → s ≡ record { variables = length v.variables; rates = length v.rates } → IsRelationText v text r
     → IfOk result (λ b. OnTrue b (SaysForms s.variables r forms)) → IfOk result (λ b. OnTrue b (TellsForms v forms text))
 forms_told v forms text s r (Ok b) e is h =
-    OnTrue_from b (TellsForms v forms text) (λ t. record { relation = r; is = is; same = subst
-        (λ (z : Space). SaysForms z.variables r forms) e (OnTrue_at t h) })
+    OnTrue_from b (TellsForms v forms text) (λ t. record {
+      relation = r;
+      is = is;
+      same = subst
+          (λ (z : Space). SaysForms z.variables r forms) e (OnTrue_at t h);
+    })
 forms_told v forms text s r (Err x) e is h = tt

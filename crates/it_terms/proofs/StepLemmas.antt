@@ -35,7 +35,7 @@ module _ {P : Type 0} (terms : P → List Term) (tells : P → List ℕ → Rela
       → AreSteps terms tells sum (take (i + 1) pieces) after (lines ++ line ∷ [])
   step_more_of sum pieces now after lines i piece line within read h s =
       subst (λ (ps : List P). AreSteps terms tells sum ps after (lines ++ line ∷ []))
-          (sym ((take_at_read pieces i piece within).1 ∙ ap (λ (p : P). take i pieces ++ p ∷ []) (sym read)))
+      (sym ((take_at_read pieces i piece within).1 ∙ ap (λ (p : P). take i pieces ++ p ∷ []) (sym read)))
       (steps_on sum now after (take i pieces) (piece ∷ []) lines (line ∷ []) h s)
 
   -- steps remain steps where what is said of each line is replaced by what follows from it
@@ -67,4 +67,4 @@ pub one_step_more : (v : NamesView) (sum terms now after : List Term) (lines : L
     → AreStepTexts v sum (take (i + 1) terms) after (lines ++ line ∷ [])
 one_step_more v sum terms now after lines i term line within read h s =
     step_more_of (λ (t : Term). t ∷ []) (λ (t : Term) (l : List ℕ) (r : RelationView). IsEquationText v l r) sum terms now after lines i
-        term line within read h s
+    term line within read h s

@@ -115,7 +115,7 @@ pub same_as_added : {E : Type 0} (row : Terms) (old new : List ℤ) (places : �
 same_as_added row old new places form (Ok b) zeros plus h =
     OnTrue_from b (AreSame (value row) form) (λ e p z.
     sum_from_zero (value row p) (dense_form new p) (dense_form old p) (form p) (OnTrue_at e h p z) (plus.sum p)
-        (ap (λ (xs : List ℤ). dense_form xs p) zeros ∙ zeros-total 0 places p))
+    (ap (λ (xs : List ℤ). dense_form xs p) zeros ∙ zeros-total 0 places p))
   where
     sum_from_zero : (row new old form : ℤ) → row ≡ new → new ≡ old +ℤ form → old ≡ pos 0 → row ≡ form
     sum_from_zero row new old form e f g = omega (arith, ints, e, f, g)

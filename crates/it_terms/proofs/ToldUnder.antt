@@ -25,17 +25,17 @@ proof_under_least n lines r named target g u p h least zeros =
     let more : ℤ = combination named (λ i. g.form i p) in
     let a : pos 0 ≤ℤ side_at n p m s.shannon = terms_least n m p s.shannon h s.plus in
     let b : pos 0 ≤ℤ side_at n p m s.rest = subst (λ (x : ℤ). pos 0 ≤ℤ x) (sym (s.constraints_are p h.empty))
-        (weighted_least g (λ i. g.form i p) least zeros s.weights s.allowed) in
+    (weighted_least g (λ i. g.form i p) least zeros s.weights s.allowed) in
     let c : pos 0 ≤ℤ more = weighted_least g (λ i. g.form i p) least zeros named u.allowed in
     let right : side_form n r r.right p ≡ side_at n p m s.shannon +ℤ side_at n p m s.rest = ap (λ (ts : List Term). side_at n p m ts)
-        s.right ∙ side-append n m p s.shannon s.rest in
+    s.right ∙ side-append n m p s.shannon s.rest in
     let e : s.scale *ℤ target p ≡ side_at n p m s.shannon +ℤ side_at n p m s.rest +ℤ more =
     sym (s.target_is p h.empty)
     ∙ same_at n g lines u.functions (side_form n r r.left) (λ q. side_form n r r.right q +ℤ combination named (λ i. g.form i q)) p u.said h zeros u.adds_up
     ∙ ap (λ (x : ℤ). x +ℤ more) right in
     least_by_multiple s.scale (target p) (let o = s.scale_from_one in omega (arith, ints, o))
     (subst (λ (x : ℤ). pos 0 ≤ℤ x) (sym e) (sum_least (side_at n p m s.shannon +ℤ side_at n p m s.rest) more
-        (sum_least (side_at n p m s.shannon) (side_at n p m s.rest) a b) c))
+    (sum_least (side_at n p m s.shannon) (side_at n p m s.rest) a b) c))
 
 pub told_under_proves : ToldUnderProves
 told_under_proves q lines named target text t p h =

@@ -15,15 +15,21 @@ use Rattle.it_whole.proofs.Usable.{factor_some, shortened_less}
 -- a row within a limit is within a greater one
 row_within : (width limit more : ℕ) (f : ℕ → Rational) (row : List ℤ) (bottom : ℕ) → limit ≤ more → IsRow width limit f row bottom
     → IsRow width more f row bottom
-row_within width limit more f row bottom h r = record { length_is = r.length_is; some = r.some; low = r.low; named = r.named; small = λ k l.
-    let s = r.small k l in omega (arith, s, h) }
+row_within width limit more f row bottom h r = record {
+  length_is = r.length_is;
+  some = r.some;
+  low = r.low;
+  named = r.named;
+  small = λ k l.
+      let s = r.small k l in omega (arith, s, h);
+}
 
 -- the numbers of a row that is made less may pass the limit on the way
 reduced_within : (width limit more : ℕ) (old own new : WholeRowView) (z p : ℤ) → limit ≤ more → AreAtMost new.numbers limit
     → IsWholeRowReduced width more old own z p new → IsWholeRowReduced width limit old own z p new
 reduced_within width limit more old own new z p h small less = λ f g x w rf rg ex ew.
     let r = less f g x w (row_within width limit more f old.numbers old.bottom h rf)
-        (row_within width limit more g own.numbers own.bottom h rg) ex ew in record {
+    (row_within width limit more g own.numbers own.bottom h rg) ex ew in record {
       length_is = r.length_is;
       some = r.some;
       low = r.low;
@@ -63,7 +69,7 @@ module _ (width limit : ℕ) (old own new : WholeRowView) (z p a b : ℤ) (above
     shortened_reduced b_is low = reduced_within width limit 9223372036854775807 old own new z p (omega (arith, short)) small
         (shortened_less width 9223372036854775807 old own record { numbers = c.numbers; bottom = bottom } new z p
         (less_row width 9223372036854775807 old own record { numbers = c.numbers; bottom = bottom } z p a b above a_is b_is c.combined
-            bottom_is low) c.shortened)
+        bottom_is low) c.shortened)
 
     pub room_usable : IsUsable width limit old → IsUsable width limit new
     room_usable u = record {

@@ -18,7 +18,7 @@ returns g c =
     let p = c.in_ok-pair.pair in
     let answered =
     question_is_answered q a b c.args.tries.now p c.requires.question c.requires.contains c.in_ok-pair.ensures.limits
-        (pair_of_verb q a b c.args.tries.now p c.requires.contains c.in_ok-pair.ensures.pair) c.args.budgets _ _
+    (pair_of_verb q a b c.args.tries.now p c.requires.contains c.in_ok-pair.ensures.pair) c.args.budgets _ _
     c.in_ok-end.end c.as_slice.result.now (answer_view c.in_ok-answer.answer)
-        (c.as_slice.ensures.value ∙ c.in_ok-tried.ensures) c.in_ok-answer.ensures c.in_ok-end.ensures in
+    (c.as_slice.ensures.value ∙ c.in_ok-tried.ensures) c.in_ok-answer.ensures c.in_ok-end.ensures in
     record { found = found_of c.in_ok-end.end; right = answered.0; learned = answered.1 }

@@ -13,5 +13,5 @@ pub returns-in_default : goal.returns-in_default
 returns-in_default c =
     let q = question_body c.args.question.now in
     c.new.ensures.items ∙ sym (ap (map (terms_in q)) (no_obligations q (region_view c.args.first.now)
-        (region_view c.args.second.now) c.args.tries.now c.requires.contains c.args.answer.now
-        (λ parts proofs e. c.in_default.not-Contained parts proofs e)))
+    (region_view c.args.second.now) c.args.tries.now c.requires.contains c.args.answer.now
+    (λ parts proofs e. c.in_default.not-Contained parts proofs e)))

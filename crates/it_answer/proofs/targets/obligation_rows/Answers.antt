@@ -17,7 +17,7 @@ obligations-requires-clause-fits c =
     let b = region_view c.args.second.now in
     let p = c.in_ok-pair.pair in
     parts_fit q a b p (pair_of_verb q a b c.args.tries.now p c.requires.contains c.in_ok-pair.ensures.pair) c.candidate-candidate.result
-        c.args.parts.now (search rules) c.candidate-candidate.ensures.count c.candidate-candidate.ensures.parts c.requires.parts
+    c.args.parts.now (search rules) c.candidate-candidate.ensures.count c.candidate-candidate.ensures.parts c.requires.parts
 
 pub returns : goal.returns
 returns c =
@@ -26,5 +26,5 @@ returns c =
     let b = region_view c.args.second.now in
     let p = c.in_ok-pair.pair in
     obligation_rows q a b c.args.tries.now c.requires.contains p (pair_of_verb q a b c.args.tries.now p c.requires.contains
-        c.in_ok-pair.ensures.pair) c.candidate-candidate.result c.args.parts.now c.in_ok-rows.rows.items c.candidate-candidate.ensures.parts
+    c.in_ok-pair.ensures.pair) c.candidate-candidate.result c.args.parts.now c.in_ok-rows.rows.items c.candidate-candidate.ensures.parts
     c.in_ok-rows.ensures.rows

@@ -13,8 +13,8 @@ pub loop-ray-preserved : goal.loop-ray-preserved
 loop-ray-preserved c = making_more c.args.frame c.args.effort (first_rows c.args.kept.now) c.args.rays.now c.loop-ray.ray-index
     c.loop-ray.rows.items c.loop-ray.steps.items c.loop-ray.invariant c.ray-item.result c.loop-ray-test.true c.ray-item.is
     c.in-Some.made c.push.new.self.items c.requires.frame (subst
-        (λ (m : Option Made). IsMadeStep c.args.frame c.args.effort c.loop-ray.rows.items c.ray-item.result m) c.in-Some.is
-        c.in_ok-made.ensures) c.in_ok-push-in-Some.ensures.items
+    (λ (m : Option Made). IsMadeStep c.args.frame c.args.effort c.loop-ray.rows.items c.ray-item.result m) c.in-Some.is
+    c.in_ok-made.ensures) c.in_ok-push-in-Some.ensures.items
 
 pub returns-in-None : goal.returns-in-None
 returns-in-None c = making_none c.args.frame c.args.effort (first_rows c.args.kept.now) c.args.rays.now c.loop-ray.ray-index

@@ -12,8 +12,8 @@ overflow_add-count c =
     let there = subst (λ gs. c.loop-given.given-index < length gs) c.deref-given-items.ensures.value c.loop-given-test.true in
     let is = subst (λ gs. c.given-item.result ≡ get_or gs c.loop-given.given-index c.given-item.result) c.deref-given-items.ensures.value c.given-item.is in
     let few : c.given_form_count-count.result ≤ 32 = c.given_form_count-count.ensures.few n
-        (image-at (IsGivenOf n) given_view c.args.region.now.lines.givens.items c.loop-given.given-index c.given-item.result
-        c.requires.givens there is) in
+    (image-at (IsGivenOf n) given_view c.args.region.now.lines.givens.items c.loop-given.given-index c.given-item.result
+    c.requires.givens there is) in
     search (rules, few)
 
 pub loop-given-preserved : goal.loop-given-preserved
@@ -22,8 +22,8 @@ loop-given-preserved c =
     let there = subst (λ gs. c.loop-given.given-index < length gs) c.deref-given-items.ensures.value c.loop-given-test.true in
     let is = subst (λ gs. c.given-item.result ≡ get_or gs c.loop-given.given-index c.given-item.result) c.deref-given-items.ensures.value c.given-item.is in
     let few : c.given_form_count-count.result ≤ 32 = c.given_form_count-count.ensures.few n
-        (image-at (IsGivenOf n) given_view c.args.region.now.lines.givens.items c.loop-given.given-index c.given-item.result
-        c.requires.givens there is) in
+    (image-at (IsGivenOf n) given_view c.args.region.now.lines.givens.items c.loop-given.given-index c.given-item.result
+    c.requires.givens there is) in
     record {
       rest = given_more c.args.region.now.lines.givens.items c.loop-given.given-index c.loop-given.count c.given_form_count-count.result
           (sum_by given_form_count (map given_view c.args.region.now.lines.givens.items)) c.given-item.result there is

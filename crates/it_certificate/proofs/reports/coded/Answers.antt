@@ -9,7 +9,7 @@ use Rattle.it_certificate.proofs.reports.coded.Goals as goal
 pub returns-in-Ok-question_code-clause-reading : goal.returns-in-Ok-question_code-clause-reading
 returns-in-Ok-question_code-clause-reading c =
     code_ok (view c.args.value.now) c.requires.told c.requires.outer c.requires.factors c.requires.code c.in_ok-question.question
-        c.in_ok-question.ensures.reading
+    c.in_ok-question.ensures.reading
     c.in-Ok.answer c.in-Ok-question_code.code c.in-Ok.ensures c.in-Ok-question_code.ensures
 
 pub returns-in-Ok-question_code-clause-limits : goal.returns-in-Ok-question_code-clause-limits
@@ -22,5 +22,5 @@ returns-in-Ok-question_code-clause-limits c = (
 pub returns-in-Err-question_code-clause-reading : goal.returns-in-Err-question_code-clause-reading
 returns-in-Err-question_code-clause-reading c =
     code_err (view c.args.value.now) c.requires.told c.requires.outer c.requires.factors c.requires.code c.in_ok-question.question
-        c.in_ok-question.ensures.reading
+    c.in_ok-question.ensures.reading
     c.in-Ok.answer c.in-Err-question_code.fault c.in-Ok.ensures c.in-Err-question_code.ensures

@@ -9,7 +9,7 @@ use Rattle.it_certificate.proofs.reports.derived.Goals as goal
 pub returns-in-Ok-answer_origins-clause-reading : goal.returns-in-Ok-answer_origins-clause-reading
 returns-in-Ok-answer_origins-clause-reading c =
     origins_ok (view c.args.value.now) c.requires.told c.requires.outer c.requires.factors c.requires.code c.requires.origins
-        c.in_ok-question.question c.in_ok-question.ensures.reading
+    c.in_ok-question.question c.in_ok-question.ensures.reading
     c.in-Ok.answer c.in-Ok.ensures c.in-Ok-answer_origins.origins c.in-Ok-answer_origins.ensures
 
 pub returns-in-Ok-answer_origins-clause-limits : goal.returns-in-Ok-answer_origins-clause-limits
@@ -22,5 +22,5 @@ returns-in-Ok-answer_origins-clause-limits c = (
 pub returns-in-Err-answer_origins-clause-reading : goal.returns-in-Err-answer_origins-clause-reading
 returns-in-Err-answer_origins-clause-reading c =
     origins_err (view c.args.value.now) c.requires.told c.requires.outer c.requires.factors c.requires.code c.requires.origins
-        c.in_ok-question.question c.in_ok-question.ensures.reading
+    c.in_ok-question.question c.in_ok-question.ensures.reading
     c.in-Ok.answer c.in-Ok.ensures c.in-Err-answer_origins.fault c.in-Err-answer_origins.ensures

@@ -24,23 +24,23 @@ equal_from_bits x y f g e = sym (to_z-of_z f) ∙ ap (to_z w128) e ∙ to_z-of_z
 pub returns-in_default : goal.returns-in_default
 returns-in_default c =
     left_wide (generators c.args.problem.now) c.args.target.now (certificate_view c.args.certificate.now) c.args.coordinate
-        c.left_number.result c.left_number.result c.left_number.ensures c.in_default.field-0 c.in_default.is
+    c.left_number.result c.left_number.result c.left_number.ensures c.in_default.field-0 c.in_default.is
 
 pub returns-in_default-right_number : goal.returns-in_default-right_number
 returns-in_default-right_number c =
     right_wide (generators c.args.problem.now) c.args.target.now (certificate_view c.args.certificate.now) c.args.coordinate
-        c.left_number.result c.right_number.result c.left_number.ensures
+    c.left_number.result c.right_number.result c.left_number.ensures
     (value_is_right (goal.at.returns-in_default-right_number c).After-right_number) c.in-Ok.left c.in_default-right_number.field-0
-        c.in-Ok.is c.in_default-right_number.is
+    c.in-Ok.is c.in_default-right_number.is
 
 pub returns-then-left-right : goal.returns-then-left-right
 returns-then-left-right c =
     let left_fits : FitsSigned w128 c.in-Ok.left = search rules in
     let right_fits : FitsSigned w128 c.in-Ok-right_number.right = search rules in
     sides_agree (generators c.args.problem.now) c.args.target.now (certificate_view c.args.certificate.now) c.args.coordinate
-        c.left_number.result c.right_number.result c.left_number.ensures
+    c.left_number.result c.right_number.result c.left_number.ensures
     (value_is_right (goal.at.returns-then-left-right c).After-right_number) c.in-Ok.left c.in-Ok-right_number.right c.in-Ok.is
-        c.in-Ok-right_number.is (equal_from_bits c.in-Ok.left c.in-Ok-right_number.right left_fits right_fits c.if-left-right.true)
+    c.in-Ok-right_number.is (equal_from_bits c.in-Ok.left c.in-Ok-right_number.right left_fits right_fits c.if-left-right.true)
 
 pub returns : goal.returns
 returns c =
@@ -50,4 +50,4 @@ returns c =
     ∙ sides_differ (generators c.args.problem.now) c.args.target.now (certificate_view c.args.certificate.now) c.args.coordinate
     c.left_number.result c.right_number.result c.left_number.ensures
     (value_is_right (goal.at.returns c).After-right_number) c.in-Ok.left c.in-Ok-right_number.right c.in-Ok.is c.in-Ok-right_number.is
-        (λ e. c.if-left-right.false (ap (of_z w128) e))
+    (λ e. c.if-left-right.false (ap (of_z w128) e))

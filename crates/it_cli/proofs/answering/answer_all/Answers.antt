@@ -13,8 +13,11 @@ answer_one-requires-clause-ascii g c = rw c.index-questions-i.is (all_views IsAs
     c.index-questions-i.result (omega arith))
 
 pub returns-in_default : goal.returns-in_default
-returns-in_default g c bytes asked = (c.loop-i.invariant.1, inr (first_answered c.args.budgets _ _ c.args.format _ _ bytes _ c.loop-i.i
-    asked c.loop-i.invariant.0))
+returns-in_default g c bytes asked = (
+  c.loop-i.invariant.1,
+  inr (first_answered c.args.budgets _ _ c.args.format _ _ bytes _ c.loop-i.i
+      asked c.loop-i.invariant.0),
+)
 
 pub returns-in_default-write_all : goal.returns-in_default-write_all
 returns-in_default-write_all g c bytes asked = (
@@ -33,5 +36,8 @@ loop-i-preserved g c = (
 )
 
 pub returns : goal.returns
-returns g c bytes asked = (c.loop-i.invariant.1, all_answered c.args.budgets _ _ c.args.format _ _ bytes _ c.loop-i.i asked
-    c.loop-i.invariant.0 (simp length-map (omega arith)))
+returns g c bytes asked = (
+  c.loop-i.invariant.1,
+  all_answered c.args.budgets _ _ c.args.format _ _ bytes _ c.loop-i.i asked
+      c.loop-i.invariant.0 (simp length-map (omega arith)),
+)

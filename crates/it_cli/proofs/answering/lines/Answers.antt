@@ -52,7 +52,7 @@ returns-in-Proof c = rw c.in-Proof.is (by_result c.proof_lines.result c.proof_li
         (origins_of c.args.answered.now.problem.constraints)
         (generator_rows (problem_names (question_body c.args.question.now)) c.args.answered.now.problem.constraints)
         (map (terms_in (question_body c.args.question.now)) (answer_forms (question_body c.args.question.now)
-            (answer_view c.args.answered.now.answer))) (answer_view c.args.answered.now.answer))
+        (answer_view c.args.answered.now.answer))) (answer_view c.args.answered.now.answer))
         → IfOk r (λ t. IsToldText Proof c.args.k (question_view c.args.question.now) (answer_view c.args.answered.now.answer) t.items)
     by_result (Ok t) e = record {
       origins = None;

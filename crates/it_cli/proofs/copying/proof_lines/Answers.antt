@@ -12,7 +12,7 @@ pub text_lines-requires-clause-printable : goal.text_lines-requires-clause-print
 text_lines-requires-clause-printable c =
     right_is_printable _ _ (question_body c.args.question.now) _ c.in_ok-answered.answered.answer c.in_ok-answered.ensures.answered.found c.requires.limits
     (few_constraints (question_body c.args.question.now) c.in_ok-answered.answered.problem.space
-        c.in_ok-answered.answered.problem.constraints c.in_ok-answered.ensures.problem)
+    c.in_ok-answered.answered.problem.constraints c.in_ok-answered.ensures.problem)
     c.in_ok-answered.ensures.answered.right
 
 pub returns : goal.returns

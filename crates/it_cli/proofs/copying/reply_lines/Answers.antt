@@ -12,7 +12,7 @@ use Rattle.it_cli.proofs.copying.reply_lines.Goals as goal
 pub returns-in-Ok : goal.returns-in-Ok
 returns-in-Ok c = if_ok c.proof_lines.result (λ t. IsProofText c.args.effort c.args.k (question_body c.in-Ok.extended) t.items)
     (λ t. IsTextOf (copy_mode false c.args.effort) [] c.args.k (with_copies (map copy_view c.args.copies.now)
-        (question_view c.args.question.now)) t.items) c.proof_lines.ensures
+    (question_view c.args.question.now)) t.items) c.proof_lines.ensures
     (λ t lines. record { reply = Extended (question_body c.in-Ok.extended) lines.answer; right = (c.in-Ok.ensures.extension, lines.right); is = lines.is })
 
 pub returns-in-Err : goal.returns-in-Err

@@ -12,7 +12,7 @@ pub region_line-requires-clause-region : goal.region_line-requires-clause-region
 region_line-requires-clause-region c = told_of_region (question_body c.args.question.now) (answer_view c.args.answer.now)
     (map certificate_view c.in-Some.origins.items)
     (subst (λ (o : Option (Vec Certificate)). AreToldOrigins Derived (question_body c.args.question.now) (answer_view c.args.answer.now)
-        (option_map (λ v. map certificate_view v.items) o)) c.in-Some.is c.in_ok-origins.ensures)
+    (option_map (λ v. map certificate_view v.items) o)) c.in-Some.is c.in_ok-origins.ensures)
 
 pub returns-in_ok-line-in-Some : goal.returns-in_ok-line-in-Some
 returns-in_ok-line-in-Some c = (

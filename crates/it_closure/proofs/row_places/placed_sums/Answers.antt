@@ -20,9 +20,9 @@ put-requires c =
     let t : ℕ × ℤ = get_or items i (0, pos 0) in
     let below : i < length items = omega arith in
     let last : t.0 ≤ size_of c.args.dependences.now.space = (subst (IsOver (size_of c.args.dependences.now.space))
-        (sym c.terms-coordinate-items.ensures.value) c.requires i (0, pos 0) below).1 in
+    (sym c.terms-coordinate-items.ensures.value) c.requires i (0, pos 0) below).1 in
     let in' = place_in c.args.dependences.now t.0 (size_of c.args.dependences.now.space + 1) c.space.ensures.shape
-        (sets_in c.args.dependences.now.space) (omega arith) in
+    (sets_in c.args.dependences.now.space) (omega arith) in
     omega (arith, in', c.place.ensures, c.loop-coordinate.invariant.complete)
 
 pub returns-in_err-put-clause-wide : goal.returns-in_err-put-clause-wide
@@ -34,7 +34,7 @@ returns-in_err-put-clause-wide c =
     let f : FitsSigned w128 t.1 = search rules in
     let wide = simp to_z-of_z at c.in_err-put.ensures.wide in
     let stops = collapse_is_wide c.args.dependences.now.space.variables c.args.dependences.now.list c.args.row.now items
-        (size_of c.args.dependences.now.space + 1) c.loop-coordinate.sums i c.place.result t
+    (size_of c.args.dependences.now.space + 1) c.loop-coordinate.sums i c.place.result t
     c.terms-coordinate-items.ensures.value below (get_or_default items i (0, pos 0) t below) c.place.ensures wide c.loop-coordinate.invariant in
     search (rules, stops)
 
@@ -47,9 +47,9 @@ loop-coordinate-preserved c =
     let f : FitsSigned w128 t.1 = search rules in
     let put = simp to_z-of_z at c.in_ok-put.ensures.put in
     went_on c.args.dependences.now.space.variables c.args.dependences.now.list c.args.row.now items
-        (size_of c.args.dependences.now.space + 1) c.loop-coordinate.sums
+    (size_of c.args.dependences.now.space + 1) c.loop-coordinate.sums
     c.put.new.sums i c.place.result t c.terms-coordinate-items.ensures.value below
-        (get_or_default items i (0, pos 0) t below) c.place.ensures put c.loop-coordinate.invariant
+    (get_or_default items i (0, pos 0) t below) c.place.ensures put c.loop-coordinate.invariant
 
 pub returns-clause-placed : goal.returns-clause-placed
 returns-clause-placed c = placing-end c.args.dependences.now.space.variables c.args.dependences.now.list c.args.row.now
@@ -57,5 +57,10 @@ returns-clause-placed c = placing-end c.args.dependences.now.space.variables c.a
     (omega (arith, ap length c.terms-coordinate-items.ensures.value)) c.loop-coordinate.invariant
 
 pub returns-clause-few : goal.returns-clause-few
-returns-clause-few c = omega (arith, c.loop-coordinate.invariant.complete, c.space.ensures.shape.space.few_rates, pow_mono
-    {i = c.args.dependences.now.space.variables} {j = 10} c.space.ensures.shape.space.few)
+returns-clause-few c = omega (
+  arith,
+  c.loop-coordinate.invariant.complete,
+  c.space.ensures.shape.space.few_rates,
+  pow_mono
+      {i = c.args.dependences.now.space.variables} {j = 10} c.space.ensures.shape.space.few,
+)

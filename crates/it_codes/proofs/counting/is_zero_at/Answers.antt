@@ -14,4 +14,4 @@ loop-coefficient-preserved c = (
 pub returns : goal.returns
 returns c = ap (λ n. nat_eq n 0) (value_end c.args.size c.args.function.now c.loop-coefficient.coefficient-index c.loop-coefficient.sum c.loop-coefficient.left
     (value_at c.args.size c.args.function.now c.args.message % c.args.size) c.loop-coefficient-test.false c.loop-coefficient.invariant.0
-        c.loop-coefficient.invariant.1)
+    c.loop-coefficient.invariant.1)

@@ -21,13 +21,13 @@ loop-variable-preserved c = (
       ∙ set_step c.args.size c.args.message (map functions_of c.args.variables.now) c.loop-variable.variable-index
       (functions_of c.variable-item.result) c.loop-variable.set c.loop-variable.place
       (zero_set c.args.size c.args.message (map functions_of c.args.variables.now))
-          (subst (λ n. c.loop-variable.variable-index < n) (sym (length-map c.args.variables.now functions_of)) c.loop-variable-test.true)
+      (subst (λ n. c.loop-variable.variable-index < n) (sym (length-map c.args.variables.now functions_of)) c.loop-variable-test.true)
       (item_functions c.args.variables.now c.loop-variable.variable-index c.variable-item.result c.loop-variable-test.true
-          c.variable-item.is) c.loop-variable.invariant.2,
+      c.variable-item.is) c.loop-variable.invariant.2,
 )
 
 pub returns : goal.returns
 returns c = set_end c.args.size c.args.message (map functions_of c.args.variables.now) c.loop-variable.variable-index c.loop-variable.set c.loop-variable.place
     (zero_set c.args.size c.args.message (map functions_of c.args.variables.now))
-        (subst (λ n. n ≤ c.loop-variable.variable-index) (sym (length-map c.args.variables.now functions_of)) c.loop-variable-test.false)
-        c.loop-variable.invariant.2
+    (subst (λ n. n ≤ c.loop-variable.variable-index) (sym (length-map c.args.variables.now functions_of)) c.loop-variable-test.false)
+    c.loop-variable.invariant.2

@@ -12,7 +12,7 @@ loop-set-preserved c =
     let values = c.loop-set.values.items in
     let small : c.in-Some.h < 2 ^ 127 = omega (arith, c.in-Some.ensures.small) in
     let items : c.push.new.self.items ≡ values ++ pos c.in-Some.h ∷ [] = c.in_ok-push-in-Some.ensures.items
-        ∙ ap (λ x. values ++ x ∷ []) (to_z_pos w128 c.in-Some.h small) in
+    ∙ ap (λ x. values ++ x ∷ []) (to_z_pos w128 c.in-Some.h small) in
     let within : IsWithin (pos c.in-Some.h) = omega (arith, c.in-Some.ensures.small) in (
       c.loop-set.invariant.0,
       omega (arith, c.in_ok-push-in-Some.ensures.len, ap length items, c.loop-set.invariant.1),

@@ -17,4 +17,4 @@ pub returns-else-reached-total-clause-none : goal.returns-else-reached-total-cla
 returns-else-reached-total-clause-none c =
     let past : c.args.total < c.loop-reached.reached = omega (arith, c.loop-reached-test.false, c.if-reached-total.false) in
     none_reached c.args.count c.args.size c.args.total c.loop-reached.h c.loop-reached.reached c.requires.some c.loop-reached.invariant.0
-        c.loop-reached.invariant.2 past
+    c.loop-reached.invariant.2 past

@@ -11,4 +11,4 @@ returns-in-Some-clause-no c = OnFalse_from c.is_product.result (HasEntropy (code
     let fits : FitsSigned w128 c.at.result = search rules in
     let differs : OnFalse c.is_product.result (c.at.result ≡ pos (c.args.times * c.in-Some.h) → ⊥) = simp to_z-of_z at c.is_product.ensures.no in
     other_value (code_view c.args.code.now) c.args.times c.args.point.now c.args.set c.in-Some.h c.at.result c.at.ensures.value
-        c.in-Some.ensures.found (OnFalse_at e differs))
+    c.in-Some.ensures.found (OnFalse_at e differs))

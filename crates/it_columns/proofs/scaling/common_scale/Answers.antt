@@ -12,4 +12,4 @@ returns-clause-value c = scale_done c.args.numbers.now c.loop-number.number-inde
 pub returns-in_err-scale-clause-value : goal.returns-in_err-scale-clause-value
 returns-in_err-scale-clause-value c = OkIff-err _ _ _ c.from_residual.ensures.0
     (scale_wide c.args.numbers.now c.loop-number.number-index c.loop-number.scale c.number-item.result c.loop-number-test.true
-        c.number-item.is c.in_err-scale.ensures c.loop-number.invariant)
+    c.number-item.is c.in_err-scale.ensures c.loop-number.invariant)

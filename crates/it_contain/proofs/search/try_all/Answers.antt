@@ -13,7 +13,7 @@ returns-in-Found g c = found_at_once (pair_goal c.args.goal.now.pair.now c.args.
 pub loop-i-init : goal.loop-i-init
 loop-i-init g c =
     let o = open_end (pair_goal c.args.goal.now.pair.now c.args.goal.now.effort) c.args.tries c.args.first.now _ _ c.in_ok-candidate.field-0
-        c.in-Open.tried c.in_ok-candidate.ensures.ends c.in-Open.is in
+    c.in-Open.tried c.in_ok-candidate.ensures.ends c.in-Open.is in
     record {
       end = search rules;
       within = open_within (pair_goal c.args.goal.now.pair.now c.args.goal.now.effort) c.args.tries c.in-Open.tried c.args.first.now o.0;
@@ -27,15 +27,15 @@ pub returns-in-Found-2 : goal.returns-in-Found-2
 returns-in-Found-2 g c =
     let n = same_length _ _ c.loop-i.boxes.items c.args.boxes.now.items c.loop-i.invariant.plans in
     found_in_box (pair_goal c.args.goal.now.pair.now c.args.goal.now.effort) c.args.tries c.args.first.now c.args.shape _ _ _ _ c.loop-i.i
-        c.loop-i.count c.in-Found-2.candidate c.in-Found-2.proof c.in_ok-candidate-2.field-0
+    c.loop-i.count c.in-Found-2.candidate c.in-Found-2.proof c.in_ok-candidate-2.field-0
     (simp length-map (search (rules, n))) c.loop-i.invariant.later c.loop-i.invariant.plans c.loop-i.invariant.open_so_far
-        c.in_ok-candidate-2.ensures.ends c.in-Found-2.is
+    c.in_ok-candidate-2.ensures.ends c.in-Found-2.is
 
 pub loop-i-preserved : goal.loop-i-preserved
 loop-i-preserved g c =
     let n = same_length _ _ c.loop-i.boxes.items c.args.boxes.now.items c.loop-i.invariant.plans in
     let o = open_end (pair_goal c.args.goal.now.pair.now c.args.goal.now.effort) _ _ _ _ c.in_ok-candidate-2.field-0 c.in-Open-2.more
-        c.in_ok-candidate-2.ensures.ends c.in-Open-2.is in
+    c.in_ok-candidate-2.ensures.ends c.in-Open-2.is in
     let m = same_length _ _ c.try_box.new.boxes.items c.loop-i.boxes.items o.1 in
     let w = open_within (pair_goal c.args.goal.now.pair.now c.args.goal.now.effort) _ c.in-Open-2.more _ o.0 in
     let within = c.loop-i.invariant.within in
@@ -52,6 +52,8 @@ loop-i-preserved g c =
 
 pub returns : goal.returns
 returns g c =
-    let n = same_length _ _ c.loop-i.boxes.items c.args.boxes.now.items c.loop-i.invariant.plans in
-    (open_at_end (pair_goal c.args.goal.now.pair.now c.args.goal.now.effort) c.args.tries c.args.first.now c.args.shape _ c.loop-i.i
-        c.loop-i.count (simp length-map (search (rules, n))) c.loop-i.invariant.open_so_far, c.loop-i.invariant.plans)
+    let n = same_length _ _ c.loop-i.boxes.items c.args.boxes.now.items c.loop-i.invariant.plans in (
+      open_at_end (pair_goal c.args.goal.now.pair.now c.args.goal.now.effort) c.args.tries c.args.first.now c.args.shape _ c.loop-i.i
+          c.loop-i.count (simp length-map (search (rules, n))) c.loop-i.invariant.open_so_far,
+      c.loop-i.invariant.plans,
+    )

@@ -9,16 +9,16 @@ use Rattle.it_contain.proofs.search.try_list.Goals as goal
 pub returns-in-Some-clause-ends : goal.returns-in-Some-clause-ends
 returns-in-Some-clause-ends g c =
     try_finds (pair_goal c.args.goal.now.pair.now c.args.goal.now.effort) c.args.tries _ _
-        (drop (c.loop-candidate.candidate-index + 1) c.args.first.now) c.candidate-item.result c.loop-candidate.count c.in-Some.proof
-        c.in_ok-proof.field-0 _ _ _
+    (drop (c.loop-candidate.candidate-index + 1) c.args.first.now) c.candidate-item.result c.loop-candidate.count c.in-Some.proof
+    c.in_ok-proof.field-0 _ _ _
     c.in_ok-proof.ensures.judges c.in_ok-proof.ensures.plans c.in-Some.is c.loop-candidate.invariant.passed
-        (drop_item c.args.first.now c.loop-candidate.candidate-index c.candidate-item.result (search rules) c.candidate-item.is)
-        (search rules) c.loop-candidate.invariant.plans
+    (drop_item c.args.first.now c.loop-candidate.candidate-index c.candidate-item.result (search rules) c.candidate-item.is)
+    (search rules) c.loop-candidate.invariant.plans
 
 pub loop-candidate-preserved : goal.loop-candidate-preserved
 loop-candidate-preserved g c =
     let not = try_fails (pair_goal c.args.goal.now.pair.now c.args.goal.now.effort) c.candidate-item.result c.in_ok-proof.field-0 _ _ _ _
-        c.in_ok-proof.ensures.judges c.in_ok-proof.ensures.pending c.in_ok-proof.ensures.plans c.in-None.is in
+    c.in_ok-proof.ensures.judges c.in_ok-proof.ensures.pending c.in_ok-proof.ensures.plans c.in-None.is in
     record {
       within = search rules;
       passed = passed_more (pair_goal c.args.goal.now.pair.now c.args.goal.now.effort) c.args.first.now _

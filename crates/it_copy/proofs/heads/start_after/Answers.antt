@@ -10,8 +10,8 @@ loop-passed-init c = (all_are_left c.args.bytes.now, omega arith)
 pub returns-then-is_empty-clause-after : goal.returns-then-is_empty-clause-after
 returns-then-is_empty-clause-after c =
     none_left c.args.bytes.now c.loop-passed.rest.now c.loop-passed.passed c.args.skipped c.loop-passed.invariant.0
-        c.loop-passed.invariant.1 (nil_from_length c.loop-passed.rest.now (eqb-true (length c.loop-passed.rest.now) 0
-        (sym c.is_empty.ensures ∙ c.if-is_empty.true)))
+    c.loop-passed.invariant.1 (nil_from_length c.loop-passed.rest.now (eqb-true (length c.loop-passed.rest.now) 0
+    (sym c.is_empty.ensures ∙ c.if-is_empty.true)))
 
 pub loop-passed-preserved : goal.loop-passed-preserved
 loop-passed-preserved c = (

@@ -16,16 +16,16 @@ loop-i-preserved c =
     let n : ℕ = c.args.space.variables in
     let i : ℕ = c.loop-i.i in
     stated-more c.args.space (given_origins_wanted n c.args.first) (givens_wanted n) c.args.givens.now i c.index-givens-i.result
-        (line_parts (c.args.first + i) (demands n (given_view c.index-givens-i.result))) (demands n (given_view c.index-givens-i.result))
+    (line_parts (c.args.first + i) (demands n (given_view c.index-givens-i.result))) (demands n (given_view c.index-givens-i.result))
     c.loop-i.constraints.items c.append.new.self.items c.in_ok-parts.parts.items c.loop-i-test.true c.index-givens-i.is
-        (given_origins-split n c.args.first i c.index-givens-i.result (drop (i + 1) c.args.givens.now)) refl
+    (given_origins-split n c.args.first i c.index-givens-i.result (drop (i + 1) c.args.givens.now)) refl
     c.in_ok-parts.ensures.constraints c.in_ok-append.ensures.items c.loop-i.invariant
 
 pub returns : goal.returns
 returns c =
     let n : ℕ = c.args.space.variables in
     let whole = stated-end c.args.space (given_origins_wanted n c.args.first)
-        (givens_wanted n) c.args.givens.now c.loop-i.i c.loop-i.constraints.items c.loop-i-test.false refl refl c.loop-i.invariant in
+    (givens_wanted n) c.args.givens.now c.loop-i.i c.loop-i.constraints.items c.loop-i-test.false refl refl c.loop-i.invariant in
     let e : c.args.first + 0 ≡ c.args.first = omega arith in
     subst (λ (l : ℕ). AreStated c.args.space (given_origins n l (map given_view c.args.givens.now))
-        (flat_map (demands n) (map given_view c.args.givens.now)) c.loop-i.constraints.items) e whole
+    (flat_map (demands n) (map given_view c.args.givens.now)) c.loop-i.constraints.items) e whole

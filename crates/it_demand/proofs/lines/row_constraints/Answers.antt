@@ -16,17 +16,17 @@ loop-i-preserved c =
     let n : ℕ = c.args.space.variables in
     let i : ℕ = c.loop-i.i in
     stated-more c.args.space (row_origins_wanted c.args.first) (rows_wanted n) c.args.rows.now i c.index-rows-i.result
-        (row_origins (c.args.first + i) (relation_view c.index-rows-i.result ∷ [])) (demand_of n (relation_view c.index-rows-i.result) ∷ [])
+    (row_origins (c.args.first + i) (relation_view c.index-rows-i.result ∷ [])) (demand_of n (relation_view c.index-rows-i.result) ∷ [])
     c.loop-i.constraints.items c.push.new.self.items _ c.loop-i-test.true c.index-rows-i.is
-        (row_origins-split c.args.first i c.index-rows-i.result (drop (i + 1) c.args.rows.now)) refl
+    (row_origins-split c.args.first i c.index-rows-i.result (drop (i + 1) c.args.rows.now)) refl
     (record { placed = (refl, tt); stated = (record { row = c.in_ok-row.ensures; kind = c.kind_of-kind.ensures }, tt) })
-        c.in_ok-push.ensures.items c.loop-i.invariant
+    c.in_ok-push.ensures.items c.loop-i.invariant
 
 pub returns : goal.returns
 returns c =
     let n : ℕ = c.args.space.variables in
     let whole = stated-end c.args.space (row_origins_wanted c.args.first)
-        (rows_wanted n) c.args.rows.now c.loop-i.i c.loop-i.constraints.items c.loop-i-test.false refl refl c.loop-i.invariant in
+    (rows_wanted n) c.args.rows.now c.loop-i.i c.loop-i.constraints.items c.loop-i-test.false refl refl c.loop-i.invariant in
     let e : c.args.first + 0 ≡ c.args.first = omega arith in
     subst (λ (l : ℕ). AreStated c.args.space (row_origins l (map relation_view c.args.rows.now))
-        (map (demand_of n) (map relation_view c.args.rows.now)) c.loop-i.constraints.items) e whole
+    (map (demand_of n) (map relation_view c.args.rows.now)) c.loop-i.constraints.items) e whole

@@ -11,9 +11,9 @@ pub loop-y-preserved : goal.loop-y-preserved
 loop-y-preserved c = elim c.if-has.branch [
   | then-has+in_ok-push w ↦
       rw (w.before-is, w.with_variable-before.ensures, w.indexes-is, w.in_ok-push.ensures.items)
-          (row-with c.args.n c.args.x c.args.ys _ c.loop-y.y c.loop-y.before c.loop-y.indexes.items w.mutual_index.result c.loop-y-test.true
+      (row-with c.args.n c.args.x c.args.ys _ c.loop-y.y c.loop-y.before c.loop-y.indexes.items w.mutual_index.result c.loop-y-test.true
       (sym c.has.ensures ∙ w.if-has.true) c.requires.x_apart w.mutual_index.ensures.listed w.mutual_index.ensures.value c.loop-y.invariant)
   | else-has w ↦
       rw (w.before-is, w.indexes-is) (row-without c.args.n c.args.x c.args.ys _ c.loop-y.y c.loop-y.before c.loop-y.indexes.items
-          c.loop-y-test.true (sym c.has.ensures ∙ w.if-has.false) c.loop-y.invariant)
+      c.loop-y-test.true (sym c.has.ensures ∙ w.if-has.false) c.loop-y.invariant)
 ]

@@ -13,7 +13,7 @@ returns-then-coordinate-n c =
     let fits : FitsSigned w128 c.coefficient.result = search rules in
     let below : 0 < c.from_number.result = omega (arith, c.from_number.ensures) in
     to_z-of_z fits ∙ c.coefficient.ensures.coordinate below ∙ ap (λ s. elemental_value c.args.n (one_at s)
-        (elemental_at c.args.n c.args.index)) c.from_number.ensures
+    (elemental_at c.args.n c.args.index)) c.from_number.ensures
     ∙ sym (coefficient-row c.args.n c.args.coordinate (elemental_at c.args.n c.args.index) (omega arith))
 
 pub returns-else-coordinate-n : goal.returns-else-coordinate-n

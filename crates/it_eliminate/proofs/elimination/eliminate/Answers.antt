@@ -37,4 +37,4 @@ returns-clause-ends c = ends_done (2 ^ c.args.system.now.space.variables) c.args
 pub returns-clause-region : goal.returns-clause-region
 returns-clause-region c = is_projection c.args.rows c.args.system.now _ c.args.rates.now c.requires.system refl
     (ends_done (2 ^ c.args.system.now.space.variables) c.args.rows _ c.loop-rate.current.items c.args.rates.now c.loop-rate.rate-index
-        c.loop-rate.invariant c.loop-rate-test.false)
+    c.loop-rate.invariant c.loop-rate-test.false)

@@ -14,8 +14,8 @@ rows_ready : (c : After-entry_at) → AreReady c.args.run.now.columns.now c.args
 rows_ready c = subst (λ (moved : List Bool). AreReady c.args.run.now.columns.now c.args.run.now.limit c.args.rows.now c.args.basis.now moved
     c.args.row c.bring_if_behind.new.rows) c.as_slice-moved.ensures.value
     (ready c.args.run.now.columns.now c.args.run.now.limit c.args.rows.now c.args.basis.now c.as_slice-moved.result.now c.args.row
-        c.requires.row c.requires.engine c.bring_if_behind.new.rows c.if-not-bring_if_behind.ensures.brought
-        c.if-not-bring_if_behind.ensures.kept)
+    c.requires.row c.requires.engine c.bring_if_behind.new.rows c.if-not-bring_if_behind.ensures.brought
+    c.if-not-bring_if_behind.ensures.kept)
 
 own_entry : (c : After-entry_at) → c.entry_at.result ≡ entry_of (slice_index_or c.args.run.now.columns.now c.args.column [])
     c.bring_if_behind.new.rows c.args.row
@@ -38,14 +38,14 @@ moved_is_written c = with_items_is c.args.notes.now.moved c.note_moved.new.moved
 order_is : (c : After-entry_at) → AreMovedInOrder c.note_moved.new.moved (length c.args.basis.now) c.note_moved.new.order.items
 order_is c = c.if-not-note_moved.ensures.order (length c.args.basis.now) c.requires.row
     (subst (λ (moved : List Bool). AreMovedInOrder moved (length c.args.basis.now) c.args.notes.now.order.items)
-        (sym c.as_mut_slice.ensures.value) c.requires.order)
+    (sym c.as_mut_slice.ensures.value) c.requires.order)
 
 pub pivot_moved-requires-clause-short : goal.pivot_moved-requires-clause-short
 pivot_moved-requires-clause-short c =
     let d = (goal.at.pivot_moved-requires-clause-short c).After-entry_at in
     let f : FitsSigned w64 c.entry_at.result = search rules in
     rw (c.as_slice-3.ensures.value, to_z-of_z f) (entries_short c.args.run.now.columns.now c.args.run.now.limit c.args.rows.now
-        c.args.basis.now c.args.notes.now.moved.items c.args.row c.requires.row c.requires.engine c.args.column c.requires.column (even d)
+    c.args.basis.now c.args.notes.now.moved.items c.args.row c.requires.row c.requires.engine c.args.column c.requires.column (even d)
     c.bring_if_behind.new.rows (rows_ready d) c.args.notes.now.entries.items c.requires.entries c.entry_at.result (own_entry d))
 
 pub pivot_moved-requires-clause-elsewhere : goal.pivot_moved-requires-clause-elsewhere
@@ -53,9 +53,9 @@ pivot_moved-requires-clause-elsewhere c =
     let d = (goal.at.pivot_moved-requires-clause-elsewhere c).After-entry_at in
     let f : FitsSigned w64 c.entry_at.result = search rules in
     rw (c.as_slice-3.ensures.value, to_z-of_z f) (null_elsewhere c.args.run.now.columns.now c.args.run.now.limit c.args.rows.now
-        c.args.basis.now c.args.notes.now.moved.items c.args.row c.requires.row c.requires.engine c.args.column c.requires.column (even d)
+    c.args.basis.now c.args.notes.now.moved.items c.args.row c.requires.row c.requires.engine c.args.column c.requires.column (even d)
     c.bring_if_behind.new.rows (rows_ready d) c.args.notes.now.entries.items c.requires.entries c.entry_at.result
-        (own_entry d) c.note_moved.new.moved c.as_slice-2.result.now (moved_is d)
+    (own_entry d) c.note_moved.new.moved c.as_slice-2.result.now (moved_is d)
     (subst (AreMovedInOrder c.note_moved.new.moved (length c.args.basis.now)) (sym c.as_slice-2.ensures.value) (order_is d)))
 
 pub returns-clause-order : goal.returns-clause-order
@@ -66,7 +66,7 @@ pub returns-clause-entered : goal.returns-clause-entered
 returns-clause-entered c = let d = (goal.at.returns-clause-entered c).After-entry_at in
     subst (HaveEntered c.args.run.now.columns.now (slice_set c.args.basis.now c.args.row c.args.column)) (sym (moved_is_written d ∙ moved_is d))
     (still_entered c.args.run.now.columns.now c.args.basis.now c.args.notes.now.moved.items c.args.row c.args.column c.requires.row
-        c.requires.column c.requires.entered)
+    c.requires.column c.requires.entered)
 
 pub returns-clause-step : goal.returns-clause-step
 returns-clause-step c =
@@ -74,5 +74,5 @@ returns-clause-step c =
     let f : FitsSigned w64 c.entry_at.result = search rules in
     let e = simp (c.as_slice-3.ensures.value, to_z-of_z) at c.if-not-pivot_moved.ensures.pivoted in
     step_behind c.args.run.now.columns.now c.args.run.now.limit c.args.rows.now c.args.basis.now c.args.notes.now.moved.items c.args.row
-        c.requires.row c.requires.engine c.args.column c.requires.column (even d)
+    c.requires.row c.requires.engine c.args.column c.requires.column (even d)
     c.bring_if_behind.new.rows (rows_ready d) c.args.notes.now.entries.items c.requires.entries c.entry_at.result (own_entry d) c.pivot_moved.new.rows e

@@ -8,5 +8,5 @@ loop-r-preserved c = record {
   brought = one_brought c.args.run.now.columns.now c.args.run.now.limit c.args.rows.now c.args.basis.now c.args.moved.now c.loop-r.rows
       c.bring_if_behind.new.rows c.loop-r.r
       (omega (arith, c.loop-r-test.true, c.loop-r.auto.r-end)) c.if-not-bring_if_behind.ensures.brought
-          c.if-not-bring_if_behind.ensures.kept c.loop-r.invariant.brought;
+      c.if-not-bring_if_behind.ensures.kept c.loop-r.invariant.brought;
 }

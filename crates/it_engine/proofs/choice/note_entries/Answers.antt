@@ -15,5 +15,8 @@ loop-i-preserved c =
     }
 
 pub returns : goal.returns
-returns c = record { length_is = c.loop-i.invariant.same_length; each = λ i l. c.loop-i.invariant.done i
-    (omega (arith, l, c.loop-i-test.false, c.loop-i.auto.i-end)) }
+returns c = record {
+  length_is = c.loop-i.invariant.same_length;
+  each = λ i l. c.loop-i.invariant.done i
+      (omega (arith, l, c.loop-i-test.false, c.loop-i.auto.i-end));
+}

@@ -17,12 +17,12 @@ returns-then-is_above_at c = subst (λ (r : ℕ). IsFirstOf c.args.block.now.bas
     (length c.args.block.now.basis.now)) (length c.args.block.now.basis.now) (Some r))
     (sym c.row_at-i.ensures)
     (row_is_first c.args.block.now.rows.now c.args.block.now.basis.now c.args.block.now.moved.now c.args.entries.now c.args.combined.now
-        c.args.ranked.now c.first_moved_to_leave-best.result
+    c.args.ranked.now c.first_moved_to_leave-best.result
     c.requires.ranked c.requires.others c.first_moved_to_leave-best.ensures c.loop-k.k c.loop-k-test.true c.loop-k.invariant
     (ap (has_moved c.args.block.now.moved.now) (sym c.row_at-i.ensures) ∙ sym c.moved_at.ensures ∙ c.if-moved_at.false)
     (subst (λ (i : ℕ). ¬ (ComesBefore c.args.block.now.basis.now c.first_moved_to_leave-best.result i)) c.row_at-i.ensures c.if-comes_before.ensures.no)
     (ap (λ i. is_above_zero (entry_of c.args.combined.now c.args.block.now.rows.now i)) (sym c.row_at-i.ensures) ∙ sym c.is_above_at.ensures
-        ∙ c.if-is_above_at.true))
+    ∙ c.if-is_above_at.true))
 
 pub returns : goal.returns
 returns c = none_is_first c.args.block.now.rows.now c.args.block.now.basis.now c.args.block.now.moved.now c.args.entries.now

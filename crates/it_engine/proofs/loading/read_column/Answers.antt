@@ -24,8 +24,8 @@ loop-i-preserved c =
     (subst (λ (z : ℤ). IsTermPut cs target c.coordinate_at-coordinate.result z c.loop-i.column c.put_term.new.column)
     (to_z-of_z fits ∙ c.coefficient_at-number.ensures ∙ ap (λ (ts : Terms). (slice_index_or ts i (0, pos 0)).1) c.terms_of-terms.ensures)
     (subst (λ (b : Bool). OnTrue b (IsTermPut cs target c.coordinate_at-coordinate.result
-        (to_z w128 (of_z w128 c.coefficient_at-number.result)) c.loop-i.column c.put_term.new.column)) c.if-not-short.false
-        c.in_ok-short.ensures)))
+    (to_z w128 (of_z w128 c.coefficient_at-number.result)) c.loop-i.column c.put_term.new.column)) c.if-not-short.false
+    c.in_ok-short.ensures)))
     c.loop-i.invariant
 
 pub returns : goal.returns

@@ -24,16 +24,16 @@ pub pivot-requires-clause-positive : goal.pivot-requires-clause-positive
 pivot-requires-clause-positive c = let entries = c.note_entries.new.entries in
     above_one (number_at entries c.in_ok-row.row)
     (best_above (number_at entries) (right_side_of (length c.args.basis.now) c.args.rows.now) (basic_column_at c.args.basis.now)
-        (length c.args.basis.now) c.in_ok-row.row (sym c.leaving_row.ensures.value ∙ c.in_ok-row.was))
+    (length c.args.basis.now) c.in_ok-row.row (sym c.leaving_row.ensures.value ∙ c.in_ok-row.was))
 
 pub returns-then-pivot-clause-leaves : goal.returns-then-pivot-clause-leaves
 returns-then-pivot-clause-leaves c = let entries = c.note_entries.new.entries in
     sym (best_by_entries (number_at entries) (entry_of c.args.column.now c.args.rows.now)
-        (right_side_of (length c.args.basis.now) c.args.rows.now) (basic_column_at c.args.basis.now) (length c.args.basis.now)
+    (right_side_of (length c.args.basis.now) c.args.rows.now) (basic_column_at c.args.basis.now) (length c.args.basis.now)
     (λ k l. c.note_entries.ensures.each k (omega (arith, l, c.requires.height)))) ∙ sym c.leaving_row.ensures.value ∙ c.in_ok-row.was
 
 pub returns-then-pivot-clause-pivoted : goal.returns-then-pivot-clause-pivoted
 returns-then-pivot-clause-pivoted c = let entries = c.note_entries.new.entries in
     pivoted_by_entries (length c.args.rows.now) c.args.limit c.args.rows.now (number_at entries)
-        (entry_of c.args.column.now c.args.rows.now) c.in_ok-row.row c.pivot.new.rows
+    (entry_of c.args.column.now c.args.rows.now) c.in_ok-row.row c.pivot.new.rows
     (omega (arith, c.in_ok-row.ensures.within, c.requires.height)) c.note_entries.ensures.each c.if-pivot.ensures.pivoted

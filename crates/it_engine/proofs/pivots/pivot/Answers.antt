@@ -17,9 +17,9 @@ loop-i-preserved c =
         under_way = subst (λ (l : List WholeRowView). IsPivotUnderWay c.args.limit c.args.rows.now c.args.entries.now c.args.r
             c.take_divided-own.result p l (c.loop-i.i + 1)) (sym w.rows-is)
             (next_row_is_updated c.args.limit c.args.rows.now c.args.entries.now c.args.r c.take_divided-own.result p c.loop-i.rows
-                w.update_row.new.rows c.loop-i.i
+            w.update_row.new.rows c.loop-i.i
             (c.take_divided-own.ensures.divided.length_is ∙ (c.requires.rows c.args.r c.requires.row).length_is) w.if-i-r.true
-                w.update_row.ensures.length w.if-not-update_row.ensures.updated w.update_row.ensures.others
+            w.update_row.ensures.length w.if-not-update_row.ensures.updated w.update_row.ensures.others
             c.loop-i.invariant.under_way);
       }
       | else-i-r-via-else-i-r w ↦ record {
@@ -27,7 +27,7 @@ loop-i-preserved c =
         under_way = subst (λ (l : List WholeRowView). IsPivotUnderWay c.args.limit c.args.rows.now c.args.entries.now c.args.r
             c.take_divided-own.result p l (c.loop-i.i + 1)) (sym w.rows-is)
             (own_row_is_skipped c.args.limit c.args.rows.now c.args.entries.now c.args.r c.take_divided-own.result p c.loop-i.rows
-                c.loop-i.i (omega (arith, w.if-i-r.false)) c.loop-i.invariant.under_way);
+            c.loop-i.i (omega (arith, w.if-i-r.false)) c.loop-i.invariant.under_way);
       }
     ]
 
@@ -37,6 +37,6 @@ returns-clause-pivoted c =
     let u = simp to_z-of_z at c.loop-i.invariant.under_way in
     pivot_ends c.args.limit c.args.rows.now c.args.entries.now c.args.r c.take_divided-own.result c.loop-i.rows c.loop-i.i c.requires.row c.requires.rows
     (omega (arith, c.loop-i-test.false, c.take_divided-own.ensures.length)) c.requires.positive
-        (c.requires.short c.args.r (omega (arith, c.requires.row, c.requires.entries)))
+    (c.requires.short c.args.r (omega (arith, c.requires.row, c.requires.entries)))
     (subst (λ (p : ℤ). IsPivotUnderWay c.args.limit c.args.rows.now c.args.entries.now c.args.r c.take_divided-own.result p c.loop-i.rows
-        c.loop-i.i) c.unit-p.ensures u) c.take_divided-own.ensures.divided
+    c.loop-i.i) c.unit-p.ensures u) c.take_divided-own.ensures.divided

@@ -16,25 +16,33 @@ own_width : (c : After-unit-p) → length c.take_divided-own.result.numbers ≡ 
 own_width c = c.take_divided-own.ensures.divided.length_is ∙ (c.requires.rows c.args.r (omega (arith, c.requires.row))).length_is
 
 pub update_row-requires-clause-i : goal.update_row-requires-clause-i
-update_row-requires-clause-i c = omega (arith, c.loop-k.invariant.under_way.same_length, listed_row_is_above c.args.limit c.args.rows.now
-    c.args.entries.now c.args.r c.take_divided-own.result (to_z w64 (of_z w64 c.unit-p.result)) c.args.order.now
-    (few (goal.at.update_row-requires-clause-i c).After-unit-p) c.loop-k.k c.loop-k-test.true)
+update_row-requires-clause-i c = omega (
+  arith,
+  c.loop-k.invariant.under_way.same_length,
+  listed_row_is_above c.args.limit c.args.rows.now
+      c.args.entries.now c.args.r c.take_divided-own.result (to_z w64 (of_z w64 c.unit-p.result)) c.args.order.now
+      (few (goal.at.update_row-requires-clause-i c).After-unit-p) c.loop-k.k c.loop-k-test.true,
+)
 
 pub update_row-requires-clause-entries : goal.update_row-requires-clause-entries
-update_row-requires-clause-entries c = omega (arith, c.requires.entries, listed_row_is_above c.args.limit c.args.rows.now c.args.entries.now
-    c.args.r c.take_divided-own.result (to_z w64 (of_z w64 c.unit-p.result)) c.args.order.now
-    (few (goal.at.update_row-requires-clause-entries c).After-unit-p) c.loop-k.k c.loop-k-test.true)
+update_row-requires-clause-entries c = omega (
+  arith,
+  c.requires.entries,
+  listed_row_is_above c.args.limit c.args.rows.now c.args.entries.now
+      c.args.r c.take_divided-own.result (to_z w64 (of_z w64 c.unit-p.result)) c.args.order.now
+      (few (goal.at.update_row-requires-clause-entries c).After-unit-p) c.loop-k.k c.loop-k-test.true,
+)
 
 pub update_row-requires-clause-row : goal.update_row-requires-clause-row
 update_row-requires-clause-row c =
     let d = (goal.at.update_row-requires-clause-row c).After-unit-p in
     let p : ℤ = to_z w64 (of_z w64 c.unit-p.result) in
     let above = listed_row_is_above c.args.limit c.args.rows.now c.args.entries.now c.args.r c.take_divided-own.result p c.args.order.now
-        (few d) c.loop-k.k c.loop-k-test.true in
+    (few d) c.loop-k.k c.loop-k-test.true in
     next_row_is_usable c.args.limit c.args.rows.now c.args.entries.now c.args.r c.take_divided-own.result p c.loop-k.rows
-        (slice_index_or c.args.order.now c.loop-k.k 0) c.requires.rows (own_width d) (omega (arith, above)) c.if-i-r.true
+    (slice_index_or c.args.order.now c.loop-k.k 0) c.requires.rows (own_width d) (omega (arith, above)) c.if-i-r.true
     (listed_row_is_next c.args.limit c.args.rows.now c.args.entries.now c.args.r c.take_divided-own.result p c.args.order.now
-        (few d) c.loop-k.rows c.loop-k.k c.loop-k-test.true c.loop-k.invariant.under_way)
+    (few d) c.loop-k.rows c.loop-k.k c.loop-k-test.true c.loop-k.invariant.under_way)
 
 pub update_row-requires-clause-own : goal.update_row-requires-clause-own
 update_row-requires-clause-own c = own_usable_here (goal.at.update_row-requires-clause-own c).After-unit-p
@@ -45,26 +53,26 @@ loop-k-preserved c =
     let p : ℤ = to_z w64 (of_z w64 c.unit-p.result) in
     let i : ℕ = slice_index_or c.args.order.now c.loop-k.k 0 in
     let next = listed_row_is_next c.args.limit c.args.rows.now c.args.entries.now c.args.r c.take_divided-own.result p c.args.order.now
-        (few d) c.loop-k.rows c.loop-k.k c.loop-k-test.true c.loop-k.invariant.under_way in
+    (few d) c.loop-k.rows c.loop-k.k c.loop-k-test.true c.loop-k.invariant.under_way in
     elim c.else-i-r.branch [
       | else-i-r-via-then-i-r+else-not-update_row w ↦ record {
         room = ap length w.room-is ∙ w.update_row.ensures.room ∙ c.loop-k.invariant.room;
         under_way = subst (λ (l : List WholeRowView). IsPivotUnderWay c.args.limit c.args.rows.now c.args.entries.now c.args.r
             c.take_divided-own.result p l (after_rows c.args.order.now (c.loop-k.k + 1))) (sym w.rows-is)
             (subst (IsPivotUnderWay c.args.limit c.args.rows.now c.args.entries.now c.args.r c.take_divided-own.result p
-                w.update_row.new.rows) (after_one_more c.args.order.now c.loop-k.k)
+            w.update_row.new.rows) (after_one_more c.args.order.now c.loop-k.k)
             (next_row_is_updated c.args.limit c.args.rows.now c.args.entries.now c.args.r c.take_divided-own.result p c.loop-k.rows
-                w.update_row.new.rows i (own_width d) w.if-i-r.true w.update_row.ensures.length w.if-not-update_row.ensures.updated
-                w.update_row.ensures.others next));
+            w.update_row.new.rows i (own_width d) w.if-i-r.true w.update_row.ensures.length w.if-not-update_row.ensures.updated
+            w.update_row.ensures.others next));
       }
       | else-i-r-via-else-i-r w ↦ record {
         room = ap length w.room-is ∙ c.loop-k.invariant.room;
         under_way = subst (λ (l : List WholeRowView). IsPivotUnderWay c.args.limit c.args.rows.now c.args.entries.now c.args.r
             c.take_divided-own.result p l (after_rows c.args.order.now (c.loop-k.k + 1))) (sym w.rows-is)
             (subst (IsPivotUnderWay c.args.limit c.args.rows.now c.args.entries.now c.args.r c.take_divided-own.result p c.loop-k.rows)
-                (after_one_more c.args.order.now c.loop-k.k)
+            (after_one_more c.args.order.now c.loop-k.k)
             (own_row_is_skipped c.args.limit c.args.rows.now c.args.entries.now c.args.r c.take_divided-own.result p c.loop-k.rows i
-                (omega (arith, w.if-i-r.false)) next));
+            (omega (arith, w.if-i-r.false)) next));
       }
     ]
 
@@ -79,13 +87,13 @@ returns-clause-pivoted c =
     let last : ℕ = length c.loop-k.rows - 1 in
     let same_length = c.loop-k.invariant.under_way.same_length in
     let u : IsPivotUnderWay c.args.limit c.args.rows.now c.args.entries.now c.args.r c.take_divided-own.result p c.update_row-2.new.rows
-        (length c.loop-k.rows - 1 + 1) = next_row_is_updated c.args.limit c.args.rows.now c.args.entries.now c.args.r
-        c.take_divided-own.result p c.loop-k.rows c.update_row-2.new.rows last (own_width d)
+    (length c.loop-k.rows - 1 + 1) = next_row_is_updated c.args.limit c.args.rows.now c.args.entries.now c.args.r
+    c.take_divided-own.result p c.loop-k.rows c.update_row-2.new.rows last (own_width d)
     (λ e. omega (arith, e, same_length, c.requires.row)) c.update_row-2.ensures.length c.if-not-update_row-2.ensures.updated c.update_row-2.ensures.others
     (last_row_is_next c.args.limit c.args.rows.now c.args.entries.now c.args.r c.take_divided-own.result p c.args.order.now
-        (few d) c.loop-k.rows c.loop-k.k (omega (arith, c.loop-k-test.false, c.loop-k.auto.k-end)) c.loop-k.invariant.under_way) in
+    (few d) c.loop-k.rows c.loop-k.k (omega (arith, c.loop-k-test.false, c.loop-k.auto.k-end)) c.loop-k.invariant.under_way) in
     pivot_ends c.args.limit c.args.rows.now c.args.entries.now c.args.r c.take_divided-own.result c.update_row-2.new.rows
-        (length c.loop-k.rows - 1 + 1) (omega (arith, c.requires.row)) c.requires.rows
+    (length c.loop-k.rows - 1 + 1) (omega (arith, c.requires.row)) c.requires.rows
     (omega (arith, same_length)) c.requires.positive (c.requires.short c.args.r (omega (arith, c.requires.row, c.requires.entries)))
     (subst (λ (p : ℤ). IsPivotUnderWay c.args.limit c.args.rows.now c.args.entries.now c.args.r c.take_divided-own.result p
-        c.update_row-2.new.rows (length c.loop-k.rows - 1 + 1)) c.unit-p.ensures (simp to_z-of_z at u)) c.take_divided-own.ensures.divided
+    c.update_row-2.new.rows (length c.loop-k.rows - 1 + 1)) c.unit-p.ensures (simp to_z-of_z at u)) c.take_divided-own.ensures.divided

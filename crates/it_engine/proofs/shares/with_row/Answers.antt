@@ -10,7 +10,7 @@ pub returns-then-bottom-eq1 : goal.returns-then-bottom-eq1
 returns-then-bottom-eq1 c = if_some_more c.with_share.result (λ s. (s.multiple ≡ c.args.shares.multiple)
     × (s.bound ≡ c.args.shares.bound + c.args.entry * c.args.shares.multiple)) _ c.with_share.ensures
     (λ s. added_in_place c.args.shares.multiple c.args.shares.bound c.args.bottom c.args.entry c.args.shares.multiple s.multiple s.bound
-        c.requires.some c.requires.low
+    c.requires.some c.requires.low
     (subst (λ (x : ℕ). x ∣ c.args.shares.multiple) (sym c.if-bottom-eq1.true) (one-dvd c.args.shares.multiple))
     (sym (div-one c.args.shares.multiple) ∙ ap (λ x. c.args.shares.multiple / x) (sym c.if-bottom-eq1.true)))
 

@@ -19,12 +19,12 @@ returns c =
       fit = limit_fits norm;
       rows_are = subst (λ (rows : List WholeRowView). AreReadRows cs target limit (length cs + 1) rows) (sym c.in_ok-engine.ensures.rows)
           (of_some c.in_ok-rows.field-0 c.in-Some-2.rows (λ rows. AreReadRows cs target limit (length cs + 1) rows.items) c.in-Some-2.is
-              c.in_ok-rows.ensures.rows);
+          c.in_ok-rows.ensures.rows);
       height = ap length c.in_ok-engine.ensures.basis ∙ c.in_ok-basis.ensures.count;
       basis_is = λ i l. ap (λ (basis : List ℕ). slice_index_or basis i 0) c.in_ok-engine.ensures.basis ∙ c.in_ok-basis.ensures.value i l;
     } in
     let rights : right_sum cs target (length cs) ≤ limit = of_some c.in_ok-rows.field-0 c.in-Some-2.rows
-        (λ rows. right_sum cs target (length cs) ≤ limit) c.in-Some-2.is c.in_ok-rows.ensures.rights in
+    (λ rows. right_sum cs target (length cs) ≤ limit) c.in-Some-2.is c.in_ok-rows.ensures.rights in
     let short = limit_short cs generators target columns norm limit rows basis loaded in
     record {
       height = loaded.height;

@@ -16,11 +16,11 @@ product_is c =
     let fc : FitsSigned w128 c.args.c = c.ranges.c in
     ap₂ (λ x y. x *ℤ y)
     (simp to_z-of_z at c.signed_quotient-left.ensures
-        ∙ ap (int_quotient c.args.a) (c.common_divisor-left_shared.ensures.value
-        ∙ ap (λ n. gcd n c.args.d) (simp to_z-of_z at c.unsigned_abs.ensures.value)))
+    ∙ ap (int_quotient c.args.a) (c.common_divisor-left_shared.ensures.value
+    ∙ ap (λ n. gcd n c.args.d) (simp to_z-of_z at c.unsigned_abs.ensures.value)))
     (simp to_z-of_z at c.signed_quotient-right.ensures
-        ∙ ap (int_quotient c.args.c) (c.common_divisor-right_shared.ensures.value
-        ∙ ap (λ n. gcd n c.args.b) (simp to_z-of_z at c.unsigned_abs-2.ensures.value)))
+    ∙ ap (int_quotient c.args.c) (c.common_divisor-right_shared.ensures.value
+    ∙ ap (λ n. gcd n c.args.b) (simp to_z-of_z at c.unsigned_abs-2.ensures.value)))
 
 top_is : (c : In_ok-top) → c.in_ok-top.top ≡ c.signed_quotient-left.result *ℤ c.signed_quotient-right.result
 top_is c =
@@ -34,9 +34,9 @@ rest_is c =
     let fc : FitsSigned w128 c.args.c = c.ranges.c in
     ap₂ (λ m n. m * n)
     (c.quotient.ensures ∙ ap (λ n. c.args.b / n) (c.common_divisor-right_shared.ensures.value
-        ∙ ap (λ n. gcd n c.args.b) (simp to_z-of_z at c.unsigned_abs-2.ensures.value)))
+    ∙ ap (λ n. gcd n c.args.b) (simp to_z-of_z at c.unsigned_abs-2.ensures.value)))
     (c.quotient-2.ensures ∙ ap (λ n. c.args.d / n) (c.common_divisor-left_shared.ensures.value
-        ∙ ap (λ n. gcd n c.args.d) (simp to_z-of_z at c.unsigned_abs.ensures.value)))
+    ∙ ap (λ n. gcd n c.args.d) (simp to_z-of_z at c.unsigned_abs.ensures.value)))
 
 pub returns-in_err-top : goal.returns-in_err-top
 returns-in_err-top c =
@@ -45,7 +45,7 @@ returns-in_err-top c =
     let n = product-narrow c.args.a c.args.b c.args.c c.args.d c.requires.b_some c.requires.d_some c.requires.left c.requires.right in
     OkIff-err _ _ _ c.from_residual.ensures.0
     (λ (fit : IsNarrow (quotient (c.args.a *ℤ c.args.c) (c.args.b * c.args.d))). c.in_err-top.ensures
-        (simp to_z-of_z (rw (product_is (goal.at.returns-in_err-top c).After-signed_quotient-right) (n.0 fit).0)))
+    (simp to_z-of_z (rw (product_is (goal.at.returns-in_err-top c).After-signed_quotient-right) (n.0 fit).0)))
 
 pub returns-in_err-bottom : goal.returns-in_err-bottom
 returns-in_err-bottom c =

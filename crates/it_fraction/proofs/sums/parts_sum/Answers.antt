@@ -46,14 +46,14 @@ pub returns-in_err-bottom : goal.returns-in_err-bottom
 returns-in_err-bottom c =
     let g = goal.at.returns-in_err-bottom c in
     OkIff-err _ _ _ c.from_residual-in_err-bottom.ensures.0 (λ fit. c.in_err-bottom.ensures
-        (rw (formed_is g.After-quotient) (fit-bottom _ _ _ _ _ _ _ _ (steps g.After-common_divisor-rest) fit)))
+    (rw (formed_is g.After-quotient) (fit-bottom _ _ _ _ _ _ _ _ (steps g.After-common_divisor-rest) fit)))
 
 pub in_lowest_terms-requires-clause-top_within : goal.in_lowest_terms-requires-clause-top_within
 in_lowest_terms-requires-clause-top_within c =
     let g = goal.at.in_lowest_terms-requires-clause-top_within c in
     let f : FitsSigned w128 c.signed_quotient.result = search rules in
     simp to_z-of_z (rw (top_is g.After-signed_quotient) (over-within c.in_ok-total.total c.common_divisor-rest.result
-        (total_within g.After-common_divisor-rest)))
+    (total_within g.After-common_divisor-rest)))
 
 pub in_lowest_terms-requires-clause-some : goal.in_lowest_terms-requires-clause-some
 in_lowest_terms-requires-clause-some c =
@@ -65,7 +65,7 @@ in_lowest_terms-requires-clause-lowest c =
     let g = goal.at.in_lowest_terms-requires-clause-lowest c in
     let f : FitsSigned w128 c.signed_quotient.result = search rules in
     simp to_z-of_z (rw (top_is g.After-signed_quotient) (parts g.In_ok-bottom (steps g.After-common_divisor-rest)
-        (c.in_ok-bottom.ensures.1 ∙ formed_is g.After-quotient)).lowest)
+    (c.in_ok-bottom.ensures.1 ∙ formed_is g.After-quotient)).lowest)
 
 pub returns : goal.returns
 returns c =

@@ -21,9 +21,9 @@ returns-in_ok-end-in-Ok c =
     let fit : ValuesFit c.args.ray.now c.args.hull.now.rows.items = search rules in
     let system : System = record { space = c.args.hull.now.space; rows = c.in-Ok.list } in
     let ends : RayEnds (2 ^ c.args.hull.now.space.variables) c.args.rows c.args.ray.now c.args.rate c.args.hull.now.rows.items
-        (eliminated_view c.in_ok-end-in-Ok.end) =
+    (eliminated_view c.in_ok-end-in-Ok.end) =
     ray_ends (2 ^ c.args.hull.now.space.variables) c.args.rows c.args.ray.now c.args.rate c.coordinate-at.result c.args.hull.now.rows.items
-        c.in-Ok.list.items (eliminated_view c.in_ok-end-in-Ok.end)
+    c.in-Ok.list.items (eliminated_view c.in_ok-end-in-Ok.end)
     fit c.coordinate-at.ensures are c.in_ok-end-in-Ok.ensures.ends in record {
       ends = ends;
       hull = adds_ray c.args.hull.now system c.args.ray.now c.args.rows c.args.rate c.in_ok-end-in-Ok.end refl ends c.in_ok-end-in-Ok.ensures.region;

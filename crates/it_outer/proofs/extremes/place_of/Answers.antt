@@ -11,6 +11,6 @@ comes_before-requires-clause-other c = subst (λ (p : List ℤ). ArePlaces (leng
 pub loop-i-preserved : goal.loop-i-preserved
 loop-i-preserved c =
     let no : is_greater c.args.kept.now (direction c.args.kept.now c.args.point.now) (direction c.args.kept.now c.index-points-i.result)
-        ≡ false = search rules in
+    ≡ false = search rules in
     place_later c.args.kept.now c.args.point.now c.args.points.now c.loop-i.i c.index-points-i.result c.loop-i-test.true c.index-points-i.is
-        no c.loop-i.invariant
+    no c.loop-i.invariant

@@ -12,4 +12,4 @@ pub returns : goal.returns
 returns c =
     let first : PassWithEnds (search_of c.args.frame.now) [] (outer_view c.in_ok-first.first) =
     subst (λ (rs : List (List ℤ)). PassWithEnds (search_of c.args.frame.now) rs (outer_view c.in_ok-first.first)) c.new-2.ensures.items
-        c.in_ok-first.ensures.ends in (outer_view c.in_ok-first.first, first, c.in_ok-end.ensures)
+    c.in_ok-first.ensures.ends in (outer_view c.in_ok-first.first, first, c.in_ok-end.ensures)

@@ -10,7 +10,7 @@ use Rattle.it_outer.proofs.search.second.Goals as goal
 pub second_pass-requires : goal.second_pass-requires
 second_pass-requires c =
     let first : PassWithEnds (search_of c.args.frame.now) [] (Bounds c.in-Bounds.bounds.hull.rows.items
-        (map certificate_view c.in-Bounds.bounds.proofs.items) c.in-Bounds.bounds.rays.items) =
+    (map certificate_view c.in-Bounds.bounds.proofs.items) c.in-Bounds.bounds.rays.items) =
     subst (λ (o : Outer). PassWithEnds (search_of c.args.frame.now) [] (outer_view o)) c.in-Bounds.is c.requires.first in record {
       frame = c.requires.frame;
       outcomes = c.requires.outcomes;

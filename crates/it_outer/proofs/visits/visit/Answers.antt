@@ -16,7 +16,7 @@ loop-row-preserved c =
       proved = proved_more c.args.problem.now c.args.effort c.args.rows.now (map certificate_view c.loop-row.proofs.items)
           (map certificate_view c.push.new.self.items) c.loop-row.row-index c.row-item.result (certificate_view c.in-Yes.proof)
           c.loop-row-test.true c.row-item.is ends (ap (map certificate_view) pushed
-              ∙ map-append certificate_view c.loop-row.proofs.items (c.in-Yes.proof ∷ [])) c.loop-row.invariant.proved;
+          ∙ map-append certificate_view c.loop-row.proofs.items (c.in-Yes.proof ∷ [])) c.loop-row.invariant.proved;
       outcomes = c.in_ok-proof.ensures.outcomes;
     }
 
@@ -26,7 +26,7 @@ returns-in-No-clause-ends c = (
   first_with c.args.problem.now c.args.effort c.args.rows.now (map certificate_view c.loop-row.proofs.items) c.loop-row.row-index
       c.row-item.result (No c.in-No.point) c.loop-row-test.true c.row-item.is
       (subst (λ (p : Proof). EndsWith c.args.problem.now c.row-item.result c.args.effort (proof_view p)) c.in-No.is
-          c.in_ok-proof.ensures.ends) c.loop-row.invariant.proved,
+      c.in_ok-proof.ensures.ends) c.loop-row.invariant.proved,
 )
 
 pub returns-in-Undecided-clause-ends : goal.returns-in-Undecided-clause-ends
@@ -34,9 +34,9 @@ returns-in-Undecided-clause-ends c =
     let same : c.in_ok-left-in-Undecided.left ≡ c.row-item.result = search rules in
     subst (λ (row : Terms). IsFirstWith c.args.problem.now c.args.effort c.args.rows.now row (Undecided c.in-Undecided.cause)) (sym same)
     (first_with c.args.problem.now c.args.effort c.args.rows.now (map certificate_view c.loop-row.proofs.items) c.loop-row.row-index
-        c.row-item.result (Undecided c.in-Undecided.cause) c.loop-row-test.true c.row-item.is
+    c.row-item.result (Undecided c.in-Undecided.cause) c.loop-row-test.true c.row-item.is
     (subst (λ (p : Proof). EndsWith c.args.problem.now c.row-item.result c.args.effort (proof_view p)) c.in-Undecided.is
-        c.in_ok-proof.ensures.ends) c.loop-row.invariant.proved)
+    c.in_ok-proof.ensures.ends) c.loop-row.invariant.proved)
 
 pub returns-clause-ends : goal.returns-clause-ends
 returns-clause-ends c = all_proved c.args.problem.now c.args.effort c.args.rows.now

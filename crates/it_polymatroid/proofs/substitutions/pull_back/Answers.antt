@@ -11,4 +11,4 @@ new-requires c = pulled_table c.args.table.now c.args.by.now c.len-variables.res
 pub returns-clause-polymatroid : goal.returns-clause-polymatroid
 returns-clause-polymatroid c p = rw (c.new.ensures, c.len-variables.ensures)
     (pulled_polymatroid c.args.table.now.variables (length c.args.by.now) (value_at c.args.table.now)
-        (λ s. get_or c.in_ok-values.values.items s (pos 0)) c.args.by.now c.requires.within c.in_ok-values.ensures.values p)
+    (λ s. get_or c.in_ok-values.values.items s (pos 0)) c.args.by.now c.requires.within c.in_ok-values.ensures.values p)

@@ -11,7 +11,7 @@ loop-i-preserved c = (
       (generator_rows c.args.names.now c.args.constraints.now) c.args.proofs.now c.args.targets.now c.loop-i.i c.index-proofs-i.result
       c.index-targets-i.result
       c.loop-i.out.items c.write_certificate_lines.new.out.items _ (omega (arith, c.loop-i-test.true, c.loop-i.invariant.0))
-          (omega (arith, c.loop-i-test.true, c.loop-i.invariant.0)) c.index-proofs-i.is c.index-targets-i.is
+      (omega (arith, c.loop-i-test.true, c.loop-i.invariant.0)) c.index-proofs-i.is c.index-targets-i.is
       c.in_ok-write_certificate_lines.ensures c.loop-i.invariant.1,
 )
 

@@ -15,7 +15,7 @@ loop-index-preserved c =
     columns_more_by q.space.variables (dependences_of q) (generators q) c.args.closed.now.dependences.list c.loop-index.index
     (c.args.closed.now.columns.items ++ c.loop-index.columns.items) (c.args.closed.now.columns.items ++ c.push_columns.new.columns.items)
     c.requires.closed.list (omega (arith, c.generator_count-index-end.ensures, c.loop-index-test.true))
-        (c.in_ok-push_columns.ensures.added c.args.closed.now.columns.items) c.in_ok-push_columns.ensures.fits c.loop-index.invariant
+    (c.in_ok-push_columns.ensures.added c.args.closed.now.columns.items) c.in_ok-push_columns.ensures.fits c.loop-index.invariant
 
 pub returns-clause-fits : goal.returns-clause-fits
 returns-clause-fits c =

@@ -38,7 +38,7 @@ returns-then-lines_left-eq0 c =
     let own = own_lines_view c.loop-is_given.own in
     let n = sym c.lines_left.ensures ∙ c.if-lines_left-eq0.true in
     sym c.loop-is_given.invariant ∙ loop_flagged own_words (own_keyword g r) (own_line c.args.names.now) own c.in-Some.is_given Many _ _
-        (stands g r own c.in-Some.is_given (Some Many) (letters_left c.loop-is_given.cursor) _ c.in-Some.ensures.found (ap limit_flag n))
+    (stands g r own c.in-Some.is_given (Some Many) (letters_left c.loop-is_given.cursor) _ c.in-Some.ensures.found (ap limit_flag n))
 
 pub loop-is_given-smaller : goal.loop-is_given-smaller
 loop-is_given-smaller c = rest_is_shorter own_word (own_line c.args.names.now (own_lines_view c.loop-is_given.own) c.in-Some.is_given) _ _ _
@@ -52,8 +52,8 @@ loop-is_given-preserved c =
     let own = own_lines_view c.loop-is_given.own in
     let free = no_limit (if c.in-Some.is_given then givens_left g own else rows_left r own) (λ e. c.if-lines_left-eq0.false (c.lines_left.ensures ∙ e)) in
     loop_goes own_words (own_keyword g r) (own_line c.args.names.now) own (own_lines_view c.own_line.new.own) c.in-Some.is_given _ _ _
-        (stands g r own c.in-Some.is_given None (letters_left c.loop-is_given.cursor) _ c.in-Some.ensures.found free) c.in-Ok.ensures
-        ∙ c.loop-is_given.invariant
+    (stands g r own c.in-Some.is_given None (letters_left c.loop-is_given.cursor) _ c.in-Some.ensures.found free) c.in-Ok.ensures
+    ∙ c.loop-is_given.invariant
 
 pub returns-in-Err : goal.returns-in-Err
 unfolding more_own_lines
@@ -63,8 +63,8 @@ returns-in-Err c =
     let own = own_lines_view c.loop-is_given.own in
     let free = no_limit (if c.in-Some.is_given then givens_left g own else rows_left r own) (λ e. c.if-lines_left-eq0.false (c.lines_left.ensures ∙ e)) in
     subst (StopsAs c.in-Err.stop (letters_left c.own_line.new.cursor)) c.loop-is_given.invariant
-        (loop_stops own_words (own_keyword g r) (own_line c.args.names.now) own c.in-Some.is_given _ _ _ c.in-Err.stop
-        (stands g r own c.in-Some.is_given None (letters_left c.loop-is_given.cursor) _ c.in-Some.ensures.found free) c.in-Err.ensures)
+    (loop_stops own_words (own_keyword g r) (own_line c.args.names.now) own c.in-Some.is_given _ _ _ c.in-Err.stop
+    (stands g r own c.in-Some.is_given None (letters_left c.loop-is_given.cursor) _ c.in-Some.ensures.found free) c.in-Err.ensures)
 
 pub returns : goal.returns
 unfolding more_own_lines

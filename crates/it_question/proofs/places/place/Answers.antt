@@ -12,5 +12,5 @@ returns-then-rest-tokens c =
 pub loop-line-preserved : goal.loop-line-preserved
 loop-line-preserved c =
     sym (place_after c.args.lines.now c.loop-line.line-index c.loop-line.rest c.len-tokens.result c.line-item.result c.loop-line-test.true
-        c.line-item.is (omega (arith, c.len-tokens.ensures)) c.if-rest-tokens.false)
+    c.line-item.is (omega (arith, c.len-tokens.ensures)) c.if-rest-tokens.false)
     ∙ c.loop-line.invariant

@@ -29,11 +29,11 @@ is_large-requires c =
     let space = subst IsSpace same (region_space c.args.names.now first c.requires.space c.requires.region) in
     let givens = subst (λ (s : Space). All (IsGivenOf s.variables) (own.givens ++ first.lines.givens)) same
     (All-append (IsGivenOf (length first.names.variables)) own.givens first.lines.givens
-        (region_givens c.args.names.now first own.givens c.requires.region c.requires.lines.givens) c.requires.region.lines.givens) in
+    (region_givens c.args.names.now first own.givens c.requires.region c.requires.lines.givens) c.requires.region.lines.givens) in
     lines_problem c.space-space.result (lines_with own first) c.in_ok-constraints.constraints.items space givens
     (omega (arith, length-append own.givens first.lines.givens, c.requires.lines.few_givens, c.requires.region.lines.few_givens))
-        (omega (arith, length-append own.rows first.lines.rows, c.requires.lines.few_rows, c.requires.region.lines.few_rows))
-        c.in_ok-constraints.ensures
+    (omega (arith, length-append own.rows first.lines.rows, c.requires.lines.few_rows, c.requires.region.lines.few_rows))
+    c.in_ok-constraints.ensures
 
 pub returns-clause-large : goal.returns-clause-large
 returns-clause-large c = space_flag c.space-space.result c.args.first.now.names
@@ -47,9 +47,21 @@ returns-then-space-le-MOST_SMALL-clause-large c =
     let space = region_space c.args.names.now first c.requires.space c.requires.region in
     let givens = region_givens c.args.names.now first own.givens c.requires.region c.requires.lines.givens in
     few_variables first.names (lines_with own first)
-        (omega (arith, ap (λ (s : Space). s.variables) c.space-space.ensures.counts, c.if-space-le-MOST_SMALL.true)) space.few_rates
+    (omega (arith, ap (λ (s : Space). s.variables) c.space-space.ensures.counts, c.if-space-le-MOST_SMALL.true)) space.few_rates
     (All-append (IsGivenOf (length first.names.variables)) own.givens first.lines.givens givens c.requires.region.lines.givens)
-    (omega (arith, length-append own.givens first.lines.givens, length-map c.args.lines.now.givens.items given_view, length-map
-        c.args.first.now.lines.givens.items given_view, c.requires.few_givens))
-    (omega (arith, length-append own.rows first.lines.rows, length-map c.args.lines.now.rows.items relation_view, length-map
-        c.args.first.now.lines.rows.items relation_view, c.requires.few_rows))
+    (omega (
+      arith,
+      length-append own.givens first.lines.givens,
+      length-map c.args.lines.now.givens.items given_view,
+      length-map
+          c.args.first.now.lines.givens.items given_view,
+      c.requires.few_givens,
+    ))
+    (omega (
+      arith,
+      length-append own.rows first.lines.rows,
+      length-map c.args.lines.now.rows.items relation_view,
+      length-map
+          c.args.first.now.lines.rows.items relation_view,
+      c.requires.few_rows,
+    ))

@@ -19,5 +19,5 @@ loop-body-preserved c = (
       (into_iter_items c.next_texts.new.lines) _ (into_iter_items c.loop-body.left)
       (into_iter_items c.next.new.self) c.in-Some.body c.question_line_count.result _
       c.loop-body.invariant.1 c.in-Some.ensures.items c.in-Ok.ensures.items c.question_line_count.ensures c.in_ok-source.ensures.texts
-          c.in_ok-source.ensures.after c.with_source.ensures,
+      c.in_ok-source.ensures.after c.with_source.ensures,
 )

@@ -12,7 +12,7 @@ invariant-loop-after l =
     let aux = auxiliary_env l.regions.question.now l.regions.second.now in
     let env = env_of l.regions.first.now in
     read (more_tries aux env (unnamed_sets l.auxiliaries) l.found.items) (letters_left l.cursor)
-        ≡ read (more_tries aux env (unnamed_sets l.auxiliaries) []) (letters_left l.initial.cursor)
+    ≡ read (more_tries aux env (unnamed_sets l.auxiliaries) []) (letters_left l.initial.cursor)
 
 abbrev pub decreases-loop-after : goal.decreases-loop-after
 decreases-loop-after l = length (letters_left l.cursor)

@@ -19,6 +19,6 @@ pub check_hull-requires-clause-steps : goal.check_hull-requires-clause-steps
 check_hull-requires-clause-steps c =
     let steps = c.args.bounds.now.steps.items in
     let complete = subst (λ (s : Space). All (λ (v : StepView). length v.ray ≡ size_of s) (step_views steps))
-        (sym c.space-space.ensures.counts) c.requires.fits.rays in
+    (sym c.space-space.ensures.counts) c.requires.fits.rays in
     steps_complete (size_of c.space-space.result) c.as_slice-2.result.now
     (subst (λ xs. All (λ (v : StepView). length v.ray ≡ size_of c.space-space.result) (step_views xs)) (sym c.as_slice-2.ensures.value) complete)

@@ -27,7 +27,7 @@ pub returns-then-value-eq0-clause-verdict : goal.returns-then-value-eq0-clause-v
 returns-then-value-eq0-clause-verdict c =
     let fits : FitsSigned w128 c.in-Ok.value = search rules in
     zero_there (length (generators c.args.problem.now) + 1) c.args.row.now
-        (point_of c.args.point.now) c.value.result c.value.ensures c.in-Ok.value c.in-Ok.is (omega (arith, ints))
+    (point_of c.args.point.now) c.value.result c.value.ensures c.in-Ok.value c.in-Ok.is (omega (arith, ints))
 
 pub returns-else-value-eq0-clause-verdict : goal.returns-else-value-eq0-clause-verdict
 returns-else-value-eq0-clause-verdict c =

@@ -15,12 +15,12 @@ pub first_other-requires-clause-complete : goal.first_other-requires-clause-comp
 first_other-requires-clause-complete c =
     let code = reported_code_view c.args.code.now in
     subst (λ values. 2 ^ variables_of code.code - 1 ≤ length values) c.point_of-point.ensures
-        (values_complete (question_body c.args.question.now) (answer_view c.args.answer.now) code c.requires.fits)
+    (values_complete (question_body c.args.question.now) (answer_view c.args.answer.now) code c.requires.fits)
 
 pub returns-then-judged : goal.returns-then-judged
 returns-then-judged c =
     invalid_coded c.args.k (question_body c.args.question.now) (answer_view c.args.answer.now)
-        (reported_code_view c.args.code.now) c.in_ok-judged.judged.text.items c.in_ok-judged.judged.invalid
+    (reported_code_view c.args.code.now) c.in_ok-judged.judged.text.items c.in_ok-judged.judged.invalid
     c.requires.fits.no c.if-judged.true c.in_ok-judged.ensures
 
 pub other_line-requires : goal.other_line-requires
@@ -37,7 +37,7 @@ returns-in-Some c =
     let a = answer_view c.args.answer.now in
     let told = subst (λ values. FirstOtherIs code.code code.times values c.in_ok-other.other) (sym c.point_of-point.ensures) c.in_ok-other.ensures in
     other_coded (λ j. j.text.items) (λ j. j.invalid) c.args.k (question_body c.args.question.now) a code c.in_ok-judged.judged.text.items
-        c.in_ok-judged.judged.invalid
+    c.in_ok-judged.judged.invalid
     c.problem_names.result.now c.in-Some.set c.other_line.result c.requires.fits.no c.if-judged.false c.in_ok-judged.ensures c.problem_names.ensures
     (subst (FirstOtherIs code.code code.times (values_of a)) c.in-Some.is told) c.other_line.ensures
 
@@ -47,5 +47,5 @@ returns-in-None c =
     let a = answer_view c.args.answer.now in
     let told = subst (λ values. FirstOtherIs code.code code.times values c.in_ok-other.other) (sym c.point_of-point.ensures) c.in_ok-other.ensures in
     valid_coded c.args.k (question_body c.args.question.now) a code c.in_ok-judged.judged.text.items c.in_ok-judged.judged.invalid
-        c.requires.fits.no c.if-judged.false c.in_ok-judged.ensures
+    c.requires.fits.no c.if-judged.false c.in_ok-judged.ensures
     (subst (FirstOtherIs code.code code.times (values_of a)) c.in-None.is told)

@@ -34,8 +34,12 @@ steps-preserved c = let t = c.steps.tableau in let s = c.step.new.tableau in
     let f = c.steps.invariant.kept.frame in record {
       kept = record {
         usable = g.usable;
-        frame = record { generator_columns = g.frame.generator_columns ∙ f.generator_columns; height = g.frame.height
-            ∙ f.height; negated = g.frame.negated ∙ f.negated };
+        frame = record {
+          generator_columns = g.frame.generator_columns ∙ f.generator_columns;
+          height = g.frame.height
+              ∙ f.height;
+          negated = g.frame.negated ∙ f.negated;
+        };
         holds = holds_next t s g c.steps.invariant.kept.holds;
       };
       way = step_is_made c.args.tableau.now t c.steps.number c.steps.invariant.way s c.next_number-number.result

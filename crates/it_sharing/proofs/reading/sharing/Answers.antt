@@ -33,8 +33,8 @@ same_lines P items lines e h = subst (λ (ls : List Line). P (map line_view ls))
 pub returns-in-Ok-clause-read : goal.returns-in-Ok-clause-read
 returns-in-Ok-clause-read c =
     read_says sharing _ sharing_has sharing_ends (λ lines x. x) c.args.bytes.now (map line_view c.in_ok-lines.lines.items) _
-        (letters_left c.whole.new.cursor) c.in_ok-lines.ensures (items_are_read _ _ _ _ c.at-cursor.ensures c.as_slice.ensures.value
-        c.in-Ok.ensures)
+    (letters_left c.whole.new.cursor) c.in_ok-lines.ensures (items_are_read _ _ _ _ c.at-cursor.ensures c.as_slice.ensures.value
+    c.in-Ok.ensures)
 
 pub returns-in-Ok-clause-limits : goal.returns-in-Ok-clause-limits
 returns-in-Ok-clause-limits c = (sharing_limited _ (letters_left c.whole.new.cursor) _ c.in-Ok.ensures).0
@@ -51,13 +51,13 @@ pub stop_fault-requires-clause-there : goal.stop_fault-requires-clause-there
 stop_fault-requires-clause-there c = same_lines (λ ls. IfFault c.in-Err.stop (IsLeft ls (letters_left c.whole.new.cursor)))
     c.in_ok-lines.lines.items c.as_slice-in-Err.result.now c.as_slice-in-Err.ensures.value
     (some_left sharing _ sharing_has sharing_ends c.args.bytes.now (map line_view c.in_ok-lines.lines.items) c.in-Err.stop
-        (letters_left c.whole.new.cursor) c.in_ok-lines.ensures
+    (letters_left c.whole.new.cursor) c.in_ok-lines.ensures
     (begun_stop c.in_ok-lines.lines.items _ _ c.in-Err.stop (letters_left c.whole.new.cursor) c.at-cursor.ensures c.as_slice.ensures.value c.in-Err.ensures))
 
 pub returns-clause-fault : goal.returns-clause-fault
 returns-clause-fault c =
     first_form_fault sharing _ sharing_has sharing_ends c.args.bytes.now (map line_view c.in_ok-lines.lines.items) c.in-Err.stop
-        (letters_left c.whole.new.cursor) c.stop_fault.result c.in_ok-lines.ensures
+    (letters_left c.whole.new.cursor) c.stop_fault.result c.in_ok-lines.ensures
     (begun_stop c.in_ok-lines.lines.items _ _ c.in-Err.stop (letters_left c.whole.new.cursor) c.at-cursor.ensures c.as_slice.ensures.value c.in-Err.ensures)
     (subst (λ (ls : List Line). IsStopAt (place_of (map line_view ls) (letters_left c.whole.new.cursor)) c.in-Err.stop c.stop_fault.result)
-        c.as_slice-in-Err.ensures.value c.stop_fault.ensures)
+    c.as_slice-in-Err.ensures.value c.stop_fault.ensures)

@@ -11,7 +11,7 @@ pub loop-coordinate-preserved : goal.loop-coordinate-preserved
 loop-coordinate-preserved c = mix_more c.args.at c.args.a c.args.b c.in-Some.coordinate c.args.up.now c.args.down.now
     c.loop-coordinate.left.now c.loop-coordinate.right.now
     c.rest_after-left.result.now c.rest_after-right.result.now c.rest_after-left.ensures c.rest_after-right.ensures
-        c.loop-coordinate.terms.items c.put_term.new.terms.items
+    c.loop-coordinate.terms.items c.put_term.new.terms.items
     c.in-Some.ensures.some c.in_ok-put_term.ensures.is c.loop-coordinate.invariant
 
 pub returns-clause-is : goal.returns-clause-is

@@ -15,4 +15,4 @@ pub problem_with-requires-clause-rows : goal.problem_with-requires-clause-rows
 problem_with-requires-clause-rows c =
     let over = IsOver (size_of c.args.givens.now.space) in
     subst (λ (rows : List Terms). All over rows) (sym (c.as_slice.ensures.value ∙ c.remove-row.ensures.items))
-        (all-remove over c.args.rows.now.items c.args.drop.now.row c.requires.over)
+    (all-remove over c.args.rows.now.items c.args.drop.now.row c.requires.over)

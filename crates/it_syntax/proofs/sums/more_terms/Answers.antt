@@ -40,7 +40,7 @@ returns-in-Err-clause-read c = λ m e.
     let found = c.loop-negative.found.items in
     let left : c.saturating_sub-left.result ≡ c.args.most - length found = omega (arith, c.saturating_sub-left.ensures, c.len.ensures) in
     each_stops signs (λ ts l. (None, is_of (Punctuation Minus) l)) (λ ts minus. allowed (c.args.most - length ts)
-        (term (multiple_from m ts) s minus)) (λ ts t. ts ++ t ∷ []) found c.in-Some.negative _ _ _ c.in-Err.stop _ c.in-Some.ensures
+    (term (multiple_from m ts) s minus)) (λ ts t. ts ++ t ∷ []) found c.in-Some.negative _ _ _ c.in-Err.stop _ c.in-Some.ensures
     (rw (← left, ← (c.loop-negative.invariant.1 m e).1) c.in-Err.ensures.read) (c.loop-negative.invariant.1 m e).0
 
 pub returns-clause-read : goal.returns-clause-read
@@ -48,8 +48,8 @@ unfolding more_terms
 returns-clause-read c = λ m e.
     let s = scope_of c.args.names.now c.args.rates in
     rw c.in_default.ensures.1 (each_ends signs (λ ts l. (None, is_of (Punctuation Minus) l))
-        (λ ts minus. allowed (c.args.most - length ts) (term (multiple_from m ts) s minus))
-        (λ ts t. ts ++ t ∷ []) c.loop-negative.found.items _ _ c.in_default.ensures.0 (c.loop-negative.invariant.1 m e).0)
+    (λ ts minus. allowed (c.args.most - length ts) (term (multiple_from m ts) s minus))
+    (λ ts t. ts ++ t ∷ []) c.loop-negative.found.items _ _ c.in_default.ensures.0 (c.loop-negative.invariant.1 m e).0)
 
 pub returns-clause-multiple : goal.returns-clause-multiple
 returns-clause-multiple c = (c.loop-negative.invariant.0, λ m e. (c.loop-negative.invariant.1 m e).1)

@@ -28,5 +28,5 @@ pub returns-clause-whole_numbers : goal.returns-clause-whole_numbers
 returns-clause-whole_numbers c = row_wholes c.args.coordinates.now c.args.columns.now c.args.target.now c.args.k c.requires.row c.args.list
     c.append.new.terms.items c.requires.terms
     c.start_entry-unit.result c.start_entry-unit.ensures.whole_number c.start_entry-unit.ensures.value
-        (put (goal.at.returns-clause-whole_numbers c).In_ok-append)
+    (put (goal.at.returns-clause-whole_numbers c).In_ok-append)
     c.start_entry-right.result c.start_entry-right.ensures.whole_number c.start_entry-right.ensures.value

@@ -11,8 +11,12 @@ use Rattle.it_tableau.proofs.MergeSteps.{IsMerging, merge_begins, all_difference
 use Rattle.it_tableau.proofs.merging.merge.Goals as goal
 
 pub loop-i-init : goal.loop-i-init
-loop-i-init c = (subst (IsMerging c.args.width c.args.old.now c.args.by.now c.args.q 0 0) (sym c.clear.ensures.items)
-    (merge_begins c.args.width c.args.old.now c.args.by.now c.args.q c.requires.old c.requires.by), omega arith, omega arith)
+loop-i-init c = (
+  subst (IsMerging c.args.width c.args.old.now c.args.by.now c.args.q 0 0) (sym c.clear.ensures.items)
+      (merge_begins c.args.width c.args.old.now c.args.by.now c.args.q c.requires.old c.requires.by),
+  omega arith,
+  omega arith,
+)
 
 pub loop-i-preserved-in-Old : goal.loop-i-preserved-in-Old
 loop-i-preserved-in-Old c =
@@ -22,7 +26,7 @@ loop-i-preserved-in-Old c =
           (subst IsNarrow c.term.ensures.value c.term.ensures.narrow)
           (subst (λ (n : ℕ). IsAppended c.loop-i.buffer.items n (number_of_term o i) c.append.new.terms.items) c.column.ensures
           (subst (λ (x : Rational). IsAppended c.loop-i.buffer.items c.column.result x c.append.new.terms.items) c.term.ensures.value
-              c.in_ok-append-in-Old.ensures)),
+          c.in_ok-append-in-Old.ensures)),
       (let l = s.0 in omega (arith, l)),
       c.loop-i.invariant.2,
     )
@@ -33,8 +37,8 @@ returns-in_err-negated_product-in-Other-clause-wide c =
     let s : IsTermSource o b i j Other = subst (IsTermSource o b i j) c.in-Other.is c.next_source.ensures in
     any_err c.from_residual-in_err-negated_product-in-Other.result Wide (¬ (MergeFits o b c.args.q))
     (refused_by c.args.width o b c.args.q i j c.loop-i.buffer.items c.loop-i.invariant.0 s.0
-        (subst (λ (y : Rational). ¬ (IsNarrow (Q.times y c.args.q))) c.term-in-Other.ensures.value
-        c.in_err-negated_product-in-Other.ensures))
+    (subst (λ (y : Rational). ¬ (IsNarrow (Q.times y c.args.q))) c.term-in-Other.ensures.value
+    c.in_err-negated_product-in-Other.ensures))
 
 pub loop-i-preserved-in-Other : goal.loop-i-preserved-in-Other
 loop-i-preserved-in-Other c =
@@ -67,7 +71,7 @@ loop-i-preserved c =
           (subst (λ (x : Rational). EntryFits x (number_of_term b j) c.args.q) c.term-in-Both.ensures.value
           (subst (λ (y : Rational). EntryFits c.term-in-Both.result y c.args.q) c.term-in-Both-2.ensures.value c.in_ok-difference-in-Both.ensures.ok))
           (c.in_ok-difference-in-Both.ensures.value ∙ ap₂ (λ x y. Q.plus x (Q.minus (Q.times y c.args.q))) c.term-in-Both.ensures.value
-              c.term-in-Both-2.ensures.value)
+          c.term-in-Both-2.ensures.value)
           (subst (λ (n : ℕ). IsAppended c.loop-i.buffer.items n v c.append-in-Both.new.terms.items) c.column-in-Both.ensures c.in_ok-append-in-Both.ensures),
       (let l = s.0 in omega (arith, l)),
       (let l = s.1 in omega (arith, l)),

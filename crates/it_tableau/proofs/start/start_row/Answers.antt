@@ -19,16 +19,16 @@ pub returns-clause-shows : goal.returns-clause-shows
 returns-clause-shows c =
     let done : c.loop-j.j ≡ length c.args.columns.now + length c.args.coordinates.now = omega (arith, c.loop-j-test.false, c.loop-j.auto.j-end) in
     subst (ListsValues (start_row rationals (length c.args.coordinates.now) (length c.args.columns.now)
-        (feasibility_problem c.args.coordinates.now c.args.columns.now c.args.target.now) c.args.k)
-        (length c.args.columns.now + length c.args.coordinates.now + 1)) (sym c.new.ensures)
+    (feasibility_problem c.args.coordinates.now c.args.columns.now c.args.target.now) c.args.k)
+    (length c.args.columns.now + length c.args.coordinates.now + 1)) (sym c.new.ensures)
     (row_shows (start_row rationals (length c.args.coordinates.now) (length c.args.columns.now)
-        (feasibility_problem c.args.coordinates.now c.args.columns.now c.args.target.now) c.args.k)
-        (λ j. IsWholeNumber (start_row rationals (length c.args.coordinates.now) (length c.args.columns.now)
-        (feasibility_problem c.args.coordinates.now c.args.columns.now c.args.target.now) c.args.k j))
-        (length c.args.columns.now + length c.args.coordinates.now) c.loop-j.terms.items c.start_entry-right.result
+    (feasibility_problem c.args.coordinates.now c.args.columns.now c.args.target.now) c.args.k)
+    (λ j. IsWholeNumber (start_row rationals (length c.args.coordinates.now) (length c.args.columns.now)
+    (feasibility_problem c.args.coordinates.now c.args.columns.now c.args.target.now) c.args.k j))
+    (length c.args.columns.now + length c.args.coordinates.now) c.loop-j.terms.items c.start_entry-right.result
     (subst (λ (n : ℕ). IsBuilt (start_row rationals (length c.args.coordinates.now) (length c.args.columns.now)
-        (feasibility_problem c.args.coordinates.now c.args.columns.now c.args.target.now) c.args.k)
-        (λ j. IsWholeNumber (start_row rationals (length c.args.coordinates.now) (length c.args.columns.now)
-        (feasibility_problem c.args.coordinates.now c.args.columns.now c.args.target.now) c.args.k j)) n c.loop-j.terms.items) done
-        c.loop-j.invariant)
+    (feasibility_problem c.args.coordinates.now c.args.columns.now c.args.target.now) c.args.k)
+    (λ j. IsWholeNumber (start_row rationals (length c.args.coordinates.now) (length c.args.columns.now)
+    (feasibility_problem c.args.coordinates.now c.args.columns.now c.args.target.now) c.args.k j)) n c.loop-j.terms.items) done
+    c.loop-j.invariant)
     c.start_entry-right.ensures.value)

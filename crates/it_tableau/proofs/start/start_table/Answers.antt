@@ -12,7 +12,7 @@ pub returns-in_err-cost-clause-wide : goal.returns-in_err-cost-clause-wide
 returns-in_err-cost-clause-wide c =
     fault_is_handed_on c.from_residual-in_err-cost.result c.in_err-cost.field-0.0 Wide
     (¬ (StartFits (length c.args.coordinates.now) (length c.args.columns.now)
-        (feasibility_problem c.args.coordinates.now c.args.columns.now c.args.target.now)))
+    (feasibility_problem c.args.coordinates.now c.args.columns.now c.args.target.now)))
     c.from_residual-in_err-cost.ensures.1
     (λ e fits. c.in_err-cost.ensures.wide e
     (subst (λ (x : List (List Rational)). ColumnsFit x (length c.args.columns.now + length c.args.coordinates.now + 1)) (sym c.as_slice.ensures.value)
@@ -21,4 +21,4 @@ returns-in_err-cost-clause-wide c =
 pub returns-clause-ok : goal.returns-clause-ok
 returns-clause-ok c = start_fits c.args.coordinates.now c.args.columns.now c.args.target.now c.in_ok-rows.rows.items c.in_ok-rows.ensures
     (subst (λ (x : List (List Rational)). ColumnsFit x (length c.args.columns.now + length c.args.coordinates.now + 1))
-        c.as_slice.ensures.value c.in_ok-cost.ensures.ok)
+    c.as_slice.ensures.value c.in_ok-cost.ensures.ok)

@@ -18,15 +18,15 @@ split_at-requires c =
     let i = c.loop-constraint.constraint-index in
     subst (λ (k : ℕ). k ≤ length c.loop-constraint.rows_left.now) (sym c.obliged-count.ensures)
     (obligations_go_on c.args.own.now i c.constraint-item.result (length c.loop-constraint.rows_left.now)
-        (omega arith) c.constraint-item.is c.loop-constraint.invariant.all).0
+    (omega arith) c.constraint-item.is c.loop-constraint.invariant.all).0
 
 pub split_at-requires-in-loop-constraint : goal.split_at-requires-in-loop-constraint
 split_at-requires-in-loop-constraint c =
     let i = c.loop-constraint.constraint-index in
     let next = obligations_go_on c.args.own.now i c.constraint-item.result (length c.loop-constraint.rows_left.now)
-        (omega arith) c.constraint-item.is c.loop-constraint.invariant.all in
+    (omega arith) c.constraint-item.is c.loop-constraint.invariant.all in
     let within : c.obliged-count.result ≤ length c.loop-constraint.rows_left.now = subst
-        (λ (k : ℕ). k ≤ length c.loop-constraint.rows_left.now) (sym c.obliged-count.ensures) next.0 in
+    (λ (k : ℕ). k ≤ length c.loop-constraint.rows_left.now) (sym c.obliged-count.ensures) next.0 in
     omega (arith, within, c.loop-constraint.invariant.as_many)
 
 pub write_own_line-requires-clause-there : goal.write_own_line-requires-clause-there
@@ -34,7 +34,7 @@ write_own_line-requires-clause-there c =
     let q = question_body c.args.asked.now.question.now in
     rw c.split_at-in-loop-constraint.ensures.front
     (All-take (λ (w : Certificate). All (λ x. x.0 < length (elementals (variable_count q)) + length c.args.asked.now.constraints.now)
-        w.weights.items) c.obliged-count.result c.loop-constraint.proofs_left.now c.loop-constraint.invariant.there)
+    w.weights.items) c.obliged-count.result c.loop-constraint.proofs_left.now c.loop-constraint.invariant.there)
 
 pub write_own_line-requires-clause-over : goal.write_own_line-requires-clause-over
 write_own_line-requires-clause-over c = rw c.split_at.ensures.front (All-take
@@ -56,11 +56,11 @@ loop-constraint-preserved c =
           c.loop-constraint.rows_left.now c.split_at.result.0.now c.split_at.result.1.now c.loop-constraint.proofs_left.now
           c.split_at-in-loop-constraint.result.0.now
           c.split_at-in-loop-constraint.result.1.now count c.loop-constraint.out.items c.write_own_line.new.out.items new
-              (omega arith) c.constraint-item.is c.obliged-count.ensures rows.front rows.back proofs.front proofs.back
-              c.in_ok-write_own_line.ensures h);
+          (omega arith) c.constraint-item.is c.obliged-count.ensures rows.front rows.back proofs.front proofs.back
+          c.in_ok-write_own_line.ensures h);
       there = rw c.split_at-in-loop-constraint.ensures.back
           (All-drop (λ (w : Certificate). All (λ x. x.0 < length (elementals (variable_count q)) + length asked.constraints.now)
-              w.weights.items) count c.loop-constraint.proofs_left.now c.loop-constraint.invariant.there);
+          w.weights.items) count c.loop-constraint.proofs_left.now c.loop-constraint.invariant.there);
       over = rw c.split_at.ensures.back (All-drop (IsOver (size_of c.args.free.now.space)) count c.loop-constraint.rows_left.now
           c.loop-constraint.invariant.over);
       as_many = omega (arith, rows.back_len, proofs.back_len, c.loop-constraint.invariant.as_many);
@@ -73,7 +73,7 @@ returns c =
     let asked = c.args.asked.now in
     c.loop-constraint.invariant.goes_on c.loop-constraint.out.items
     (subst (λ (cs : List Constraint). AppendsEachOwnLine q asked.options asked.parts.now cs c.loop-constraint.rows_left.now
-        (map certificate_view c.loop-constraint.proofs_left.now) c.loop-constraint.out.items c.loop-constraint.out.items)
+    (map certificate_view c.loop-constraint.proofs_left.now) c.loop-constraint.out.items c.loop-constraint.out.items)
     (sym (drop_all c.loop-constraint.constraint-index c.args.own.now (omega arith)))
-        (no_line q asked.options asked.parts.now c.loop-constraint.rows_left.now
-        (map certificate_view c.loop-constraint.proofs_left.now) c.loop-constraint.out.items))
+    (no_line q asked.options asked.parts.now c.loop-constraint.rows_left.now
+    (map certificate_view c.loop-constraint.proofs_left.now) c.loop-constraint.out.items))

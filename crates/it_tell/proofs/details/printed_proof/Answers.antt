@@ -10,4 +10,4 @@ returns c =
     let proof = c.in-Some.proof in
     let printed : ArePrinted q (value c.args.row.now) proof.text.items proof.whole.items proof.by.items = rw c.in-Some.is at c.in_ok-proof.ensures in
     styled_may_be_printed (λ t. t.items) q c.args.options.style (value c.args.row.now) proof.text.items proof.whole.items proof.by.items
-        c.in_ok-text.text printed c.in_ok-text.ensures
+    c.in_ok-text.text printed c.in_ok-text.ensures

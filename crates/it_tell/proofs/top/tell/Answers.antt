@@ -14,7 +14,7 @@ pub returns-in-Some-Version : goal.returns-in-Some-Version
 returns-in-Some-Version g c = end_of_text (call_of g.S.Source.left g.S.Source.faults g.K.Sink.taken g.K.Sink.faults c.args.words.now []
     c.args.source.now c.args.source.now c.args.sink.now c.write_last-in-Some-Version.new.sink) Version _
     c.write_last-in-Some-Version.result (sym c.settings_of.ensures ∙ c.in-Some-Version.is ∙ ap Some c.in-Some-Version.field-0-is) refl
-        (refl, refl) c.write_last-in-Some-Version.ensures
+    (refl, refl) c.write_last-in-Some-Version.ensures
 
 pub returns-in-None : goal.returns-in-None
 returns-in-None g c = end_of_usage (call_of g.S.Source.left g.S.Source.faults g.K.Sink.taken g.K.Sink.faults c.args.words.now []

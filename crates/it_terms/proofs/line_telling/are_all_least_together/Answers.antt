@@ -8,4 +8,4 @@ loop-i-preserved c =
     let row = c.index-rows-i in
     let other = c.index-others-i in
     together_more c.args.rows.now c.args.others.now c.loop-i.i row.result other.result (omega arith) (omega arith) row.is other.is
-        (OnTrue_at c.if-not-together.false c.in_ok-together.ensures) c.loop-i.invariant
+    (OnTrue_at c.if-not-together.false c.in_ok-together.ensures) c.loop-i.invariant

@@ -23,7 +23,7 @@ pub side_row-requires-2-clause-denominators : goal.side_row-requires-2-clause-de
 side_row-requires-2-clause-denominators c =
     let k = c.requires.within in
     let all : All (λ (t : Term). 1 ≤ t.denominator) c.as_slice-right.result.now = rw c.as_slice-right.ensures.value
-        (right_denominators (relation_view c.args.relation.now) (k.some_multiple, k.small_multiple)) in
+    (right_denominators (relation_view c.args.relation.now) (k.some_multiple, k.small_multiple)) in
     rw c.split_at.ensures.back (All-drop (λ (t : Term). 1 ≤ t.denominator) c.args.split.now.shannon c.as_slice-right.result.now all)
 
 pub returns : goal.returns
@@ -36,7 +36,7 @@ returns c =
     let ws : List (ℕ × ℤ) = c.args.split.now.weights.items in
     let scale : ℤ = c.args.split.now.target.1 in
     let front : c.split_at.result.0.now ≡ take count r.right = c.split_at.ensures.front
-        ∙ ap (λ (ts : List Term). take count ts) c.as_slice-right.ensures.value in
+    ∙ ap (λ (ts : List Term). take count ts) c.as_slice-right.ensures.value in
     let back : c.split_at.result.1.now ≡ drop count r.right = c.split_at.ensures.back ∙ ap (λ (ts : List Term). drop count ts) c.as_slice-right.ensures.value in
     let one : pos 1 ≤ℤ scale = search (rules, c.if-split-lt1.false) in
     OnTrue_from c.in_ok-is_rest.is_rest (IsProofOf n r (value c.args.target.now) (forms_of (map of_constraint cs))) (λ e.
@@ -45,8 +45,8 @@ returns c =
     (subst (λ (us : List (ℕ × ℤ)). All (IsAllowed (forms_of (map of_constraint cs))) us) c.as_slice-weights.ensures.value c.if-not-are_allowed.ensures)
     one
     (subst₂ (λ (m : ℕ) (ts : List Term). IsRowOf s (λ p. side_at n p m ts) c.in_ok-left.left) c.common_denominator-multiple.ensures
-        c.as_slice.ensures.value c.in_ok-left.ensures)
+    c.as_slice.ensures.value c.in_ok-left.ensures)
     (subst₂ (λ (m : ℕ) (ts : List Term). IsRowOf s (λ p. side_at n p m ts) c.in_ok-rest.rest) c.common_denominator-multiple.ensures back c.in_ok-rest.ensures)
     (OnTrue_at c.if-not-is_target.false c.in_ok-is_target.ensures)
     (subst (λ (us : List (ℕ × ℤ)). AreSame (value c.in_ok-rest.rest) (λ p. combination us (constraint_value cs p)))
-        c.as_slice-weights.ensures.value (OnTrue_at e c.in_ok-is_rest.ensures)))
+    c.as_slice-weights.ensures.value (OnTrue_at e c.in_ok-is_rest.ensures)))

@@ -12,4 +12,4 @@ returns-in-Ok c = told_by_lines (λ text. text.items) (question_body c.args.ques
     (value c.args.target.now) c.in_ok-posed.posed.space c.in_ok-posed.posed.constraints c.in-Ok.text
     c.names_of-names.ensures.names c.in_ok-posed.ensures.poses.constraints.stated
     (subst (λ (cs : List Constraint). IfSome c.in-Ok.text (λ text. TellsProof c.names_of-names.result.now (value c.args.target.now)
-        (forms_of (map of_constraint cs)) text.items)) c.constraints-constraints.ensures.value c.in-Ok.ensures)
+    (forms_of (map of_constraint cs)) text.items)) c.constraints-constraints.ensures.value c.in-Ok.ensures)

@@ -8,7 +8,7 @@ pub loop-line-preserved : goal.loop-line-preserved
 loop-line-preserved c =
     let found = c.index-constraints-index in
     All-more (IsGivenEquation c.args.constraints.now) c.args.lines.now c.loop-line.line-index 0 (omega arith) c.loop-line.invariant
-        (omega arith, (found.result, (found.is, c.if-not-is_given_equation.ensures)))
+    (omega arith, (found.result, (found.is, c.if-not-is_given_equation.ensures)))
 
 pub returns : goal.returns
 returns c = subst (λ (ls : List ℕ). AreGivenEquations c.args.constraints.now ls)

@@ -16,7 +16,7 @@ returns c =
     let lines : List ℕ = c.in_ok-lines.lines.items in
     printed_from v row cs lines c.args.text.items
     (subst (λ (ls : List ℕ). AreGivenEquations cs ls) c.as_slice-needed.ensures.value
-        (subst (λ (xs : List Constraint). AreGivenEquations xs needed) c.constraints-constraints.ensures.value
-        c.if-not-are_given_equations.ensures))
+    (subst (λ (xs : List Constraint). AreGivenEquations xs needed) c.constraints-constraints.ensures.value
+    c.if-not-are_given_equations.ensures))
     (subst (λ (ls : List ℕ). TellsRowBy v g ls row c.args.text.items) c.as_slice-needed.ensures.value
     (subst (λ (t : List ℕ). TellsRowBy v g needed row t) c.as_slice-shown.ensures.value (OnTrue_at c.if-not-tells.false c.in_ok-tells.ensures)))

@@ -29,5 +29,5 @@ returns c =
     (subst (λ (xs : List Constraint). All (IsAllowed (forms_of (map of_constraint xs))) named) all c.if-not-are_allowed.ensures)
     c.requires.read.said
     (subst (λ (z : Space). IsExcess z r false cs named row) space (subst
-        (λ (xs : List Constraint). IsExcess c.space-space.result r false xs named row) all (rw c.in-Some.is at c.in_ok-row.ensures)))
+    (λ (xs : List Constraint). IsExcess c.space-space.result r false xs named row) all (rw c.in-Some.is at c.in_ok-row.ensures)))
     (subst (λ (z : Space). AreSameUnder z.variables ds (value row) (λ p. pos 0)) c.requires.read.space (OnTrue_at e c.in_ok-is_nothing.ensures)))

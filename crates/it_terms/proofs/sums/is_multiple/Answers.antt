@@ -12,4 +12,4 @@ pub returns-in-Ok : goal.returns-in-Ok
 returns-in-Ok c = same_as_added c.args.row.now c.in_ok-sums.sums c.add_terms.new.sums (c.size.result + 1)
     (λ p. c.args.weight.now.1 *ℤ value c.args.target.now p) c.is_row_of.result c.in_ok-sums.ensures
     (subst (λ (t : Terms). IsPlus c.in_ok-sums.sums c.add_terms.new.sums (λ p. c.args.weight.now.1 *ℤ value t p)) c.terms.ensures.value
-        c.in-Ok.ensures) c.is_row_of.ensures
+    c.in-Ok.ensures) c.is_row_of.ensures

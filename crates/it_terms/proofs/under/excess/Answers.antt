@@ -18,10 +18,10 @@ new-requires c =
     let cs = c.args.constraints.now in
     let ws = c.args.weights.now in
     (row_of_all c.args.space (relation_view c.args.relation.now) c.args.turned cs ws c.in_ok-difference.difference
-        c.in_ok-terms-in-Ok.field-0.items places c.in_ok-sums.sums c.add_both.new.sums
+    c.in_ok-terms-in-Ok.field-0.items places c.in_ok-sums.sums c.add_both.new.sums
     (ap (λ n. n + 1) c.size.ensures) c.in_ok-difference.ensures c.in_ok-sums.ensures
     (subst (λ (t : Terms). IsPlus c.in_ok-sums.sums c.add_both.new.sums (λ p. value t p +ℤ combination ws (constraint_value cs p)))
-        c.terms.ensures.value c.in-Ok.ensures)
+    c.terms.ensures.value c.in-Ok.ensures)
     (ap length c.in_ok-sums.ensures ∙ length-replicate places (pos 0)) c.in_ok-terms-in-Ok.ensures).canonical
 
 pub returns-in-Ok : goal.returns-in-Ok
@@ -31,8 +31,8 @@ returns-in-Ok c =
     let ws = c.args.weights.now in
     subst (IsExcess c.args.space (relation_view c.args.relation.now) c.args.turned cs ws) (sym c.new.ensures)
     (row_of_all c.args.space (relation_view c.args.relation.now) c.args.turned cs ws c.in_ok-difference.difference
-        c.in_ok-terms-in-Ok.field-0.items places c.in_ok-sums.sums c.add_both.new.sums
+    c.in_ok-terms-in-Ok.field-0.items places c.in_ok-sums.sums c.add_both.new.sums
     (ap (λ n. n + 1) c.size.ensures) c.in_ok-difference.ensures c.in_ok-sums.ensures
     (subst (λ (t : Terms). IsPlus c.in_ok-sums.sums c.add_both.new.sums (λ p. value t p +ℤ combination ws (constraint_value cs p)))
-        c.terms.ensures.value c.in-Ok.ensures)
+    c.terms.ensures.value c.in-Ok.ensures)
     (ap length c.in_ok-sums.ensures ∙ length-replicate places (pos 0)) c.in_ok-terms-in-Ok.ensures).excess

@@ -25,13 +25,13 @@ returns c =
     let space = c.space-space.ensures.value in
     let whole = c.if-not-is_whole_equation.ensures in
     OnTrue_from c.in_ok-is_nothing.is_nothing (IsProofUnder s.variables c.args.lines.now r named (value c.args.target.now)
-        (forms_of (map of_constraint cs))) (λ e.
+    (forms_of (map of_constraint cs))) (λ e.
     proof_by_excess s c.args.lines.now r named c.args.target.now cs ds row whole.0 whole.1
     (subst₂ (λ (xs : List Constraint) (z : Space). IsProofFrom z.variables r c.args.target.now xs) all space
-        (OnTrue_at c.if-not-is_split.false c.in_ok-is_split.ensures))
+    (OnTrue_at c.if-not-is_split.false c.in_ok-is_split.ensures))
     (subst₂ (λ (xs : List Constraint) (ws : List (ℕ × ℤ)). All (IsAllowed (forms_of (map of_constraint xs))) ws) all weights c.if-not-are_allowed.ensures)
     c.requires.there c.requires.said
     (subst (λ (z : Space). IsExcess z r true cs named row) space (subst₂
-        (λ (xs : List Constraint) (ws : List (ℕ × ℤ)). IsExcess c.space-space.result r true xs ws row) all weights
-        (rw c.in-Some.is at c.in_ok-row.ensures)))
+    (λ (xs : List Constraint) (ws : List (ℕ × ℤ)). IsExcess c.space-space.result r true xs ws row) all weights
+    (rw c.in-Some.is at c.in_ok-row.ensures)))
     (subst (λ (z : Space). AreSameUnder z.variables ds (value row) (λ p. pos 0)) c.requires.space (OnTrue_at e c.in_ok-is_nothing.ensures)))

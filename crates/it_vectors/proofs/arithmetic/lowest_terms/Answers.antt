@@ -34,7 +34,7 @@ size_is c =
 pub returns-then-size-eq1-clause-pivot : goal.returns-then-size-eq1-clause-pivot
 returns-then-size-eq1-clause-pivot c =
     pivot_over_divisor c.args.pivot (unsigned_abs c.args.entry) c.unsigned_abs-size.result c.requires.pivot
-        (size_is (goal.at.returns-then-size-eq1-clause-pivot c).After-unsigned_abs-size)
+    (size_is (goal.at.returns-then-size-eq1-clause-pivot c).After-unsigned_abs-size)
     (subst (λ (k : ℕ). k ∣ unsigned_abs c.args.entry) (sym c.if-size-eq1.true) (one-dvd (unsigned_abs c.args.entry)))
 
 pub returns-then-size-eq1-clause-entry : goal.returns-then-size-eq1-clause-entry
@@ -51,8 +51,8 @@ returns-then-unsigned_abs-size-eq0-clause-pivot c =
     let s = size_is (goal.at.returns-then-unsigned_abs-size-eq0-clause-pivot c).After-unsigned_abs-size in
     let e : c.unsigned_abs.result ≡ unsigned_abs c.args.entry = c.unsigned_abs.ensures.value ∙ ap unsigned_abs (to_z-of_z f) in
     pivot_over_divisor c.args.pivot (unsigned_abs c.args.entry) c.unsigned_abs-size.result c.requires.pivot s
-        (subst (λ (k : ℕ). c.unsigned_abs-size.result ∣ k) e (dvd_of_mod-eq-zero c.unsigned_abs-size.result
-        c.if-unsigned_abs-size-eq0.true))
+    (subst (λ (k : ℕ). c.unsigned_abs-size.result ∣ k) e (dvd_of_mod-eq-zero c.unsigned_abs-size.result
+    c.if-unsigned_abs-size-eq0.true))
 
 pub returns-then-unsigned_abs-size-eq0-clause-entry : goal.returns-then-unsigned_abs-size-eq0-clause-entry
 returns-then-unsigned_abs-size-eq0-clause-entry c =
@@ -61,7 +61,7 @@ returns-then-unsigned_abs-size-eq0-clause-entry c =
     let s = size_is (goal.at.returns-then-unsigned_abs-size-eq0-clause-entry c).After-unsigned_abs-size in
     let e : c.unsigned_abs.result ≡ unsigned_abs c.args.entry = c.unsigned_abs.ensures.value ∙ ap unsigned_abs (to_z-of_z f) in
     let d : c.unsigned_abs-size.result ∣ unsigned_abs c.args.entry = subst (λ (k : ℕ). c.unsigned_abs-size.result ∣ k) e
-        (dvd_of_mod-eq-zero c.unsigned_abs-size.result c.if-unsigned_abs-size-eq0.true) in
+    (dvd_of_mod-eq-zero c.unsigned_abs-size.result c.if-unsigned_abs-size-eq0.true) in
     to_z-of_z g ∙ c.quotient.ensures ∙ ap (λ z. int_quotient z c.unsigned_abs-size.result) (to_z-of_z f)
     ∙ ap (int_quotient c.args.entry) (sym (gcd_of_divisor c.unsigned_abs-size.result (unsigned_abs c.args.entry) d)
     ∙ ap (λ k. gcd k (unsigned_abs c.args.entry)) s)

@@ -16,6 +16,6 @@ loop-k-preserved c =
           (λ k z. c.args.from ≤ k → z ≡ number_at c.args.row.now k +ℤ neg_ℤ (number_at c.args.by.now k *ℤ to_z w32 (of_z w32 c.args.b))) l
           (λ k m h. c.loop-k.invariant.done k h m)
           (λ h. c.less_product.ensures ∙ ap (λ z. z +ℤ neg_ℤ (number_at c.args.by.now c.loop-k.k *ℤ to_z w32 (of_z w32 c.args.b)))
-              (c.loop-k.invariant.rest c.loop-k.k (omega arith))) k m h;
+          (c.loop-k.invariant.rest c.loop-k.k (omega arith))) k m h;
       rest = set_rest c.loop-k.row c.args.row.now c.loop-k.k c.less_product.result c.loop-k.invariant.rest;
     }

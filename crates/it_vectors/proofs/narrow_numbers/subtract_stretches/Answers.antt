@@ -31,10 +31,10 @@ returns-clause-entries c =
     let from = slice_index_or c.args.starts.now (length c.args.starts.now - 1) 0 in
     let b = to_z w32 (of_z w32 c.args.b) in
     let done = subst (λ (j : ℕ). (k : ℕ) → k < slice_index_or c.args.starts.now j 0
-        → number_at c.loop-j.row k ≡ number_at c.args.row.now k +ℤ neg_ℤ (number_at c.args.by.now k *ℤ b)) e c.loop-j.invariant.done in
+    → number_at c.loop-j.row k ≡ number_at c.args.row.now k +ℤ neg_ℤ (number_at c.args.by.now k *ℤ b)) e c.loop-j.invariant.done in
     let rest = subst (λ (j : ℕ). (k : ℕ) → slice_index_or c.args.starts.now j 0 ≤ k → number_at c.loop-j.row k ≡ number_at c.args.row.now k)
-        e c.loop-j.invariant.rest in
+    e c.loop-j.invariant.rest in
     let all = part_is_done c.loop-j.row c.args.row.now c.args.by.now c.subtract_part.new.row b from
-        (length c.loop-j.row) done rest c.subtract_part.ensures.before c.subtract_part.ensures.part in
+    (length c.loop-j.row) done rest c.subtract_part.ensures.before c.subtract_part.ensures.part in
     let entries = simp to_z-of_z at all in
     λ k h. entries k (omega (arith, h, c.loop-j.invariant.same_length, c.requires.even))

@@ -9,9 +9,9 @@ bound c =
     let fa : FitsSigned w64 c.args.a = c.ranges.a in
     let fb : FitsSigned w64 c.args.b = c.ranges.b in
     subst (λ (k : ℕ). IsBound c.args.row.now k c.args.most_by (unsigned_abs c.args.b) c.args.limit c.in-Some.sum)
-        (c.unsigned_abs.ensures.value ∙ ap unsigned_abs (to_z-of_z fa))
+    (c.unsigned_abs.ensures.value ∙ ap unsigned_abs (to_z-of_z fa))
     (subst (λ (k : ℕ). IsBound c.args.row.now c.unsigned_abs.result c.args.most_by k c.args.limit c.in-Some.sum)
-        (c.unsigned_abs-2.ensures.value ∙ ap unsigned_abs (to_z-of_z fb)) c.in-Some.ensures)
+    (c.unsigned_abs-2.ensures.value ∙ ap unsigned_abs (to_z-of_z fb)) c.in-Some.ensures)
 
 -- the sum as a bound
 sum_is_bound : (c : In-Some) → (bound c).most * unsigned_abs c.args.a + c.args.most_by * unsigned_abs c.args.b ≤ c.in-Some.sum
@@ -24,7 +24,7 @@ combine_plain-requires-clause-bound c =
     let d = (goal.at.combine_plain-requires-clause-bound c).In-Some in
     let b = bound d in
     λ k l. let s = sizes c.args.row.now c.args.by.now c.args.a c.args.b b.most c.args.most_by c.in-Some.sum b.at_most c.requires.most_by
-        c.requires.even (sum_is_bound d) k l in
+    c.requires.even (sum_is_bound d) k l in
     simp to_z-of_z (omega (arith, s, b.within, c.requires.limit))
 
 pub returns-in-Some-clause-combined : goal.returns-in-Some-clause-combined
@@ -38,7 +38,7 @@ returns-in-Some-clause-combined c =
       entries = e;
       small = λ k l. subst (λ (z : ℤ). unsigned_abs z ≤ c.args.limit) (sym (e k l))
           (let s = numbers_at_most c.args.row.now c.args.by.now c.args.a c.args.b b.most c.args.most_by c.in-Some.sum b.at_most
-              c.requires.most_by c.requires.even (sum_is_bound d) k l in omega (arith, s, b.within));
+          c.requires.most_by c.requires.even (sum_is_bound d) k l in omega (arith, s, b.within));
     }
 
 pub returns-in-Some-clause-most : goal.returns-in-Some-clause-most
@@ -51,7 +51,7 @@ returns-in-Some-clause-most c =
     λ k l. let h = index_is_within k l c.combine_plain.ensures.length c.requires.even in
     subst (λ (z : ℤ). unsigned_abs z ≤ c.in-Some.sum) (sym (e k h))
     (numbers_at_most c.args.row.now c.args.by.now c.args.a c.args.b b.most c.args.most_by c.in-Some.sum b.at_most c.requires.most_by
-        c.requires.even (sum_is_bound d) k h)
+    c.requires.even (sum_is_bound d) k h)
   where
     index_is_within : (k : ℕ) {n m o : ℕ} → k < n → n ≡ m → m ≡ o → k < o
     index_is_within k h e f = omega (arith, h, e, f)

@@ -23,7 +23,7 @@ loop-k-preserved c =
       done = set_done c.loop-k.row c.loop-k.k c.in-Some.number (λ k z. z ≡ number_at c.args.row.now k *ℤ to_z w64 (of_z w64 c.args.a)
           +ℤ neg_ℤ (number_at c.args.by.now k *ℤ to_z w64 (of_z w64 c.args.b))) l c.loop-k.invariant.done
           (s1 ∙ ap (λ z. z *ℤ to_z w64 (of_z w64 c.args.a) +ℤ neg_ℤ (number_at c.args.by.now c.loop-k.k *ℤ to_z w64 (of_z w64 c.args.b)))
-              (c.loop-k.invariant.rest c.loop-k.k (omega arith)));
+          (c.loop-k.invariant.rest c.loop-k.k (omega arith)));
       small = set_done c.loop-k.row c.loop-k.k c.in-Some.number (λ k z. unsigned_abs z ≤ c.args.limit) l c.loop-k.invariant.small
           (subst (λ (z : ℤ). unsigned_abs z ≤ c.args.limit) (sym s1) s0);
       rest = set_rest c.loop-k.row c.args.row.now c.loop-k.k c.in-Some.number c.loop-k.invariant.rest;

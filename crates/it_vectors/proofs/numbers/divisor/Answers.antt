@@ -23,4 +23,4 @@ loop-k-preserved c =
     let f : FitsSigned w64 c.read.result = search rules in
     divides_more c.args.row.now c.args.bottom c.loop-k.shared.value c.shared_with-shared.result.value c.read.result c.loop-k.k
     (c.shared_with-shared.ensures ∙ ap (λ n. gcd n c.loop-k.shared.value) (c.unsigned_abs.ensures.value ∙ ap unsigned_abs (to_z-of_z f)))
-        c.read.ensures c.loop-k.invariant
+    c.read.ensures c.loop-k.invariant

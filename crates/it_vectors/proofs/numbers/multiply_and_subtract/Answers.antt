@@ -21,6 +21,6 @@ loop-k-preserved c =
           ≡ number_at c.args.row.now k *ℤ to_z w64 (of_z w64 c.args.a) +ℤ neg_ℤ (number_at c.args.by.now k *ℤ to_z w64 (of_z w64 c.args.b)))
           l c.loop-k.invariant.done
           (e ∙ ap (λ z. z *ℤ to_z w64 (of_z w64 c.args.a) +ℤ neg_ℤ (number_at c.args.by.now c.loop-k.k *ℤ to_z w64 (of_z w64 c.args.b)))
-              (c.loop-k.invariant.rest c.loop-k.k (omega arith)));
+          (c.loop-k.invariant.rest c.loop-k.k (omega arith)));
       rest = set_rest c.loop-k.row c.args.row.now c.loop-k.k c.plain_number.result c.loop-k.invariant.rest;
     }

@@ -11,9 +11,9 @@ bound c =
     let fa : FitsSigned w64 c.args.a = c.ranges.a in
     let fb : FitsSigned w64 c.args.b = c.ranges.b in
     subst (λ (k : ℕ). IsBound c.args.row.now k c.args.most_by (unsigned_abs c.args.b) 9223372036854775807 c.in_ok-bound.field-0)
-        (c.unsigned_abs.ensures.value ∙ ap unsigned_abs (to_z-of_z fa))
+    (c.unsigned_abs.ensures.value ∙ ap unsigned_abs (to_z-of_z fa))
     (subst (λ (k : ℕ). IsBound c.args.row.now c.unsigned_abs.result c.args.most_by k 9223372036854775807 c.in_ok-bound.field-0)
-        (c.unsigned_abs-2.ensures.value ∙ ap unsigned_abs (to_z-of_z fb)) c.in_ok-bound.ensures)
+    (c.unsigned_abs-2.ensures.value ∙ ap unsigned_abs (to_z-of_z fb)) c.in_ok-bound.ensures)
 
 -- the sum as a bound
 sum_is_bound : (c : In_ok-bound) → (bound c).most * unsigned_abs c.args.a + c.args.most_by * unsigned_abs c.args.b ≤ c.in_ok-bound.field-0
@@ -29,7 +29,7 @@ numbers_are_short c k l =
     let e = simp to_z-of_z at c.fill.ensures.entries in
     subst (λ (z : ℤ). unsigned_abs z ≤ 9223372036854775807) (sym (e k l))
     (let s = numbers_at_most c.args.row.now c.args.by.now c.args.a c.args.b b.most c.args.most_by c.in_ok-bound.field-0 b.at_most
-        c.requires.most_by c.requires.even (sum_is_bound d) k l in omega (arith, s, b.within))
+    c.requires.most_by c.requires.even (sum_is_bound d) k l in omega (arith, s, b.within))
 
 pub fill-requires-clause-bound : goal.fill-requires-clause-bound
 fill-requires-clause-bound c =
@@ -38,7 +38,7 @@ fill-requires-clause-bound c =
     let d = (goal.at.fill-requires-clause-bound c).In_ok-bound in
     let b = bound d in
     λ k l. let s = sizes c.args.row.now c.args.by.now c.args.a c.args.b b.most c.args.most_by c.in_ok-bound.field-0 b.at_most
-        c.requires.most_by c.requires.even (sum_is_bound d) k l in
+    c.requires.most_by c.requires.even (sum_is_bound d) k l in
     simp to_z-of_z (omega (arith, s, b.within))
 
 pub divide-requires-clause-row : goal.divide-requires-clause-row

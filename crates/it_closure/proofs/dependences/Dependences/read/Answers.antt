@@ -8,5 +8,12 @@ invariant_of-result c = rw (c.in_ok-list.ensures, c.constraints.ensures.value, c
     (read_of_space c.args.problem.now c.count.result c.facts.ensures)
 
 pub read_all-requires-clause-count : goal.read_all-requires-clause-count
-read_all-requires-clause-count c = grind (arith, c.space-n.ensures.value, c.count.ensures, few_elementals c.args.problem.now.space.variables
-    c.facts.ensures.space.few, c.facts.ensures.few, ap length c.constraints.ensures.value)
+read_all-requires-clause-count c = grind (
+  arith,
+  c.space-n.ensures.value,
+  c.count.ensures,
+  few_elementals c.args.problem.now.space.variables
+      c.facts.ensures.space.few,
+  c.facts.ensures.few,
+  ap length c.constraints.ensures.value,
+)

@@ -16,5 +16,5 @@ entering_column-requires c = λ j l.
     let last : length c.args.self.now.basis < length c.args.self.now.rows = omega (arith, c.requires.1.rows_are) in
     subst (λ (r : WholeRowView). Suits (slice_index_or c.args.columns.now j []) r.numbers) (sym c.cost_row.ensures)
     (fitting_suits (length c.args.self.now.rows) c.requires.0 (slice_index_or c.args.columns.now j [])
-        (whole_row_at c.args.self.now.rows (length c.args.self.now.basis)) (c.requires.1.fitting j l)
-        (c.requires.1.usable (length c.args.self.now.basis) last))
+    (whole_row_at c.args.self.now.rows (length c.args.self.now.basis)) (c.requires.1.fitting j l)
+    (c.requires.1.usable (length c.args.self.now.basis) last))

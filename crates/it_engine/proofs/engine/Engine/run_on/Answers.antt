@@ -25,13 +25,13 @@ returns-then-is_done c = unbound_done c.args.columns.now c.args.limit c.args.sel
 pub returns-then-not-branch : goal.returns-then-not-branch
 returns-then-not-branch c =
     let g : IsEngineStepOrStuck c.args.columns.now c.args.limit c.still_steps.new.self.rows c.still_steps.new.self.basis
-        c.step.new.self.rows c.step.new.self.basis false =
+    c.step.new.self.rows c.step.new.self.basis false =
     subst (IsEngineStepOrStuck c.args.columns.now c.args.limit c.still_steps.new.self.rows c.still_steps.new.self.basis c.step.new.self.rows
-        c.step.new.self.basis) c.if-not-branch.true c.in_ok-step.ensures in
+    c.step.new.self.basis) c.if-not-branch.true c.in_ok-step.ensures in
     subst (λ (l : List WholeRowView). IsFinished c.args.columns.now c.args.limit c.args.self.now.rows c.args.self.now.basis None l
-        c.step.new.self.basis Point) (sym g.0)
+    c.step.new.self.basis Point) (sym g.0)
     (subst (λ (b : List ℕ). IsFinished c.args.columns.now c.args.limit c.args.self.now.rows c.args.self.now.basis None
-        c.still_steps.new.self.rows b Point) (sym g.1)
+    c.still_steps.new.self.rows b Point) (sym g.1)
     (unbound_stuck c.args.columns.now c.args.limit c.args.self.now.rows c.args.self.now.basis c.still_steps.new.self.rows c.still_steps.new.self.basis
     (after_still_steps (goal.at.returns-then-not-branch c).In_ok-made) c.if-is_done.ensures.no g.2))
 
@@ -43,17 +43,17 @@ loop_makes_step c = subst (IsEngineStepOrStuck c.args.columns.now c.args.limit c
 pub steps-smaller : goal.steps-smaller
 steps-smaller c =
     let below : steps_left_to c.args.columns.now c.step.new.self.rows c.step.new.self.basis
-        < steps_left_to c.args.columns.now c.still_steps.new.self.rows c.still_steps.new.self.basis =
+    < steps_left_to c.args.columns.now c.still_steps.new.self.rows c.still_steps.new.self.basis =
     step_lowers_steps_left c.args.columns.now c.args.limit c.args.self.now.rows c.args.self.now.basis c.still_steps.new.self.rows c.still_steps.new.self.basis
     (after_still_steps (goal.at.steps-smaller c).In_ok-made) c.step.new.self.rows c.step.new.self.basis
-        (loop_makes_step (goal.at.steps-smaller c).Else-not-branch) in
+    (loop_makes_step (goal.at.steps-smaller c).Else-not-branch) in
     let most : steps_left_to c.args.columns.now c.still_steps.new.self.rows c.still_steps.new.self.basis
-        ≤ steps_left_to c.args.columns.now c.steps.self.rows c.steps.self.basis =
+    ≤ steps_left_to c.args.columns.now c.steps.self.rows c.steps.self.basis =
     steps_lower_steps_left c.args.columns.now c.args.limit c.args.self.now.rows c.args.self.now.basis c.steps.self.rows c.steps.self.basis
-        c.steps.invariant c.still_steps.new.self.rows c.still_steps.new.self.basis c.in_ok-made.made c.in_ok-made.ensures.steps in
+    c.steps.invariant c.still_steps.new.self.rows c.still_steps.new.self.basis c.in_ok-made.made c.in_ok-made.ensures.steps in
     by_order (steps_left_to c.args.columns.now c.step.new.self.rows c.step.new.self.basis)
-        (steps_left_to c.args.columns.now c.still_steps.new.self.rows c.still_steps.new.self.basis)
-        (steps_left_to c.args.columns.now c.steps.self.rows c.steps.self.basis) below most
+    (steps_left_to c.args.columns.now c.still_steps.new.self.rows c.still_steps.new.self.basis)
+    (steps_left_to c.args.columns.now c.steps.self.rows c.steps.self.basis) below most
   where
     by_order : (a b d : ℕ) → a < b → b ≤ d → a < d
     by_order a b d h k = omega (arith, h, k)

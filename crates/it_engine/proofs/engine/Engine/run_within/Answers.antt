@@ -8,8 +8,11 @@ use Rattle.it_engine.proofs.engine.Engine.run_within.Goals as goal
 use Rattle.it_engine.proofs.engine.Engine.run_within.Goals.{In_ok-made}
 
 pub loop-k-init : goal.loop-k-init
-loop-k-init c = record { under_way = run_begins c.args.columns.now c.args.limit c.args.self.now.rows c.args.self.now.basis c.args.budget
-    c.requires.engine; within = omega arith }
+loop-k-init c = record {
+  under_way = run_begins c.args.columns.now c.args.limit c.args.self.now.rows c.args.self.now.basis c.args.budget
+      c.requires.engine;
+  within = omega arith;
+}
 
 -- the run after the degenerate steps
 after_still_steps : (c : In_ok-made) → IsRunUnderWay c.args.columns.now c.args.limit c.args.self.now.rows c.args.self.now.basis
@@ -17,7 +20,7 @@ after_still_steps : (c : In_ok-made) → IsRunUnderWay c.args.columns.now c.args
 after_still_steps c = steps_are_made c.args.columns.now c.args.limit c.args.self.now.rows c.args.self.now.basis c.args.budget
     c.loop-k.self.rows c.loop-k.self.basis c.loop-k.k c.loop-k.invariant.under_way
     c.still_steps.new.self.rows c.still_steps.new.self.basis c.in_ok-made.made
-        (omega (arith, c.in_ok-made.ensures.most, c.most_still-most.ensures, c.loop-k-test.true)) c.in_ok-made.ensures.steps
+    (omega (arith, c.in_ok-made.ensures.most, c.most_still-most.ensures, c.loop-k-test.true)) c.in_ok-made.ensures.steps
 
 pub returns-then-is_done : goal.returns-then-is_done
 returns-then-is_done c = run_ends_done c.args.columns.now c.args.limit c.args.self.now.rows c.args.self.now.basis c.args.budget
@@ -27,22 +30,22 @@ returns-then-is_done c = run_ends_done c.args.columns.now c.args.limit c.args.se
 pub returns-then-not-branch : goal.returns-then-not-branch
 returns-then-not-branch c =
     let g : IsEngineStepOrStuck c.args.columns.now c.args.limit c.still_steps.new.self.rows c.still_steps.new.self.basis
-        c.step.new.self.rows c.step.new.self.basis false =
+    c.step.new.self.rows c.step.new.self.basis false =
     subst (IsEngineStepOrStuck c.args.columns.now c.args.limit c.still_steps.new.self.rows c.still_steps.new.self.basis c.step.new.self.rows
-        c.step.new.self.basis) c.if-not-branch.true c.in_ok-step.ensures in
+    c.step.new.self.basis) c.if-not-branch.true c.in_ok-step.ensures in
     subst (λ (l : List WholeRowView). IsFinished c.args.columns.now c.args.limit c.args.self.now.rows c.args.self.now.basis
-        (Some c.args.budget) l c.step.new.self.basis Point) (sym g.0)
+    (Some c.args.budget) l c.step.new.self.basis Point) (sym g.0)
     (subst (λ (b : List ℕ). IsFinished c.args.columns.now c.args.limit c.args.self.now.rows c.args.self.now.basis
-        (Some c.args.budget) c.still_steps.new.self.rows b Point) (sym g.1)
+    (Some c.args.budget) c.still_steps.new.self.rows b Point) (sym g.1)
     (run_ends_stuck c.args.columns.now c.args.limit c.args.self.now.rows c.args.self.now.basis c.args.budget c.still_steps.new.self.rows
-        c.still_steps.new.self.basis (c.loop-k.k + c.in_ok-made.made)
+    c.still_steps.new.self.basis (c.loop-k.k + c.in_ok-made.made)
     (after_still_steps (goal.at.returns-then-not-branch c).In_ok-made) c.if-is_done.ensures.no g.2))
 
 pub loop-k-preserved : goal.loop-k-preserved
 loop-k-preserved c =
     let g : IsEngineStep c.args.columns.now c.args.limit c.still_steps.new.self.rows c.still_steps.new.self.basis c.step.new.self.rows c.step.new.self.basis =
     subst (IsEngineStepOrStuck c.args.columns.now c.args.limit c.still_steps.new.self.rows c.still_steps.new.self.basis c.step.new.self.rows
-        c.step.new.self.basis) c.if-not-branch.false c.in_ok-step.ensures in record {
+    c.step.new.self.basis) c.if-not-branch.false c.in_ok-step.ensures in record {
       under_way = step_is_made c.args.columns.now c.args.limit c.args.self.now.rows c.args.self.now.basis c.args.budget
           c.still_steps.new.self.rows c.still_steps.new.self.basis (c.loop-k.k + c.in_ok-made.made)
           (after_still_steps (goal.at.loop-k-preserved c).In_ok-made) c.step.new.self.rows c.step.new.self.basis
@@ -62,7 +65,7 @@ returns-in-Some c = run_ends_at_budget c.args.columns.now c.args.limit c.args.se
     c.loop-k.self.rows c.loop-k.self.basis c.loop-k.k c.loop-k.invariant.under_way c.if-is_done-2.ensures.no
     (omega (arith, c.loop-k-test.false, c.loop-k.invariant.within))
     (λ p t s. not_stuck_here p t c.args.columns.now c.args.limit c.loop-k.self.rows c.loop-k.self.basis c.in-Some.field-0 s
-        c.in-Some.ensures.within c.in-Some.ensures.some)
+    c.in-Some.ensures.within c.in-Some.ensures.some)
 
 pub returns-in-None : goal.returns-in-None
 returns-in-None c = run_ends_stuck c.args.columns.now c.args.limit c.args.self.now.rows c.args.self.now.basis c.args.budget

@@ -16,7 +16,7 @@ returns-clause-shortened c =
     subst (λ (new : List ℤ). IsShortened c.args.self.now record { numbers = new; bottom = 1 }) (sym written)
     (subst (λ (v : WholeRowView). IsShortened v record { numbers = c.divide_at_once.new.row; bottom = 1 }) c.self.view_is
     (subst (λ (old : List ℤ). IsShortened record { numbers = old; bottom = c.self.inside.bottom }
-        record { numbers = c.divide_at_once.new.row; bottom = 1 }) lent record {
+    record { numbers = c.divide_at_once.new.row; bottom = 1 }) lent record {
       shared = c.self.inside.bottom;
       some = subst (λ (b : ℕ). 0 < b) (sym bottom) c.requires.some;
       length_is = c.divide_at_once.ensures.length;

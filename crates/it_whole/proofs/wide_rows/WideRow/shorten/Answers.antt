@@ -18,7 +18,7 @@ returns c =
     subst (λ (new : List ℤ). IsShortened c.args.self.now record { numbers = new; bottom = c.size_quotient-self-inside.result }) (sym written)
     (subst (λ (v : WholeRowView). IsShortened v record { numbers = c.divide.new.row; bottom = c.size_quotient-self-inside.result }) c.self.view_is
     (subst (λ (old : List ℤ). IsShortened record { numbers = old; bottom = c.self.inside.bottom }
-        record { numbers = c.divide.new.row; bottom = c.size_quotient-self-inside.result }) lent record {
+    record { numbers = c.divide.new.row; bottom = c.size_quotient-self-inside.result }) lent record {
       shared = c.divisor-shared.result.value;
       some = c.divisor-shared.ensures.numbers.some;
       length_is = c.divide.ensures.length;

@@ -18,5 +18,9 @@ pub returns-else-is_large : goal.returns-else-is_large
 returns-else-is_large c =
     let fe : FitsSigned w64 c.args.entry = c.ranges.entry in
     let fp : FitsSigned w64 c.args.pivot = c.ranges.pivot in
-    let less = simp to_z-of_z at c.if-not-reduce.ensures.less in record { less = less; usable = c.if-not-reduce.ensures.usable; kept = λ e.
-        absurd (c.requires.some e) }
+    let less = simp to_z-of_z at c.if-not-reduce.ensures.less in record {
+      less = less;
+      usable = c.if-not-reduce.ensures.usable;
+      kept = λ e.
+          absurd (c.requires.some e);
+    }
