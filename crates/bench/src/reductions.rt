@@ -5,7 +5,7 @@ ghost use Rattle.std.specs.Bool.{OnTrue};
 ghost use Rattle.it_question.specs.Limits.{IsQuestion};
 ghost use Rattle.it_question.specs.Questions.{question_body};
 ghost use Rattle.it_redundant.specs.Reduction.{IsSystemUnder};
-ghost use Rattle.it_space.specs.Rows.{IsOver};
+ghost use Rattle.it_space.specs.Rows.{IsOver, most_system_rows};
 
 use crate::Task;
 use crate::output::Output;
@@ -88,7 +88,7 @@ fn push_givens(
 
 /// Whether there are at most 65,535 constraints, of `size` coordinates.
 fn are_constraints(constraints: &[Constraint], size: u32) -> bool
-    ensures few { OnTrue result (length constraints.now ≤ 65535) }
+    ensures few { OnTrue result (length constraints.now ≤ most_system_rows) }
     ensures rows { OnTrue result (All (λ c. IsOver size c.row) constraints.now) }
 {
     constraints.len() <= 65535
@@ -163,7 +163,7 @@ fn reduction(
     asking: &mut Asking,
 ) -> Result<System, AllocError>
     requires under { IsSystemUnder givens.now list }
-    requires few { length list.rows.items ≤ 65535 }
+    requires few { length list.rows.items ≤ most_system_rows }
 {
     match way {
         "shared" => {
@@ -178,7 +178,7 @@ fn reduction(
 /// Whether the list has few rows of the givens' space.
 fn is_under(list: &System, givens: &Problem) -> bool
     ensures under { OnTrue result (IsSystemUnder givens.now list.now) }
-    ensures few { OnTrue result (length list.now.rows.items ≤ 65535) }
+    ensures few { OnTrue result (length list.now.rows.items ≤ most_system_rows) }
 {
     givens.facts();
     list.space == givens.space()

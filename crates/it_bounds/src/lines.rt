@@ -1,6 +1,6 @@
 //! The lines of mode `outer`.
 ghost use Rattle.std.specs.Prelude.{◌≡◌, ◌≤◌, ◌++◌, All, IfOk, OnOk, codes, decimal, flat_map, length};
-ghost use Rattle.it_space.specs.Spaces.{size_of};
+ghost use Rattle.it_space.specs.Spaces.{size_of, most_variables, most_rates};
 ghost use Rattle.it_demand.specs.QuestionSpaces.{space_of};
 ghost use Rattle.it_syntax.specs.NamesViews.{NamesView};
 ghost use Rattle.it_question.specs.Limits.{IsQuestion};
@@ -202,8 +202,8 @@ fn write_ray(
     kept: &[u32],
     ray: &Point,
 ) -> Result<(), AllocError>
-    requires variables { length names.now.variables ≤ 10 }
-    requires rates { length names.now.rates ≤ 16 }
+    requires variables { length names.now.variables ≤ most_variables }
+    requires rates { length names.now.rates ≤ most_rates }
     requires kept { ArePlaces (size_of (space_of names.now)) kept.now }
     requires ray { length ray.now ≡ size_of (space_of names.now) }
     ensures { OnOk result (out.new.items ≡ out.old.items ++ ray_line k names.now kept.now ray.now) }

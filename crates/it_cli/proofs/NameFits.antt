@@ -34,11 +34,12 @@ use Rattle.it_forms.specs.Forms.{Keyword, Punctuation, Give, Then}
 use Rattle.it_forms.specs.Words.{limit_flag}
 use Rattle.it_forms.proofs.FormParts.{Fact, OfEach, Always, always_weaker, loop_keeps}
 use Rattle.it_question.specs.QuestionForms.{count, new_name, more_new, new_names, names_line, own_lines, verb, question, more_questions, file}
-use Rattle.it_question.specs.QuestionLimits.{most_questions, most_variables, most_rates, most_lines}
+use Rattle.it_question.specs.QuestionLimits.{most_questions, most_lines}
 use Rattle.it_question.specs.Questions.{BodyView, QuestionView}
 use Rattle.it_question.proofs.QuestionOutlines.{file_has}
 use Rattle.it_question.proofs.WholeFileLemmas.{said}
 use Rattle.it_forms.proofs.FormFacts.{always_any, always_said}
+use Rattle.it_space.specs.Spaces.{most_variables, most_rates}
 
 -- ---- words begin with a letter
 

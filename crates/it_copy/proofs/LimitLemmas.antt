@@ -15,13 +15,14 @@ use Rattle.it_syntax.specs.Givens.{GivenView, IsGivenOf, IsRelationOf}
 use Rattle.it_closure.specs.Closures.{is_inside}
 use Rattle.it_question.specs.Questions.{BodyView, VerbView, Prove, Eliminate, Contain}
 use Rattle.it_question.specs.Limits.{IsQuestion, IsVerbOver}
-use Rattle.it_question.specs.QuestionLimits.{most_lines, most_variables}
+use Rattle.it_question.specs.QuestionLimits.{most_lines}
 use Rattle.it_number.specs.Gcd.{gcd, gcd_within, lcm}
 use Rattle.it_demand.proofs.LimitLemmas.{wider_given, wider_relation}
 use Rattle.it_copy.specs.CopyLines.{CopyView}
 use Rattle.it_copy.specs.Equations.{apart_equation, copy_equations, inside_equation, term_of}
 use Rattle.it_copy.specs.Extensions.{CanBeMade, IsProof, equations_of, extended, first_unplaced, placed, with_copies, with_copy}
 use Rattle.it_copy.proofs.PlaceLemmas.{first_has_place, place_told}
+use Rattle.it_space.specs.Spaces.{most_variables}
 
 -- ---- the equations of one copy
 

@@ -7,10 +7,11 @@ ghost use Rattle.it_question.specs.Limits.{IsQuestion};
 ghost use Rattle.it_question.specs.NewNames.{Variable, is_taken, with_name};
 ghost use Rattle.it_question.specs.TableSizes.{most_entries};
 ghost use Rattle.it_question.specs.Questions.{Prove, question_body, question_view};
-ghost use Rattle.it_question.specs.QuestionLimits.{most_lines, most_variables};
+ghost use Rattle.it_question.specs.QuestionLimits.{most_lines};
 ghost use Rattle.it_copy.specs.CopyLines.{AreNamed, copy_view};
 ghost use Rattle.it_copy.specs.Extensions.{IsExtension, IsMisfit, equations_of, extended, first_unplaced, named_parts, placed, set_with, unless_member, with_copies, equations_at};
 ghost use Rattle.it_copy.specs.ExtensionSteps.{IsLarge, IsLargeBy, IsPastLimits, IsUnplaced};
+ghost use Rattle.it_space.specs.Spaces.{most_variables};
 
 use crate::equations::add_equations;
 use crate::types::{CopyFault, CopyLine};

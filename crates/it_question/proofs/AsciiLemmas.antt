@@ -22,7 +22,6 @@ use Rattle.it_syntax.proofs.RunLemmas.{value_digits}
 use Rattle.it_question.specs.AsciiTexts.{IsAsciiQuestion, TextsAreAscii}
 use Rattle.it_question.specs.Lines.{LineView, split_lines, file_end, line_letters, letters_of_lines}
 use Rattle.it_question.specs.NewNames.{NameSortView, Variable, Rate, with_name, no_names}
-use Rattle.it_question.specs.QuestionLimits.{most_variables, most_rates}
 use Rattle.it_question.specs.QuestionForms.{new_name, more_new, new_names, names_line, question, file}
 use Rattle.it_question.specs.Questions.{BodyView, QuestionView}
 use Rattle.it_question.proofs.LineParts.{AreWhole, lines_sound, texts_of}
@@ -34,6 +33,7 @@ use Rattle.it_forms.proofs.FormLanguage.{prefix_moves}
 use Rattle.it_forms.proofs.LetterLemmas.{letters_append, letters_cleaned}
 use Rattle.it_question.specs.LineTexts.{without_leading, unless_blank, without_trailing, text_of_lines}
 use Rattle.it_question.specs.Texts.{question_line_count, with_texts}
+use Rattle.it_space.specs.Spaces.{most_variables, most_rates}
 
 -- ---- bytes of tokens
 

@@ -9,7 +9,7 @@ use Rattle.std.proofs.lemmas.List.Elements.{All-nil, All-cons, All-head, All-tai
 use Rattle.std.proofs.lemmas.List.Quantifiers.{position-Some}
 use Rattle.it_closure.specs.Sizes.{table_size}
 use Rattle.it_demand.specs.QuestionSpaces.{space_of}
-use Rattle.it_space.specs.Spaces.{IsSpace}
+use Rattle.it_space.specs.Spaces.{IsSpace, most_variables, most_rates}
 use Rattle.it_forms.specs.declared.types.Code.TheVariants as codes
 use Rattle.it_forms.specs.declared.types.Symbol.TheVariants.{Comma, Semicolon}
 use Rattle.it_forms.specs.Letters.{Letter}
@@ -27,7 +27,7 @@ use Rattle.it_syntax.proofs.FormLimits.{Knows, empty_is_set, names_keep, relatio
 use Rattle.it_question.specs.Limits.{AreLinesOver, IsRegionOf, IsTryOf, AreRatesOf, IsVerbOver, IsQuestion}
 use Rattle.it_question.specs.NewNames.{NameSortView, Variable, Rate, with_name, no_names, is_taken, new_flag, once_flag}
 use Rattle.it_question.specs.QuestionForms.{count, new_name, more_new, new_names, names_line, own_line, own_words, own_keyword, more_own_lines, own_lines, once, more_once, distinct, auxiliary, set, part, more_parts, try_line, more_tries, region, containment, verb, question, more_questions, file}
-use Rattle.it_question.specs.QuestionLimits.{most_questions, most_variables, most_rates, most_lines, auxiliaries_left, givens_left, rows_left}
+use Rattle.it_question.specs.QuestionLimits.{most_questions, most_lines, auxiliaries_left, givens_left, rows_left}
 use Rattle.it_question.specs.Questions.{OwnLinesView, RegionView, VerbView, Prove, Eliminate, Contain, BodyView, no_lines}
 use Rattle.it_question.specs.ProblemLines.{givens_alone, names_under, lines_under}
 use Rattle.it_question.specs.TableSizes.{problem_of_lines, most_entries, size_flag, HasSmallTable}

@@ -28,7 +28,7 @@ use Rattle.it_syntax.specs.Spelling.{IsText}
 use Rattle.it_question.specs.Files.{IsFile}
 use Rattle.it_question.specs.Lines.{LineView, AreLines, letters_of_lines, split_lines}
 use Rattle.it_question.specs.QuestionForms.{own_words, own_keyword, own_line, more_own_lines, own_lines, names_line, new_names, distinct, more_tries, region, containment, verb, question, more_questions, file}
-use Rattle.it_question.specs.QuestionLimits.{most_questions, most_lines, most_variables, most_rates, auxiliaries_left, givens_left, rows_left}
+use Rattle.it_question.specs.QuestionLimits.{most_questions, most_lines, auxiliaries_left, givens_left, rows_left}
 use Rattle.it_question.specs.Questions.{OwnLinesView, RegionView, VerbView, BodyView, QuestionView, no_lines}
 use Rattle.it_question.specs.Questions as views
 use Rattle.it_question.specs.Texts.{question_line_count, with_texts}
@@ -36,6 +36,7 @@ use Rattle.it_question.specs.TrySets.{auxiliary_env, unnamed_sets}
 use Rattle.it_question.specs.NewNames.{Variable, Rate, no_names}
 use Rattle.it_question.proofs.QuestionOutlines.{file_has}
 use Rattle.it_question.proofs.WholeFileLemmas.{said}
+use Rattle.it_space.specs.Spaces.{most_variables, most_rates}
 
 -- ---- numbers of 64 bits
 

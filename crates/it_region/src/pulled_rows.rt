@@ -2,7 +2,7 @@
 ghost use Rattle.std.specs.Prelude.{◌≡◌, ◌+◌, ◌<◌, ◌≤◌, ◌^◌, ◌*ℤ◌, ◌↔◌, unsigned_abs, length, All, IfOk};
 ghost use Rattle.it_space.specs.Problems.{AreMet};
 ghost use Rattle.it_space.specs.Rows.{IsOver, value, row_mass};
-ghost use Rattle.it_space.specs.Spaces.{size_of};
+ghost use Rattle.it_space.specs.Spaces.{size_of, most_variables};
 ghost use Rattle.it_demand.specs.SystemForms.{AreAtLeastZero, AtMaps};
 ghost use Rattle.it_demand.specs.Coefficients.{largest, signed_by, IsFormAdded};
 ghost use Rattle.it_region.specs.Obligations.{constraint_obligations, ArePulledRows, IsPulledRow};
@@ -35,7 +35,7 @@ fn candidate_sets(
 
 /// The sets of one variable each, for the first `count` variables.
 fn singles(alloc: Global, count: u8) -> Result<Vec<VarSet>, AllocError>
-    requires { count ≤ 10 }
+    requires { count ≤ most_variables }
     ensures { IfOk result (λ v. v.items ≡ singles 0 count) }
 {
     let mut sets = Vec::new(alloc);

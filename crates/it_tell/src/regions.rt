@@ -10,6 +10,7 @@ ghost use Rattle.it_print.specs.Lines.{IsRowOver, row_text};
 ghost use Rattle.it_tell.specs.SortedRows.{is_before, order_key, put_in_order, rate_coordinates, rows_by_rates};
 ghost use Rattle.it_tell.specs.Steps.{AppendsEach};
 ghost use Rattle.it_tell.specs.Tellings.{IsMarkedRowText, IsPlainRow, IsRowOrigin, IsRowText, IsStyledRow, indented_line, mark_comment, told_rows};
+ghost use Rattle.it_space.specs.Spaces.{most_variables};
 
 use crate::details::write_indented;
 use crate::settings::{Options, Style, is_plain};
@@ -133,7 +134,7 @@ fn marked_row(
 
 /// Whether `coordinate` is that of a rate, where there are `variables` variables.
 fn is_rate(coordinate: usize, variables: u8) -> bool
-    requires { variables ≤ 10 }
+    requires { variables ≤ most_variables }
     ensures { result ≡ not (nat_lt coordinate (2 ^ variables)) }
 {
     coordinate >= 1usize << variables
@@ -141,7 +142,7 @@ fn is_rate(coordinate: usize, variables: u8) -> bool
 
 /// The coordinates of the rates of `row`, where there are `variables` variables.
 fn rate_coordinates(alloc: Global, row: &Row, variables: u8) -> Result<Vec<usize>, AllocError>
-    requires { variables ≤ 10 }
+    requires { variables ≤ most_variables }
     ensures { IfOk result (λ v. v.items ≡ rate_coordinates variables row.now) }
 {
     row.terms()
@@ -153,7 +154,7 @@ fn rate_coordinates(alloc: Global, row: &Row, variables: u8) -> Result<Vec<usize
 
 /// The number of the rates of `row`, and then their coordinates.
 fn order_key(alloc: Global, row: &Row, variables: u8) -> Result<Vec<usize>, AllocError>
-    requires { variables ≤ 10 }
+    requires { variables ≤ most_variables }
     ensures { IfOk result (λ v. v.items ≡ order_key variables row.now) }
 {
     let coordinates = rate_coordinates(alloc, row, variables)?;
@@ -180,7 +181,7 @@ fn is_before(numbers: &[usize], others: &[usize]) -> bool
 
 /// Whether a row comes before another one, by its rates.
 fn comes_before(alloc: Global, row: &Row, other: &Row, variables: u8) -> Result<bool, AllocError>
-    requires { variables ≤ 10 }
+    requires { variables ≤ most_variables }
     ensures { IfOk result (λ b. b ≡ is_before (order_key variables row.now) (order_key variables other.now)) }
 {
     let key = order_key(alloc, row, variables)?;
@@ -195,7 +196,7 @@ fn place_of(
     row: &(Mark, Row),
     variables: u8,
 ) -> Result<usize, AllocError>
-    requires { variables ≤ 10 }
+    requires { variables ≤ most_variables }
     ensures within { IfOk result (λ i. i ≤ length sorted.now) }
     ensures place { IfOk result (λ i. put_in_order variables row.now (map (λ r. r.now) sorted.now) ≡ insert (map (λ r. r.now) sorted.now) i row.now) }
 {
@@ -215,7 +216,7 @@ fn put_in_order<'a>(
     row: &'a (Mark, Row),
     variables: u8,
 ) -> Result<(), AllocError>
-    requires { variables ≤ 10 }
+    requires { variables ≤ most_variables }
     ensures { OnOk result (map (λ r. r.now) sorted.new.items ≡ put_in_order variables row.now (map (λ r. r.now) sorted.old.items)) }
 {
     let place = place_of(alloc, sorted.as_slice(), row, variables)?;
@@ -240,7 +241,7 @@ fn rows_by_rates(
     rows: &[(Mark, Row)],
     variables: u8,
 ) -> Result<Vec<&(Mark, Row)>, AllocError>
-    requires { variables ≤ 10 }
+    requires { variables ≤ most_variables }
     ensures { IfOk result (λ v. map (λ r. r.now) v.items ≡ rows_by_rates variables rows.now) }
 {
     let mut sorted = Vec::new(alloc);
@@ -257,7 +258,7 @@ fn told_rows(
     rows: &[(Mark, Row)],
     variables: u8,
 ) -> Result<Vec<&(Mark, Row)>, AllocError>
-    requires { variables ≤ 10 }
+    requires { variables ≤ most_variables }
     ensures { IfOk result (λ v. map (λ r. r.now) v.items ≡ told_rows style variables rows.now) }
 {
     if is_plain(style) {

@@ -6,6 +6,7 @@ ghost use Rattle.it_question.specs.Limits.{IsQuestion};
 ghost use Rattle.it_question.specs.Questions.{question_body};
 ghost use Rattle.it_terms.specs.Proposals.{MayProve};
 ghost use Rattle.it_terms.specs.Proofs.{TellsForm};
+ghost use Rattle.it_space.specs.Spaces.{most_variables};
 
 use crate::closed::Closures;
 use crate::constraints::{put_constraint, put_relation, put_side};
@@ -87,7 +88,7 @@ fn variable(i: u8) -> VarSet {
 /// Elemental inequality `index` of `n` variables as an atom.
 fn elemental_atom(n: u8, index: u32) -> Atom
     requires some { 1 ≤ n }
-    requires few { n ≤ 10 }
+    requires few { n ≤ most_variables }
     requires listed { index < length (elementals n) }
 {
     match parts(n, index) {

@@ -6,6 +6,7 @@ ghost use Rattle.it_question.specs.Questions.{question_body};
 ghost use Rattle.it_question.specs.ProblemLines.{problem_names};
 ghost use Rattle.it_terms.specs.RowsUnder.{IsPrintedRow};
 ghost use Rattle.it_terms.specs.Signs.{IsPrintedRowFrom};
+ghost use Rattle.it_space.specs.Spaces.{most_variables};
 
 use crate::closed::{ClosedTerm, Closures, closures_of};
 use crate::finding::own_sum;
@@ -42,7 +43,7 @@ fn few_terms(
     closures: &Closures,
     variables: u8,
 ) -> Result<Vec<ClosedTerm>, AllocError>
-    requires { variables ≤ 10 }
+    requires { variables ≤ most_variables }
 {
     match closed_terms(alloc, closures, variables) {
         Ok(terms) => Ok(terms),
