@@ -15,7 +15,8 @@ use it_eliminate::{Eliminated, step};
 use it_prove::Effort;
 use it_question::types::{Question, Verb};
 use it_redundant::{kept_system, reduce};
-use it_space::{Constraint, Kind, Origin, Problem, Row, System};
+use it_problems::{Constraint, Kind, Origin, Problem, System};
+use it_space::Row;
 use std::alloc::{AllocError, Global};
 
 /// The defined run, with as many steps as it takes.

@@ -3,7 +3,7 @@ use Rattle.std.proofs.Common.{◌≡◌, ◌↔◌, ℕ, ◌≤◌, ℤ, pos, sy
 use Rattle.std.proofs.lemmas.List.{append-nil}
 use Rattle.std.proofs.lemmas.List.Elements.{All-nil}
 use Rattle.it_space.specs.declared.spaces.Space.{Space}
-use Rattle.it_space.specs.Problems.{ProblemView, AreMet}
+use Rattle.it_problems.specs.Problems.{ProblemView, AreMet}
 use Rattle.it_syntax.specs.Givens.{IsGivenOf, IsTrueAt}
 use Rattle.it_syntax.specs.Meaning.{Holds}
 use Rattle.it_question.specs.Questions.{BodyView, OwnLinesView, VerbView, Eliminate}

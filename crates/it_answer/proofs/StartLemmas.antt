@@ -1,10 +1,10 @@
 -- No run about a question ends before its first step.
 use Rattle.std.proofs.Common.{◌≡◌, inl, inr, List, [], ◌∷◌, map, All, refl}
 use Rattle.it_space.specs.declared.answers.Cause.TheVariants.{Width}
-use Rattle.it_space.specs.declared.problems.Constraint.{Constraint}
+use Rattle.it_problems.specs.declared.problems.Constraint.{Constraint}
 use Rattle.it_space.specs.Answers as answer_views
 use Rattle.it_space.specs.Bounds.{IsSmall}
-use Rattle.it_space.specs.Problems.{ProblemView, IsProblem}
+use Rattle.it_problems.specs.Problems.{ProblemView, IsProblem}
 use Rattle.it_space.specs.Rows.{Terms}
 use Rattle.it_polymatroid.specs.Certificates.{Form}
 use Rattle.it_question.specs.Limits.{IsQuestion}

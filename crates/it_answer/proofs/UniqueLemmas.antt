@@ -2,7 +2,7 @@
 use Rattle.std.proofs.Common.{◌≡◌, inl, inr, ℕ, ℤ, List, [], ◌∷◌, Bool, true, false, All, map, take, refl, sym, ap, ap₂, subst, ◌∙◌}
 use Rattle.std.proofs.lemmas.List.Elements.{All-nil, All-cons}
 use Rattle.it_space.specs.declared.answers.Cause.{Cause}
-use Rattle.it_space.specs.Problems.{ProblemView}
+use Rattle.it_problems.specs.Problems.{ProblemView}
 use Rattle.it_space.specs.Answers.{AnswerView, CertificateView}
 use Rattle.it_space.specs.Answers as answer_views
 use Rattle.it_space.specs.Rows.{Terms, IsCanonical}

@@ -8,9 +8,9 @@ use Rattle.it_number.proofs.Ring as S
 use Rattle.it_number.proofs.Integers.{zring}
 use Rattle.it_rational.specs.Rational.{Rational, integer, times, minus, is_at_least_zero}
 use Rattle.it_rational.proofs.RationalLaws.{ring_ℚ}
-use Rattle.it_space.specs.declared.problems.Kind.{Kind}
-use Rattle.it_space.specs.declared.problems.Kind.TheVariants.{Inequality, Equation}
-use Rattle.it_space.specs.Problems.{ProblemView, IsProblem, Meets}
+use Rattle.it_problems.specs.declared.problems.Kind.{Kind}
+use Rattle.it_problems.specs.declared.problems.Kind.TheVariants.{Inequality, Equation}
+use Rattle.it_problems.specs.Problems.{ProblemView, IsProblem, Meets}
 use Rattle.it_space.specs.Rows.{Terms, IsOver, point_of, value, negated_terms}
 use Rattle.it_space.specs.Spaces.{size_of}
 use Rattle.it_space.proofs.EveryLemmas.{every_of, every-same, every-map, every_mapped, every_all}

@@ -6,10 +6,10 @@ use Rattle.std.proofs.lemmas.List.{length-map}
 use Rattle.it_number.proofs.SignLemmas.{product_least}
 use Rattle.it_rational.specs.Rational.{Rational, integer, plus, times, is_at_least_zero}
 use Rattle.it_rational.proofs.Field.{field_ℚ, least_by_sign, sign_of_least}
-use Rattle.it_space.specs.declared.problems.Kind.{Kind}
-use Rattle.it_space.specs.declared.problems.Kind.TheVariants.{Inequality, Equation}
+use Rattle.it_problems.specs.declared.problems.Kind.{Kind}
+use Rattle.it_problems.specs.declared.problems.Kind.TheVariants.{Inequality, Equation}
 use Rattle.it_space.specs.Answers.{CertificateView}
-use Rattle.it_space.specs.Problems.{ProblemView, IsProblem, AreMet, Meets}
+use Rattle.it_problems.specs.Problems.{ProblemView, IsProblem, AreMet, Meets}
 use Rattle.it_space.specs.Rows.{Terms, IsOver, coefficient, value, one_at, single_term}
 use Rattle.it_space.specs.Spaces.{size_of}
 use Rattle.it_space.specs.Sums.{terms_from}

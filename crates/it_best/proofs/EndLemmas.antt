@@ -7,7 +7,7 @@ use Rattle.it_number.proofs.Ring as S
 use Rattle.it_rational.specs.Rational.{Rational, integer, times}
 use Rattle.it_rational.proofs.RationalLaws.{ring_ℚ}
 use Rattle.it_rational.proofs.Field.{field_ℚ}
-use Rattle.it_space.specs.Problems.{ProblemView, IsProblem, AreMet}
+use Rattle.it_problems.specs.Problems.{ProblemView, IsProblem, AreMet}
 use Rattle.it_space.specs.Rows.{Terms, IsOver, coefficient, point_of, value, negated_terms}
 use Rattle.it_space.specs.Spaces.{size_of}
 use Rattle.it_space.proofs.TermLemmas.{coefficient-negated_terms, value-negated_terms, value-one_at}

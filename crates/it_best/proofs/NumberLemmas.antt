@@ -7,8 +7,8 @@ use Rattle.it_number.proofs.Ring as S
 use Rattle.it_rational.specs.Rational.{Rational, integer, plus, times, minus, sign_least, is_at_least_zero}
 use Rattle.it_rational.proofs.RationalLaws.{ring_ℚ}
 use Rattle.it_rational.proofs.Field.{field_ℚ}
-use Rattle.it_space.specs.declared.problems.Kind.{Kind}
-use Rattle.it_space.specs.declared.problems.Kind.TheVariants.{Inequality, Equation}
+use Rattle.it_problems.specs.declared.problems.Kind.{Kind}
+use Rattle.it_problems.specs.declared.problems.Kind.TheVariants.{Inequality, Equation}
 use Rattle.it_space.specs.Rows.{Terms, coefficient}
 use Rattle.it_space.proofs.TermLemmas.{coefficient-negated_terms}
 use Rattle.it_polymatroid.specs.Elementals.{span}

@@ -16,7 +16,7 @@ use Rattle.it_number.specs.Limit.{IsWithin}
 use Rattle.it_number.proofs.SignLemmas.{size_negated}
 use Rattle.it_space.proofs.EveryLemmas.{all_of, every_of, every-map, every-same}
 use Rattle.it_columns.specs.Scaling.{scale_of, scaled_number, scaled_point}
-use Rattle.it_space.specs.declared.problems.Kind.{Kind}
+use Rattle.it_problems.specs.declared.problems.Kind.{Kind}
 use Rattle.it_space.proofs.ListLemmas.{drop_item}
 use Rattle.it_run.specs.Readings.{AreWeights}
 use Rattle.it_elemental.specs.Generators.{Generator}
@@ -132,8 +132,8 @@ module _ (us : List Unknown) (ws : List (ℕ × Rational)) (i column : ℕ) (u :
       })
     where
       few_columns : (m : Kind) → column_count m ≤ 2
-      few_columns Rattle.it_space.specs.declared.problems.Kind.TheVariants.Inequality = omega arith
-      few_columns Rattle.it_space.specs.declared.problems.Kind.TheVariants.Equation = omega arith
+      few_columns Rattle.it_problems.specs.declared.problems.Kind.TheVariants.Inequality = omega arith
+      few_columns Rattle.it_problems.specs.declared.problems.Kind.TheVariants.Equation = omega arith
 
   pub numbers_wide : (kind : Kind) → kind ≡ u.kind → ¬ (NumberFits kind (column_weight ws) column) → ¬ (DifferencesFit 0 (unknown_views us) (column_weight ws))
   unfolding DifferencesFit

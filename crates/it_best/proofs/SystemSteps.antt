@@ -7,12 +7,12 @@ use Rattle.it_space.specs.Rows.{Terms, Ascends, coefficient, single_term}
 use Rattle.it_space.proofs.TermLemmas.{ascends-single_term, ascends_lower}
 use Rattle.it_elemental.specs.Generators.{Generator}
 use Rattle.std.proofs.Math.Pow.{pow_mono}
-use Rattle.it_space.specs.Problems.{ProblemView, IsProblem}
+use Rattle.it_problems.specs.Problems.{ProblemView, IsProblem}
 use Rattle.it_space.specs.Spaces.{size_of}
 use Rattle.it_elemental.specs.Generators.{generators}
 use Rattle.it_columns.proofs.ColumnLemmas.{few_generators}
-use Rattle.it_space.specs.declared.problems.Kind.{Kind}
-use Rattle.it_space.specs.declared.problems.Kind.TheVariants.{Equation}
+use Rattle.it_problems.specs.declared.problems.Kind.{Kind}
+use Rattle.it_problems.specs.declared.problems.Kind.TheVariants.{Equation}
 use Rattle.it_polymatroid.specs.Elementals.{span}
 use Rattle.it_best.specs.declared.unknowns.Unknown.{Unknown}
 use Rattle.it_best.specs.Phases.{bounded_unknown, free_unknown, unknown_views, counterweight, first_phase, coordinate_terms, coordinate_row, coordinate_unknown, slacks, third_phase, left_equation, right_equation}

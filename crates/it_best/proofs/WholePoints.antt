@@ -7,7 +7,7 @@ use Rattle.it_rational.specs.Rational.{Rational, integer, times, is_at_least_zer
 use Rattle.it_rational.proofs.RationalLaws.{ring_ℚ}
 use Rattle.it_number.proofs.Ring.{ring, v, nil}
 use Rattle.it_number.proofs.Ring as S
-use Rattle.it_space.specs.Problems.{Meets}
+use Rattle.it_problems.specs.Problems.{Meets}
 use Rattle.it_space.specs.Rows.{Terms, IsOver, point_of, value}
 use Rattle.it_space.proofs.EveryLemmas.{every_of, all_of, every-same, every_all}
 use Rattle.it_polymatroid.specs.Elementals.{span}

@@ -6,7 +6,7 @@ use Rattle.it_number.specs.Gcd.{gcd}
 use Rattle.it_space.specs.Divisors.{content, divided_terms}
 use Rattle.it_space.specs.declared.answers.Certificate.{Certificate}
 use Rattle.it_space.specs.declared.answers.Mark.{Mark}
-use Rattle.it_space.specs.declared.problems.Constraint.{Constraint}
+use Rattle.it_problems.specs.declared.problems.Constraint.{Constraint}
 use Rattle.it_space.specs.Answers.{certificate_view}
 use Rattle.it_space.specs.Rows.{Terms, point_of}
 use Rattle.it_space.proofs.Contents.{lowest_terms_is}

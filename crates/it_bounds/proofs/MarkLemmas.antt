@@ -6,8 +6,8 @@ use Rattle.it_space.specs.declared.answers.Mark.{Mark}
 use Rattle.it_space.specs.declared.answers.Mark.TheVariants as marks
 use Rattle.it_space.specs.declared.spaces.Space.{Space}
 use Rattle.it_space.specs.Answers.{CertificateView}
-use Rattle.it_space.specs.declared.problems.System.{System}
-use Rattle.it_space.specs.Problems.{IsProblem, ProblemView}
+use Rattle.it_problems.specs.declared.problems.System.{System}
+use Rattle.it_problems.specs.Problems.{IsProblem, ProblemView}
 use Rattle.it_space.specs.Rows.{IsOver, Terms, point_of}
 use Rattle.it_space.specs.Spaces.{IsSpace, size_of}
 use Rattle.it_eliminate.proofs.MemberLemmas.{all_back}

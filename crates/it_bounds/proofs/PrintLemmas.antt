@@ -8,7 +8,7 @@ use Rattle.it_space.specs.declared.answers.Certificate.{Certificate}
 use Rattle.it_space.specs.declared.answers.Mark.{Mark}
 use Rattle.it_space.specs.declared.spaces.Space.{Space}
 use Rattle.it_space.specs.Answers.{certificate_view}
-use Rattle.it_space.specs.Problems.{ProblemView}
+use Rattle.it_problems.specs.Problems.{ProblemView}
 use Rattle.it_space.specs.Rows.{Terms, IsOver}
 use Rattle.it_space.specs.Spaces.{size_of}
 use Rattle.it_space.proofs.EveryLemmas.{all_of, every_of, every_mapped}

@@ -7,7 +7,7 @@ use Rattle.it_space.specs.Answers.{CertificateView}
 use Rattle.it_space.specs.declared.answers.Cause.{Cause}
 use Rattle.it_space.specs.declared.answers.Cause.TheVariants.{Pivots, Width as WideStep, Scale}
 use Rattle.it_space.specs.declared.spaces.Space.{Space}
-use Rattle.it_space.specs.Problems.{IsProblem, ProblemView}
+use Rattle.it_problems.specs.Problems.{IsProblem, ProblemView}
 use Rattle.it_space.specs.Rows.{Terms, IsOver}
 use Rattle.it_space.specs.Spaces.{size_of}
 use Rattle.it_run.specs.Runs.{RunEndView}

@@ -3,9 +3,9 @@ use Rattle.std.proofs.Common.{◌≡◌, ◌⊎◌, inl, inr, ℕ, ◌+◌, ◌-
 use Rattle.std.proofs.lemmas.Bool.{cases_lt, false≢true}
 use Rattle.std.proofs.lemmas.List.{drop_all, map-append}
 use Rattle.it_space.specs.declared.answers.Certificate.{Certificate}
-use Rattle.it_space.specs.declared.problems.System.{System}
+use Rattle.it_problems.specs.declared.problems.System.{System}
 use Rattle.it_space.specs.Answers.{CertificateView, certificate_view}
-use Rattle.it_space.specs.Problems.{ProblemView}
+use Rattle.it_problems.specs.Problems.{ProblemView}
 use Rattle.it_space.specs.Rows.{IsOver, Terms, coefficient}
 use Rattle.it_space.specs.Spaces.{size_of}
 use Rattle.it_space.proofs.ListLemmas.{drop_item}

@@ -22,7 +22,8 @@ use it_outer::{Limits, OuterCause};
 use it_print::{row_text, sum_text, values_text, write_number, write_signed};
 use it_question::types::Question;
 use it_rates::gone_rates;
-use it_space::{Cause, Certificate, Constraint, Kind, Mark, Point, Row};
+use it_problems::{Constraint, Kind};
+use it_space::{Cause, Certificate, Mark, Point, Row};
 use it_syntax::Names;
 use std::alloc::{AllocError, Global};
 

@@ -9,7 +9,8 @@ use it_answer::marked_rows;
 use it_hull::constants;
 use it_prove::Effort;
 use it_redundant::reduce;
-use it_space::{Mark, Row, Space, System};
+use it_problems::System;
+use it_space::{Mark, Row, Space};
 use std::alloc::{AllocError, Global};
 
 /// The rows in order, each with its mark before it, by a reduction where all variables are constant, so that rates alone count. If the

@@ -22,7 +22,8 @@ use it_prove::Effort;
 use it_question::readers::MOST_ENTRIES;
 use it_question::types::{Question, Verb};
 use it_rates::problem_of_lines;
-use it_space::{Problem, Space};
+use it_problems::Problem;
+use it_space::Space;
 use std::alloc::{AllocError, Global};
 
 /// The right reply to a question, and the problem that all its lines pose, `row` lines too: to one that asks to eliminate rates its outer

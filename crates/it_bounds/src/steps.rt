@@ -17,7 +17,8 @@ use it_eliminate::Eliminated;
 use it_hull::{constants, first_rows, with_ray};
 use it_prove::Effort;
 use it_redundant::{kept_system, reduce};
-use it_space::{Certificate, Point, Problem, Row, Space, System};
+use it_problems::{Problem, System};
+use it_space::{Certificate, Point, Row, Space};
 use it_spans::{Frame, RowDrop, Step};
 use std::alloc::{AllocError, Global};
 

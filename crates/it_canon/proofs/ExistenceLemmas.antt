@@ -2,9 +2,9 @@
 use Rattle.std.proofs.Common.{◌≡◌, ℕ, ◌^◌, List, [], ◌∷◌, map, length, length-append, flat_map, All, refl, sym, ap, subst, arith}
 use Rattle.std.specs.List.{AllByRecursion as Every}
 use Rattle.it_space.specs.declared.spaces.Space.{Space}
-use Rattle.it_space.specs.declared.problems.Constraint.{Constraint}
-use Rattle.it_space.specs.declared.problems.Origin.{Origin}
-use Rattle.it_space.specs.Problems.{ProblemView}
+use Rattle.it_problems.specs.declared.problems.Constraint.{Constraint}
+use Rattle.it_problems.specs.declared.problems.Origin.{Origin}
+use Rattle.it_problems.specs.Problems.{ProblemView}
 use Rattle.it_space.specs.Rows.{Terms}
 use Rattle.it_space.specs.Spaces.{IsSpace, size_of}
 use Rattle.it_space.proofs.EveryLemmas.{every_of, all_of, every-append}

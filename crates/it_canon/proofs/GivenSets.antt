@@ -5,8 +5,8 @@ use Rattle.std.proofs.lemmas.Nat.{or_lt, pow_pos}
 use Rattle.std.proofs.lemmas.List.Elements.{All-nil, All-cons, All-head, All-tail, All-append}
 use Rattle.std.proofs.lemmas.Bool.{cases_lt}
 use Rattle.it_space.specs.declared.spaces.Space.{Space}
-use Rattle.it_space.specs.declared.problems.Constraint.{Constraint}
-use Rattle.it_space.specs.declared.problems.Origin.{Origin}
+use Rattle.it_problems.specs.declared.problems.Constraint.{Constraint}
+use Rattle.it_problems.specs.declared.problems.Origin.{Origin}
 use Rattle.it_space.specs.Rows.{Terms, Ascends, IsOver, coefficient, one_at}
 use Rattle.it_space.specs.Spaces.{size_of}
 use Rattle.it_space.proofs.CanonicalRows.{head_is, other_is}

@@ -2,9 +2,9 @@
 use Rattle.std.proofs.Common.{◌≡◌, ◌↔◌, ℕ, ℤ, pos, List, flat_map, map}
 use Rattle.std.proofs.lemmas.List.Elements.{All-append}
 use Rattle.it_space.specs.declared.spaces.Space.{Space}
-use Rattle.it_space.specs.declared.problems.Constraint.{Constraint}
-use Rattle.it_space.specs.declared.problems.Origin.{Origin}
-use Rattle.it_space.specs.Problems.{AreMet}
+use Rattle.it_problems.specs.declared.problems.Constraint.{Constraint}
+use Rattle.it_problems.specs.declared.problems.Origin.{Origin}
+use Rattle.it_problems.specs.Problems.{AreMet}
 use Rattle.it_question.specs.Questions.{OwnLinesView}
 use Rattle.it_demand.specs.Demands.{demand_of, demands}
 use Rattle.it_demand.specs.Origins.{AreStated}

@@ -1,8 +1,8 @@
 -- The problem that a question poses is the one that states its demands; and rows are as many as their forms.
 use Rattle.std.proofs.Common.{◌≡◌, suc, List, [], ◌∷◌, map, zip, length, refl, ap, ap₂, subst}
-use Rattle.it_space.specs.declared.problems.Constraint.{Constraint}
+use Rattle.it_problems.specs.declared.problems.Constraint.{Constraint}
 use Rattle.it_space.specs.declared.spaces.Space.{Space}
-use Rattle.it_space.specs.Problems.{ProblemView}
+use Rattle.it_problems.specs.Problems.{ProblemView}
 use Rattle.it_space.specs.Rows.{Terms}
 use Rattle.it_polymatroid.specs.Certificates.{Form}
 use Rattle.it_demand.specs.Origins.{AreStated}

@@ -14,7 +14,7 @@ use Rattle.it_space.specs.Answers.{CertificateView}
 use Rattle.it_space.specs.Answers.AnswerView.{Region}
 use Rattle.it_space.specs.Cancelling.{times_up, times_down, cancelled_row, CancelFits}
 use Rattle.it_space.specs.Divisors.{lowest_terms}
-use Rattle.it_space.specs.Problems.{ProblemView}
+use Rattle.it_problems.specs.Problems.{ProblemView}
 use Rattle.it_space.specs.Rows.{Terms, Ascends, IsCanonical, IsOver, coefficient}
 use Rattle.it_space.specs.Spaces.{size_of}
 use Rattle.it_space.proofs.CanonicalRows.{other_is, Rises, none_under, first_is}

@@ -20,7 +20,8 @@ use it_certificate::{answer_json, derived_json};
 use it_origins::origin;
 use it_question::types::Question;
 use it_rates::problem_of_lines;
-use it_space::{Answer, Certificate, Mark, Problem, Row};
+use it_problems::Problem;
+use it_space::{Answer, Certificate, Mark, Row};
 use std::alloc::{AllocError, Global};
 
 /// The line of an answer in the format `json`.

@@ -6,7 +6,8 @@ ghost use Rattle.it_closure.specs.Reading.{are_ends, ends_of, is_given, is_minus
 ghost use Rattle.it_space.specs.Spaces.{most_variables};
 
 use crate::dependences::Dependence;
-use it_space::{Constraint, Kind, Origin, VarSet};
+use it_problems::{Constraint, Kind, Origin};
+use it_space::VarSet;
 use std::alloc::{AllocError, Global};
 
 /// The sets of a row h(to) - h(from), or of its negation, by their coordinates.

@@ -8,7 +8,8 @@ ghost use Rattle.it_space.specs.Spaces.{most_variables};
 
 use crate::inequalities::count;
 use crate::rows::coefficient;
-use it_space::{Kind, Problem, VarSet};
+use it_problems::{Kind, Problem};
+use it_space::VarSet;
 
 /// The number of generators of `problem`.
 pub fn generator_count(problem: &Problem) -> u32

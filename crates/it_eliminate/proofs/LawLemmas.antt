@@ -1,8 +1,8 @@
 -- Elimination has one end, and a region that it ends with is the projection.
 use Rattle.std.proofs.Common.{◌≡◌, inl, inr, ◌↔◌, ℕ, ◌+◌, ◌^◌, sym, ap, subst, ◌∙◌, arith, List, [], ◌∷◌, map, All}
-use Rattle.it_space.specs.declared.problems.System.{System}
+use Rattle.it_problems.specs.declared.problems.System.{System}
 use Rattle.it_space.specs.declared.spaces.Space.{Space}
-use Rattle.it_space.specs.Problems.{IsSystem}
+use Rattle.it_problems.specs.Problems.{IsSystem}
 use Rattle.it_space.specs.Rows.{Terms, IsOver}
 use Rattle.it_space.specs.Spaces.{IsSpace, size_of}
 use Rattle.it_eliminate.specs.Elimination.{EliminatedView, Region, Rows, Wide, next_list, EliminationEnds, ordered_rows, list_after}

@@ -4,7 +4,8 @@ ghost use Rattle.it_space.specs.Rows.{IsOver, most_system_rows};
 ghost use Rattle.it_space.specs.Spaces.{size_of};
 ghost use Rattle.it_eliminate.specs.RowLines.{row_constraints, with_rows};
 
-use it_space::{Constraint, Kind, Origin, Problem, Row};
+use it_problems::{Constraint, Kind, Origin, Problem};
+use it_space::Row;
 use std::alloc::{AllocError, Global};
 
 /// `row` as the constraint of the `row` line number `line`, counted from 1.

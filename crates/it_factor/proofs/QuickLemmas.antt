@@ -5,7 +5,7 @@ use Rattle.it_number.proofs.Integers.{mul_comm, zring}
 use Rattle.it_rational.specs.Rational.{Rational, quotient, signed_quotient}
 use Rattle.it_rational.proofs.Names.{quotient_names}
 use Rattle.it_space.specs.Answers.{CertificateView}
-use Rattle.it_space.specs.Problems.{ProblemView, IsProblem}
+use Rattle.it_problems.specs.Problems.{ProblemView, IsProblem}
 use Rattle.it_space.specs.Rows.{Terms, IsOver, point_of, negated_terms, value}
 use Rattle.it_space.specs.Spaces.{size_of}
 use Rattle.it_space.proofs.TermLemmas.{value-negated_terms}

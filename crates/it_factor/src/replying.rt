@@ -24,7 +24,8 @@ use it_canon::{problem, sides};
 use it_prove::{Effort, budget_of};
 use it_question::types::{Question, Verb};
 use it_ratio::types::Best;
-use it_space::{Problem, Row};
+use it_problems::Problem;
+use it_space::Row;
 use it_syntax::types::{Relation, Sign};
 use std::alloc::{AllocError, Global};
 

@@ -1,6 +1,6 @@
 //! Replies with their problems.
 use it_ratio::types::Best;
-use it_space::Problem;
+use it_problems::Problem;
 
 /// A reply to a question in mode `best`.
 #[derive(Drop)]

@@ -7,10 +7,10 @@ use Rattle.it_number.proofs.Integers.{zring, mul_assoc}
 use Rattle.it_number.proofs.IntegerRing.{ring_ℤ}
 use Rattle.it_number.proofs.Ring.{ring, v as var, plus, times}
 use Rattle.it_number.proofs.SignLemmas.{product_least, sum_least, least_by_multiple}
-use Rattle.it_space.specs.declared.problems.Constraint.{Constraint}
-use Rattle.it_space.specs.declared.problems.Kind.{Kind}
-use Rattle.it_space.specs.declared.problems.Kind.TheVariants.{Inequality, Equation}
-use Rattle.it_space.specs.Problems.{Meets, IsMet, AreMet}
+use Rattle.it_problems.specs.declared.problems.Constraint.{Constraint}
+use Rattle.it_problems.specs.declared.problems.Kind.{Kind}
+use Rattle.it_problems.specs.declared.problems.Kind.TheVariants.{Inequality, Equation}
+use Rattle.it_problems.specs.Problems.{Meets, IsMet, AreMet}
 use Rattle.it_space.specs.Rows.{Terms, value, point_of}
 use Rattle.it_space.proofs.EveryLemmas.{all_of, every_of}
 use Rattle.it_polymatroid.specs.Polymatroid.{IsPolymatroid}

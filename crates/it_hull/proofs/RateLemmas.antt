@@ -8,10 +8,10 @@ use Rattle.std.proofs.lemmas.Nat.{pow_pos, or_lt, and_le_l}
 use Rattle.std.proofs.lemmas.Bool.{ltb-true, ltb-false}
 use Rattle.std.proofs.lemmas.List.Elements.{All-nil, All-cons, All-head, All-tail}
 use Rattle.std.proofs.Math.IntN.{*ℤ-zero}
-use Rattle.it_space.specs.declared.problems.Constraint.{Constraint}
-use Rattle.it_space.specs.declared.problems.Kind.{Kind}
-use Rattle.it_space.specs.declared.problems.Kind.TheVariants.{Inequality, Equation}
-use Rattle.it_space.specs.Problems.{Meets, IsMet, AreMet}
+use Rattle.it_problems.specs.declared.problems.Constraint.{Constraint}
+use Rattle.it_problems.specs.declared.problems.Kind.{Kind}
+use Rattle.it_problems.specs.declared.problems.Kind.TheVariants.{Inequality, Equation}
+use Rattle.it_problems.specs.Problems.{Meets, IsMet, AreMet}
 use Rattle.it_space.specs.declared.spaces.Space.{Space}
 use Rattle.it_space.specs.Rows.{Terms, IsOver, value}
 use Rattle.it_space.specs.Spaces.{size_of}

@@ -9,9 +9,9 @@ use Rattle.std.proofs.lemmas.Nat.{pow_pos}
 use Rattle.std.proofs.lemmas.List.{get_or_default}
 use Rattle.std.proofs.lemmas.List.Elements.{AllWithin-more}
 use Rattle.std.proofs.Math.IntN.{*ℤ-zero}
-use Rattle.it_space.specs.declared.problems.System.{System}
+use Rattle.it_problems.specs.declared.problems.System.{System}
 use Rattle.it_space.specs.declared.spaces.Space.{Space}
-use Rattle.it_space.specs.Problems.{IsSystem}
+use Rattle.it_problems.specs.Problems.{IsSystem}
 use Rattle.it_space.specs.Rows.{Terms, IsOver, coefficient, one_at, value, point_of}
 use Rattle.it_space.specs.Spaces.{size_of}
 use Rattle.it_space.proofs.EveryLemmas.{all_of, every_of, every-append, every-map, every-same}

@@ -3,7 +3,8 @@ ghost use Rattle.std.specs.Prelude.{◌≡◌, ◌<◌, IfOk};
 ghost use Rattle.it_space.specs.Spaces.{IsSpace, most_variables};
 ghost use Rattle.it_hull.specs.Constants.{constant_line, constants};
 
-use it_space::{Constraint, Kind, Origin, Problem, Row, Space};
+use it_problems::{Constraint, Kind, Origin, Problem};
+use it_space::{Row, Space};
 use std::alloc::{AllocError, Global};
 
 /// The constraint of the line that says that `variable`, counted from 0, is constant.

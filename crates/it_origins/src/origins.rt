@@ -9,7 +9,8 @@ ghost use Rattle.it_origins.specs.Origins.{IsOfConstraint, IsOrigin};
 use crate::search::{Choice, short_sum};
 use it_check::{Verdict, check_yes};
 use it_elemental::count;
-use it_space::{Certificate, Problem, Row};
+use it_problems::Problem;
+use it_space::{Certificate, Row};
 use std::alloc::{AllocError, Global};
 
 /// The certificate of a sum of constraints, numbered after the `elementals` elemental inequalities; `None` if a number of it is too

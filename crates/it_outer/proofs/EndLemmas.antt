@@ -1,7 +1,7 @@
 -- Without a quick run a search has one end.
 use Rattle.std.proofs.Common.{◌≡◌, inl, inr, ℕ, zero, suc, ◌-◌, ◌^◌, ℤ, List, [], ◌∷◌, ◌++◌, length, false, refl, sym, ap, subst, ◌∙◌}
 use Rattle.it_space.specs.Answers.{CertificateView}
-use Rattle.it_space.specs.Problems.{ProblemView}
+use Rattle.it_problems.specs.Problems.{ProblemView}
 use Rattle.it_space.specs.Rows.{Terms}
 use Rattle.it_eliminate.specs.Elimination.{EliminatedView}
 use Rattle.it_eliminate.specs.Elimination as elimination

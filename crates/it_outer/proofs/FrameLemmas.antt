@@ -3,7 +3,7 @@ use Rattle.std.proofs.Common.{◌≡◌, ℕ, zero, suc, ◌+◌, ◌^◌, ◌<�
 use Rattle.std.specs.List.{list_any}
 use Rattle.std.proofs.lemmas.Nat.{pow_pos}
 use Rattle.it_space.specs.declared.spaces.Space.{Space}
-use Rattle.it_space.specs.Problems.{ProblemView, IsProblem}
+use Rattle.it_problems.specs.Problems.{ProblemView, IsProblem}
 use Rattle.it_space.specs.Spaces.{size_of}
 use Rattle.it_space.proofs.EveryLemmas.{all_of, every-same}
 use Rattle.it_outer.specs.declared.types.Frame.{Frame}

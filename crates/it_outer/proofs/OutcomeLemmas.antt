@@ -8,7 +8,7 @@ use Rattle.std.specs.Map.{lookup}
 use Rattle.indexmap.specs.IndexMap.{insert_entry}
 use Rattle.it_space.specs.declared.answers.Certificate.{Certificate}
 use Rattle.it_space.specs.Answers.{certificate_view}
-use Rattle.it_space.specs.Problems.{ProblemView}
+use Rattle.it_problems.specs.Problems.{ProblemView}
 use Rattle.it_space.specs.Rows.{Terms}
 use Rattle.it_space.proofs.BoolLemmas.{both_true}
 use Rattle.it_space.proofs.OptionLemmas.{some_same}

@@ -14,7 +14,8 @@ use crate::outcomes::Outcomes;
 use crate::passes::pass;
 use crate::types::{Bounds, Frame, Limits, Outer, OuterCause};
 use it_hull::{constants, kept_coordinates};
-use it_space::{Problem, RowFault};
+use it_problems::Problem;
+use it_space::RowFault;
 use std::alloc::{AllocError, Global};
 
 /// The frame of the search for bounds of `problem` without the rates in `gone`.

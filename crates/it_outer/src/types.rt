@@ -1,6 +1,7 @@
 //! The limits and the results of a search for outer bounds.
 use it_prove::Effort;
-use it_space::{Cause, Certificate, Point, Problem, Row, System};
+use it_problems::{Problem, System};
+use it_space::{Cause, Certificate, Point, Row};
 
 /// The limits of a search.
 #[derive(Clone, Copy, Debug, PartialEq, Eq)]

@@ -1,7 +1,7 @@
 -- Steps of texts.
 use Rattle.std.proofs.Common.{◌≡◌, ℕ, ◌<◌, ◌≤◌, ◌*◌, ◌%◌, ◌^◌, ◌-◌, List, ◌∷◌, ◌++◌, ◌+◌, Some, Bool, true, false, if◌then◌else◌, sym, ap, ◌∙◌, arith, append_assoc, append-nil, codes, ◌||◌, drop, [], ℤ, map, filter, cond, refl}
 use Rattle.it_space.specs.Answers.{is_nonzero_weight}
-use Rattle.it_space.specs.declared.problems.Origin.{Origin}
+use Rattle.it_problems.specs.declared.problems.Origin.{Origin}
 use Rattle.std.specs.List.{slice_get}
 use Rattle.std.proofs.lemmas.List.{drop_more}
 use Rattle.std.proofs.lemmas.Option.{slice_get_within, get_or_from_slice_get}

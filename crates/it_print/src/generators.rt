@@ -7,7 +7,8 @@ ghost use Rattle.it_space.specs.Spaces.{most_variables};
 use crate::pieces::write_number;
 use crate::sets::{write_given, write_set};
 use it_elemental::{Elemental, count, parts};
-use it_space::{Constraint, Origin, VarSet};
+use it_problems::{Constraint, Origin};
+use it_space::VarSet;
 use it_syntax::Names;
 use std::alloc::AllocError;
 

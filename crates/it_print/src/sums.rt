@@ -10,7 +10,8 @@ use crate::generators::write_generator;
 use crate::pieces::{write_if, write_signed};
 use it_canon::problem_names;
 use it_question::types::Question;
-use it_space::{Certificate, Constraint, is_nonzero_weight};
+use it_problems::Constraint;
+use it_space::{Certificate, is_nonzero_weight};
 use it_syntax::Names;
 use std::alloc::{AllocError, Global};
 

@@ -11,7 +11,7 @@ use Rattle.std.proofs.Math.IntN.{+ℤ_idl, +ℤ_idr}
 use Rattle.it_rational.specs.Rational.{Rational, integer, times, is_at_least_zero}
 use Rattle.it_rational.proofs.RationalLaws.{ring_ℚ}
 use Rattle.it_space.specs.declared.spaces.Space.{Space}
-use Rattle.it_space.specs.Problems.{ProblemView, IsProblem, Meets}
+use Rattle.it_problems.specs.Problems.{ProblemView, IsProblem, Meets}
 use Rattle.it_space.specs.Rows.{Terms, Ascends, IsOver, coefficient, point_of, value, single_term}
 use Rattle.it_space.specs.Spaces.{size_of}
 use Rattle.it_space.proofs.EveryLemmas.{every_of, all_of, every-same, every-map, every_mapped, every_all}

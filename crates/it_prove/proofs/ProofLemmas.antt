@@ -9,7 +9,7 @@ use Rattle.it_rational.proofs.Field.{field_ℚ}
 use Rattle.it_space.specs.declared.answers.Cause.{Cause}
 use Rattle.it_space.specs.declared.answers.Cause.TheVariants.{Scale}
 use Rattle.it_space.specs.declared.answers.Cause.TheVariants as causes
-use Rattle.it_space.specs.Problems.{ProblemView, IsProblem}
+use Rattle.it_problems.specs.Problems.{ProblemView, IsProblem}
 use Rattle.it_space.specs.Answers.{CertificateView}
 use Rattle.it_space.specs.Rows.{Terms, IsCanonical, IsOver, coefficient, point_of}
 use Rattle.it_space.specs.Spaces.{size_of}

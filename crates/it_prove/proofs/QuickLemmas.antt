@@ -1,7 +1,7 @@
 -- What the check finds valid is settled.
 use Rattle.std.proofs.Common.{◌≡◌, ℤ, List, length, All, sym}
 use Rattle.it_number.specs.Limit.{IsWithin}
-use Rattle.it_space.specs.Problems.{ProblemView, IsProblem}
+use Rattle.it_problems.specs.Problems.{ProblemView, IsProblem}
 use Rattle.it_space.specs.Answers.{CertificateView}
 use Rattle.it_space.specs.Rows.{Terms, IsOver, IsCanonical, point_of}
 use Rattle.it_space.specs.Spaces.{size_of}

@@ -10,7 +10,8 @@ ghost use Rattle.it_space.specs.Spaces.{most_variables};
 
 use crate::numbers::at;
 use it_closure::Dependences;
-use it_space::{Problem, Row, VarSet};
+use it_problems::Problem;
+use it_space::{Row, VarSet};
 use std::alloc::{AllocError, Global};
 
 /// The set of the first `n` variables.

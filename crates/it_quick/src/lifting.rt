@@ -16,7 +16,8 @@ use it_elemental::{
     Elemental, count, expand_conditional, expand_mutual, generator_count, parts, row,
 };
 use it_fraction::Wide;
-use it_space::{Certificate, Problem, Row, RowFault, VarSet, with_product};
+use it_problems::Problem;
+use it_space::{Certificate, Row, RowFault, VarSet, with_product};
 use it_vectors::{common_divisor, short_product};
 use std::alloc::{AllocError, Global};
 

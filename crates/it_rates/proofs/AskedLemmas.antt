@@ -1,7 +1,7 @@
 -- The problem that all lines of a question pose, and where it is met.
 use Rattle.std.proofs.Common.{◌≡◌, ◌≤◌, ℕ, ℤ, List, length, Some, refl, sym, subst, arith}
 use Rattle.it_space.specs.declared.spaces.Space.{Space}
-use Rattle.it_space.specs.Problems.{ProblemView}
+use Rattle.it_problems.specs.Problems.{ProblemView}
 use Rattle.it_polymatroid.specs.Polymatroid.{IsPolymatroid}
 use Rattle.it_question.specs.Limits.{AreRatesOf, IsQuestion, IsVerbOver}
 use Rattle.it_question.specs.Questions.{BodyView, VerbView, Prove, Eliminate, Contain}

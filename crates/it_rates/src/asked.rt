@@ -7,7 +7,7 @@ ghost use Rattle.it_rates.specs.Asked.{gone_rates, under_all_lines};
 
 use it_question::line_constraints;
 use it_question::types::{Question, Verb};
-use it_space::Problem;
+use it_problems::Problem;
 use std::alloc::{AllocError, Global};
 
 /// The rates that a verb eliminates; none where it asks for something else.

@@ -2,9 +2,9 @@
 -- the givens serves the problem with the rows.
 use Rattle.std.proofs.Common.{◌≡◌, ℕ, zero, suc, ◌+◌, ◌≤◌, List, [], ◌∷◌, ◌++◌, length, map, take, refl, sym, ap, subst, ◌∙◌, arith, append_assoc, length-append}
 use Rattle.std.proofs.lemmas.List.{map-append, get_or_append_left}
-use Rattle.it_space.specs.declared.problems.Constraint.{Constraint}
-use Rattle.it_space.specs.declared.problems.Kind.TheVariants.{Inequality}
-use Rattle.it_space.specs.Problems.{ProblemView}
+use Rattle.it_problems.specs.declared.problems.Constraint.{Constraint}
+use Rattle.it_problems.specs.declared.problems.Kind.TheVariants.{Inequality}
+use Rattle.it_problems.specs.Problems.{ProblemView}
 use Rattle.it_space.specs.Rows.{Terms}
 use Rattle.it_polymatroid.specs.Elementals.{elementals}
 use Rattle.it_elemental.specs.Generators.{Generator, of_elemental, of_constraint, generator_list, generators}

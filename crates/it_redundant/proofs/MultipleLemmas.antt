@@ -5,10 +5,10 @@ use Rattle.std.proofs.lemmas.Nat.{pow_pos, or_lt, and_le_l}
 use Rattle.std.proofs.lemmas.List.Elements.{All-nil, All-cons, All-head, All-tail}
 use Rattle.it_number.proofs.Integers.{zring, sum_of_multiples}
 use Rattle.it_number.proofs.SignLemmas.{product_least}
-use Rattle.it_space.specs.declared.problems.Constraint.{Constraint}
-use Rattle.it_space.specs.declared.problems.Kind.{Kind}
-use Rattle.it_space.specs.declared.problems.Kind.TheVariants.{Inequality, Equation}
-use Rattle.it_space.specs.Problems.{ProblemView, Meets, IsMet, AreMet}
+use Rattle.it_problems.specs.declared.problems.Constraint.{Constraint}
+use Rattle.it_problems.specs.declared.problems.Kind.{Kind}
+use Rattle.it_problems.specs.declared.problems.Kind.TheVariants.{Inequality, Equation}
+use Rattle.it_problems.specs.Problems.{ProblemView, Meets, IsMet, AreMet}
 use Rattle.it_space.specs.Rows.{Terms, IsOver, value}
 use Rattle.it_space.proofs.SetLemmas.{inside_below}
 use Rattle.it_polymatroid.specs.Polymatroid.{IsPolymatroid}

@@ -1,9 +1,9 @@
 -- Rows that are taken out of the constraints of a problem, and put back.
 use Rattle.std.proofs.Common.{◌≡◌, ℕ, suc, ◌+◌, List, [], ◌∷◌, ◌++◌, length, take, drop, refl, sym, ap, ap₂, subst, ◌∙◌, arith, append_assoc, length-append}
 use Rattle.std.proofs.Math.Seq.{take-append_seam, drop-append_seam}
-use Rattle.it_space.specs.declared.problems.Constraint.{Constraint}
-use Rattle.it_space.specs.declared.problems.Kind.TheVariants.{Inequality}
-use Rattle.it_space.specs.declared.problems.Origin.TheVariants.{Rate}
+use Rattle.it_problems.specs.declared.problems.Constraint.{Constraint}
+use Rattle.it_problems.specs.declared.problems.Kind.TheVariants.{Inequality}
+use Rattle.it_problems.specs.declared.problems.Origin.TheVariants.{Rate}
 use Rattle.it_space.specs.Rows.{Terms}
 use Rattle.it_eliminate.specs.RowLines.{row_constraints}
 use Rattle.it_redundant.specs.ReductionSteps.{numbered}

@@ -1,7 +1,7 @@
 -- A cause of reduced elimination is one of plain elimination: rate after rate its list is a part of the plain one.
 use Rattle.std.proofs.Common.{◌≡◌, inl, inr, ℕ, ◌+◌, ◌^◌, List, [], ◌∷◌, refl, sym, ap, subst, arith}
 use Rattle.it_space.specs.Answers.{CertificateView}
-use Rattle.it_space.specs.Problems.{ProblemView}
+use Rattle.it_problems.specs.Problems.{ProblemView}
 use Rattle.it_space.specs.Rows.{Terms}
 use Rattle.it_eliminate.specs.Elimination.{EliminatedView, EliminationEnds, ordered_rows, next_list, results}
 use Rattle.it_eliminate.proofs.MemberLemmas.{Member, all_member, member_all}

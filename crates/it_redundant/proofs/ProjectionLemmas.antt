@@ -1,10 +1,10 @@
 -- Reduced elimination rate after rate: it has one end, and a region is the projection.
 use Rattle.std.proofs.Common.{◌≡◌, inl, inr, ℕ, ◌+◌, ◌<◌, ◌≤◌, ◌^◌, ℤ, List, [], ◌∷◌, map, length, drop, get_or, refl, sym, ap, subst, ◌∙◌, arith, All, Result, Ok, Err, IfOk}
 use Rattle.it_space.proofs.ListLemmas.{drop_item}
-use Rattle.it_space.specs.declared.problems.System.{System}
+use Rattle.it_problems.specs.declared.problems.System.{System}
 use Rattle.it_space.specs.declared.spaces.Space.{Space}
 use Rattle.it_space.specs.Answers.{CertificateView}
-use Rattle.it_space.specs.Problems.{ProblemView, IsProblem, IsSystem}
+use Rattle.it_problems.specs.Problems.{ProblemView, IsProblem, IsSystem}
 use Rattle.it_space.specs.Rows.{Terms, IsOver}
 use Rattle.it_space.specs.Spaces.{IsSpace, size_of}
 use Rattle.it_eliminate.specs.Elimination.{EliminatedView, EliminationEnds, ordered_rows, next_list, list_after}

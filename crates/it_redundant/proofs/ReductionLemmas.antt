@@ -3,7 +3,7 @@ use Rattle.std.proofs.Common.{◌≡◌, ℕ, suc, ◌+◌, ◌≤◌, ℤ, pos,
 use Rattle.std.proofs.lemmas.List.{map-append}
 use Rattle.std.proofs.lemmas.List.Elements.{All-nil, All-cons, All-head, All-tail, All-append}
 use Rattle.it_space.specs.Answers.{CertificateView}
-use Rattle.it_space.specs.Problems.{ProblemView, IsProblem, IsMet}
+use Rattle.it_problems.specs.Problems.{ProblemView, IsProblem, IsMet}
 use Rattle.it_space.specs.Rows.{Terms, IsOver, point_of, value}
 use Rattle.it_space.specs.Spaces.{size_of}
 use Rattle.it_eliminate.specs.Projections.{IsPointOf}

@@ -2,8 +2,8 @@
 use Rattle.std.specs.Prelude.{◌≡◌, ◌≤◌, ℤ, List, [], ◌∷◌, ◌++◌, length, map}
 use Rattle.it_space.specs.declared.answers.Cause.{Cause}
 use Rattle.it_space.specs.Answers.{CertificateView, certificate_view}
-use Rattle.it_space.specs.declared.problems.System.{System}
-use Rattle.it_space.specs.Problems.{ProblemView, IsProblem, IsSystem}
+use Rattle.it_problems.specs.declared.problems.System.{System}
+use Rattle.it_problems.specs.Problems.{ProblemView, IsProblem, IsSystem}
 use Rattle.it_space.specs.Rows.{Terms, most_system_rows}
 use Rattle.it_eliminate.specs.RowLines.{with_rows}
 use Rattle.it_prove.specs.ProofViews.{ProofView, Yes, No, Undecided, EndsWith}

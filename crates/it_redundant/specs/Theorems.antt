@@ -1,7 +1,7 @@
 -- Laws of reduction.
 use Rattle.std.specs.Prelude.{◌≡◌, ◌↔◌, ℕ, ◌+◌, ◌-◌, ◌^◌, ◌≤◌, ℤ, neg_ℤ, pos, ◌≤ℤ◌, List, [], ◌++◌, ◌∷◌, length, map, All, Contains, false}
 use Rattle.it_space.specs.Answers.{CertificateView}
-use Rattle.it_space.specs.Problems.{ProblemView, AreMet, IsProblem}
+use Rattle.it_problems.specs.Problems.{ProblemView, AreMet, IsProblem}
 use Rattle.it_space.specs.Rows.{Terms, IsOver, point_of, value, most_system_rows}
 use Rattle.it_space.specs.Spaces.{size_of}
 use Rattle.it_polymatroid.specs.Polymatroid.{IsPolymatroid}

@@ -4,7 +4,8 @@ ghost use Rattle.it_redundant.specs.ReductionSteps.{IsInserted, IsRemoved, numbe
 ghost use Rattle.it_space.specs.Rows.{most_system_rows};
 
 use it_eliminate::row_constraint;
-use it_space::{Constraint, Origin, Row};
+use it_problems::{Constraint, Origin};
+use it_space::Row;
 use std::alloc::{AllocError, Global};
 
 /// Numbers the constraints from `place` on as `row` lines, from number `line` on.

@@ -11,7 +11,8 @@ use crate::reduction::reduce;
 use crate::types::{Projected, Reduced};
 use it_eliminate::{Eliminated, step};
 use it_prove::Effort;
-use it_space::{Problem, Space, System};
+use it_problems::{Problem, System};
+use it_space::Space;
 use std::alloc::{AllocError, Global};
 
 /// Eliminates `rates` from `system`, in the order of their list, and reduces the list of rows after each rate. A rate's step may leave

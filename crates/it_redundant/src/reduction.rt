@@ -14,7 +14,8 @@ use crate::others::{insert_row, remove_row};
 use crate::types::{Need, Reduced};
 use it_eliminate::problem_with;
 use it_prove::{ClosedProblem, Effort, Proof};
-use it_space::{Certificate, Problem, Row, System};
+use it_problems::{Problem, System};
+use it_space::{Certificate, Row};
 use std::alloc::{AllocError, Global};
 
 /// Reduces the rows of `system`: visits them in order, each as the target of a run under the givens and all other rows that are still

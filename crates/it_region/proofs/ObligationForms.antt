@@ -2,9 +2,9 @@
 use Rattle.std.proofs.Common.{◌≡◌, ℕ, ◌+◌, ◌≤◌, ℤ, ◌+ℤ◌, ◌*ℤ◌, unsigned_abs, List, [], ◌∷◌, refl, ap, ◌∙◌, arith}
 use Rattle.std.specs.List.{AllByRecursion as Every}
 use Rattle.it_demand.specs.Targets.{inequalities_of}
-use Rattle.it_space.specs.declared.problems.Constraint.{Constraint}
-use Rattle.it_space.specs.declared.problems.Kind.{Kind}
-use Rattle.it_space.specs.declared.problems.Kind.TheVariants.{Inequality, Equation}
+use Rattle.it_problems.specs.declared.problems.Constraint.{Constraint}
+use Rattle.it_problems.specs.declared.problems.Kind.{Kind}
+use Rattle.it_problems.specs.declared.problems.Kind.TheVariants.{Inequality, Equation}
 use Rattle.it_space.specs.Rows.{Terms, IsOver, value, row_mass}
 use Rattle.it_space.proofs.EveryLemmas.{every_of, every-append}
 use Rattle.it_polymatroid.specs.Certificates.{Form}

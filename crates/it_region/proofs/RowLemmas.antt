@@ -7,10 +7,10 @@ use Rattle.it_demand.specs.Targets.{inequalities_of}
 use Rattle.it_number.proofs.Integers.{zring}
 use Rattle.it_space.proofs.ListLemmas.{drop_item}
 use Rattle.it_space.specs.declared.spaces.Space.{Space}
-use Rattle.it_space.specs.declared.problems.Kind.{Kind}
-use Rattle.it_space.specs.declared.problems.Kind.TheVariants.{Inequality, Equation}
-use Rattle.it_space.specs.declared.problems.Constraint.{Constraint}
-use Rattle.it_space.specs.Problems.{Meets, IsMet, AreMet}
+use Rattle.it_problems.specs.declared.problems.Kind.{Kind}
+use Rattle.it_problems.specs.declared.problems.Kind.TheVariants.{Inequality, Equation}
+use Rattle.it_problems.specs.declared.problems.Constraint.{Constraint}
+use Rattle.it_problems.specs.Problems.{Meets, IsMet, AreMet}
 use Rattle.it_space.specs.Rows.{Terms, IsCanonical, IsOver, value, row_mass}
 use Rattle.it_space.specs.Spaces.{size_of}
 use Rattle.it_polymatroid.specs.Certificates.{Form}

@@ -5,9 +5,9 @@ use Rattle.std.proofs.Math.Seq.{take-append_seam}
 use Rattle.std.proofs.lemmas.List.{length-take-le, take-take}
 use Rattle.it_demand.specs.Targets.{inequalities_of}
 use Rattle.it_space.specs.declared.spaces.Space.{Space}
-use Rattle.it_space.specs.declared.problems.Kind.{Kind}
-use Rattle.it_space.specs.declared.problems.Kind.TheVariants.{Inequality, Equation}
-use Rattle.it_space.specs.declared.problems.Constraint.{Constraint}
+use Rattle.it_problems.specs.declared.problems.Kind.{Kind}
+use Rattle.it_problems.specs.declared.problems.Kind.TheVariants.{Inequality, Equation}
+use Rattle.it_problems.specs.declared.problems.Constraint.{Constraint}
 use Rattle.it_space.specs.Rows.{Terms, one_at, value}
 use Rattle.it_space.specs.Spaces.{size_of}
 use Rattle.it_space.specs.Sums.{terms_from}

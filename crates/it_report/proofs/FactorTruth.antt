@@ -5,7 +5,7 @@ use Rattle.std.proofs.lemmas.Bool.{true≢false}
 use Rattle.std.proofs.lemmas.Int.{ints}
 use Rattle.it_space.specs.declared.spaces.Space.{Space}
 use Rattle.it_space.specs.Answers.{CertificateView}
-use Rattle.it_space.specs.Problems.{ProblemView, AreMet}
+use Rattle.it_problems.specs.Problems.{ProblemView, AreMet}
 use Rattle.it_space.specs.Rows.{Terms, IsOver, one_at, point_of, value}
 use Rattle.it_space.specs.Spaces.{size_of}
 use Rattle.it_space.proofs.OptionLemmas.{some_same}

@@ -10,9 +10,9 @@ use Rattle.it_eliminate.proofs.OrderLemmas.{RowLacks}
 use Rattle.it_eliminate.specs.declared.types.Eliminated.{Eliminated}
 use Rattle.it_eliminate.specs.declared.types.Eliminated.TheVariants as eliminated
 use Rattle.it_eliminate.specs.Views.{eliminated_view}
-use Rattle.it_space.specs.declared.problems.System.{System}
+use Rattle.it_problems.specs.declared.problems.System.{System}
 use Rattle.it_space.specs.declared.spaces.Space.{Space}
-use Rattle.it_space.specs.Problems.{ProblemView}
+use Rattle.it_problems.specs.Problems.{ProblemView}
 use Rattle.it_space.proofs.ListLemmas.{drop_item}
 use Rattle.it_hull.specs.Constants.{constants}
 use Rattle.it_hull.specs.Hulls.{IsHull, first_rows}

@@ -9,7 +9,8 @@ ghost use Rattle.it_spans.specs.Drops.{after_drops, drop_fault, drop_verdict, dr
 use crate::types::{Fault, RowDrop};
 use it_check::{Verdict, check_yes};
 use it_eliminate::problem_with;
-use it_space::{Problem, Row};
+use it_problems::Problem;
+use it_space::Row;
 use std::alloc::{AllocError, Global};
 
 /// Removes the row of `drop` from `rows`, and returns the verdict on its certificate that the row follows from those that are left.

@@ -12,7 +12,8 @@ use crate::drops::drop_rows;
 use crate::types::{Fault, Frame, RowDrop, Spanned, Step};
 use it_eliminate::Eliminated;
 use it_hull::{constants, first_rows, with_ray};
-use it_space::{Problem, Row, System};
+use it_problems::{Problem, System};
+use it_space::Row;
 use std::alloc::{AllocError, Global};
 
 /// Consumes the system and returns its rows.

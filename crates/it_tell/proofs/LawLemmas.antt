@@ -6,7 +6,7 @@ use Rattle.it_outside.specs.Groups.{Groups}
 use Rattle.it_outside.specs.Traffic.{Gains, Gave}
 use Rattle.it_outside.proofs.LawLemmas.{end_comes_last}
 use Rattle.it_space.specs.declared.answers.Mark.{Mark}
-use Rattle.it_space.specs.declared.problems.Kind.TheVariants.{Inequality}
+use Rattle.it_problems.specs.declared.problems.Kind.TheVariants.{Inequality}
 use Rattle.it_space.specs.Answers.{AnswerView, CertificateView}
 use Rattle.it_space.specs.Answers.AnswerView.{Yes, No, Undecided, Region, Contained, Open}
 use Rattle.it_space.specs.Rows.{Terms}

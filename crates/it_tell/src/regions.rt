@@ -1,7 +1,7 @@
 //! The lines below the first one of a region: its rows.
 ghost use Rattle.std.specs.Prelude.{◌≡◌, ◌≤◌, ◌^◌, ◌++◌, length, map, codes, not, nat_lt, All, IfOk, IfSome, OnOk};
 ghost use Rattle.std.specs.List.{insert};
-ghost use Rattle.it_space.specs.declared.problems.Kind.TheVariants.{Inequality};
+ghost use Rattle.it_problems.specs.declared.problems.Kind.TheVariants.{Inequality};
 ghost use Rattle.it_question.specs.Limits.{IsQuestion};
 ghost use Rattle.it_question.specs.Questions.{question_body};
 ghost use Rattle.it_question.specs.ProblemLines.{problem_names};
@@ -17,7 +17,8 @@ use crate::settings::{Options, Style, is_plain};
 use it_canon::problem_names;
 use it_print::row_text;
 use it_question::types::Question;
-use it_space::{Kind, Mark, Row};
+use it_problems::Kind;
+use it_space::{Mark, Row};
 use it_terms::{PrintedRow, printed_row, row_comment, row_origin, told_row};
 use std::alloc::{AllocError, Global};
 

@@ -3,13 +3,13 @@ use Rattle.std.proofs.Common.{◌≡◌, ℕ, zero, suc, ◌<◌, Option, None, 
 use Rattle.std.proofs.lemmas.List.{length-map}
 use Rattle.std.proofs.lemmas.List.Elements.{All-head, All-tail, All-weaker}
 use Rattle.it_space.specs.declared.spaces.Space.{Space}
-use Rattle.it_space.specs.declared.problems.Constraint.{Constraint}
+use Rattle.it_problems.specs.declared.problems.Constraint.{Constraint}
 use Rattle.it_space.specs.Rows.{value}
 use Rattle.it_polymatroid.specs.Certificates.{Form, Generators, IsAllowed, combination}
 use Rattle.it_elemental.specs.Generators.{forms_of, of_constraint, generator_at, is_equation}
 use Rattle.it_syntax.specs.Meaning.{RelationView}
 use Rattle.it_demand.specs.Demands.{Demand}
-use Rattle.it_space.specs.declared.problems.Origin.{Origin}
+use Rattle.it_problems.specs.declared.problems.Origin.{Origin}
 use Rattle.it_closure.specs.declared.dependences.Dependence.{Dependence}
 use Rattle.it_closure.specs.Collapse.{spread_out}
 use Rattle.it_closure.proofs.Places.{place-zero}

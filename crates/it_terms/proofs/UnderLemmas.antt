@@ -5,7 +5,7 @@ use Rattle.std.proofs.lemmas.Int.{ints}
 use Rattle.std.proofs.lemmas.List.Elements.{All-replicate, All-weaker}
 use Rattle.it_number.specs.Limit.{IsWithin}
 use Rattle.it_space.specs.declared.spaces.Space.{Space}
-use Rattle.it_space.specs.declared.problems.Constraint.{Constraint}
+use Rattle.it_problems.specs.declared.problems.Constraint.{Constraint}
 use Rattle.it_space.specs.Rows.{Ascends, IsOver, Terms, value}
 use Rattle.it_space.specs.Sets.{IsInside}
 use Rattle.it_space.specs.Spaces.{size_of}
@@ -22,7 +22,7 @@ use Rattle.it_syntax.specs.declared.types.Sign.TheVariants.{Equal}
 use Rattle.it_syntax.specs.Givens.{IsRelationOf}
 use Rattle.it_syntax.specs.Meaning.{RelationView, common_denominator, difference_at}
 use Rattle.it_print.specs.Lines.{origins_of}
-use Rattle.it_space.specs.declared.problems.Origin.{Origin}
+use Rattle.it_problems.specs.declared.problems.Origin.{Origin}
 use Rattle.it_syntax.specs.NamesViews.{NamesView}
 use Rattle.it_demand.specs.Canonical.{IsRowOf}
 use Rattle.it_demand.specs.Coefficients.{dense_form, signed_by}

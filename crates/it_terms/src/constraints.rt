@@ -4,7 +4,8 @@ use crate::finding::turned;
 use crate::untold::Untold;
 use it_fraction::lcm;
 use it_question::types::{Question, Verb};
-use it_space::{Origin, VarSet};
+use it_problems::Origin;
+use it_space::VarSet;
 use it_syntax::types::{Atom, Given, Relation, Sign, Term};
 
 /// The least common multiple of a number and a denominator.

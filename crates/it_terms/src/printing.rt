@@ -30,7 +30,8 @@ use it_closure::Dependences;
 use it_elemental::count;
 use it_fraction::signed_product;
 use it_question::types::Question;
-use it_space::{Certificate, Problem, Row};
+use it_problems::Problem;
+use it_space::{Certificate, Row};
 use it_syntax::types::Term;
 use std::alloc::{AllocError, Global};
 

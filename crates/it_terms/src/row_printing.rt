@@ -20,7 +20,8 @@ use it_canon::problem;
 use it_closure::Dependences;
 use it_elemental::count;
 use it_question::types::Question;
-use it_space::{Constraint, Problem, Row};
+use it_problems::{Constraint, Problem};
+use it_space::Row;
 use it_syntax::Names;
 use std::alloc::{AllocError, Global};
 

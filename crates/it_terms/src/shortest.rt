@@ -11,7 +11,8 @@ use crate::untold::Untold;
 use it_columns::opposite_row;
 use it_demand::Coefficients;
 use it_fraction::{Fraction, signed_product};
-use it_space::{Constraint, Kind, Row, Space, VarSet};
+use it_problems::{Constraint, Kind};
+use it_space::{Row, Space, VarSet};
 use it_syntax::types::{Atom, Term};
 use std::alloc::{AllocError, Global};
 

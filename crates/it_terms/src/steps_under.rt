@@ -29,7 +29,7 @@ use crate::writing::terms_text;
 use it_canon::problem;
 use it_closure::Dependences;
 use it_question::types::Question;
-use it_space::{Constraint, Problem};
+use it_problems::{Constraint, Problem};
 use it_syntax::Names;
 use it_syntax::types::{Atom, Relation, Term};
 use std::alloc::{AllocError, Global};

@@ -11,7 +11,8 @@ use it_contain::{
 use it_prove::Effort;
 use it_question::questions;
 use it_question::types::Verb;
-use it_space::{Problem, Space, VarSet};
+use it_problems::Problem;
+use it_space::{Space, VarSet};
 use std::alloc::Global;
 
 /// The defined run, with as many steps as it takes.

@@ -1,5 +1,5 @@
 use Rattle.std.proofs.Common.{refl}
-use Rattle.it_space.specs.declared.problems.System.{System}
+use Rattle.it_problems.specs.declared.problems.System.{System}
 use Rattle.it_bounds.proofs.StepLemmas.{few_left, none_by_rows, none_by_width, ray_of_next, step_is_made, under_constants}
 use Rattle.it_bounds.proofs.steps.made_step.Goals as goal
 

@@ -1,5 +1,5 @@
 use Rattle.std.proofs.Common.{◌≡◌, ◌↔◌, ℕ, ℤ, pos, Ok, Err, IfOk}
-use Rattle.it_space.specs.Problems.{AreMet}
+use Rattle.it_problems.specs.Problems.{AreMet}
 use Rattle.it_syntax.specs.Givens.{given_view, IsTrueAt}
 use Rattle.it_demand.specs.Demands.{demands}
 use Rattle.it_demand.specs.Origins.{AreParts}

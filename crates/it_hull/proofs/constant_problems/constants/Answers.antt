@@ -1,6 +1,6 @@
 use Rattle.std.proofs.Common.{rules, ◌≡◌, ◌∷◌, [], ◌++◌, List, ap, subst, sym}
-use Rattle.it_space.specs.declared.problems.Constraint.{Constraint}
-use Rattle.it_space.specs.Problems.{IsProblem, ProblemView}
+use Rattle.it_problems.specs.declared.problems.Constraint.{Constraint}
+use Rattle.it_problems.specs.Problems.{IsProblem, ProblemView}
 use Rattle.it_hull.specs.Constants.{constant_lines}
 use Rattle.it_hull.proofs.ConstantLemmas.{constants_are_problem, line_more, lines_done}
 use Rattle.it_hull.proofs.constant_problems.constants.Goals as goal

@@ -1,5 +1,5 @@
 use Rattle.std.proofs.Common.{rules, ◌≡◌, ◌^◌, refl, inl}
-use Rattle.it_space.specs.declared.problems.System.{System}
+use Rattle.it_problems.specs.declared.problems.System.{System}
 use Rattle.it_space.specs.Rows.{point_of}
 use Rattle.it_eliminate.specs.Views.{eliminated_view}
 use Rattle.it_hull.specs.Hulls.{rows_with_multiplier}

@@ -1,4 +1,4 @@
-use Rattle.it_space.specs.Problems.{ProblemView}
+use Rattle.it_problems.specs.Problems.{ProblemView}
 use Rattle.std.proofs.Common.{rules, ◌≡◌, ◌+◌, ◌<◌, ◌↔◌, ℕ, ℤ, List, All, length, FitsSigned, to_z-of_z, sym, ap, subst, ◌∙◌, arith}
 use Rattle.it_space.specs.Answers.{certificate_view}
 use Rattle.it_space.specs.Rows.{coefficient}

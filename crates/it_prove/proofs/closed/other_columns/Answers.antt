@@ -1,6 +1,6 @@
 use Rattle.std.proofs.Common.{◌++◌, List, [], arith, subst, sym}
 use Rattle.it_space.specs.declared.faults.RowFault.TheVariants.{Wide}
-use Rattle.it_space.specs.declared.problems.Kind.TheVariants.{Inequality}
+use Rattle.it_problems.specs.declared.problems.Kind.TheVariants.{Inequality}
 use Rattle.it_elemental.specs.Generators.{generators}
 use Rattle.it_closure.specs.declared.dependences.Dependence.{Dependence}
 use Rattle.it_closure.specs.Reading.{dependences_of}

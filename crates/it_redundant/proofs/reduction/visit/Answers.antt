@@ -1,7 +1,7 @@
 use Rattle.std.proofs.Common.{List, length, map, ◌++◌, ◌∙◌, rules, ap, sym, ◌+◌, arith}
 use Rattle.std.proofs.lemmas.List.{length-map}
-use Rattle.it_space.specs.declared.problems.Constraint.{Constraint}
-use Rattle.it_space.specs.Problems.{ProblemView}
+use Rattle.it_problems.specs.declared.problems.Constraint.{Constraint}
+use Rattle.it_problems.specs.Problems.{ProblemView}
 use Rattle.it_space.specs.Rows.{Terms}
 use Rattle.it_prove.specs.ProofViews.{proof_view}
 use Rattle.it_eliminate.specs.RowLines.{with_rows}

@@ -1,5 +1,5 @@
 use Rattle.std.proofs.Common.{◌≤◌, List, All, arith, length, subst, sym, ◌∙◌}
-use Rattle.it_space.specs.Problems.{ProblemView}
+use Rattle.it_problems.specs.Problems.{ProblemView}
 use Rattle.it_space.specs.Rows.{Terms, IsOver}
 use Rattle.it_space.specs.Spaces.{size_of}
 use Rattle.it_hull.proofs.ConstantLemmas.{few_constants}

@@ -1,5 +1,5 @@
 use Rattle.std.proofs.Common.{IfSome, List, map, subst}
-use Rattle.it_space.specs.declared.problems.Constraint.{Constraint}
+use Rattle.it_problems.specs.declared.problems.Constraint.{Constraint}
 use Rattle.it_space.specs.Rows.{value}
 use Rattle.it_elemental.specs.Generators.{forms_of, of_constraint}
 use Rattle.it_question.specs.Questions.{question_body}

@@ -1,6 +1,6 @@
 use Rattle.std.proofs.Common.{ℕ, List, map, subst}
 use Rattle.std.proofs.lemmas.Bool.{OnTrue_at}
-use Rattle.it_space.specs.declared.problems.Constraint.{Constraint}
+use Rattle.it_problems.specs.declared.problems.Constraint.{Constraint}
 use Rattle.it_elemental.specs.Generators.{forms_of, of_constraint}
 use Rattle.it_terms.specs.Signs.{AreGivenEquations, TellsRowBy}
 use Rattle.it_terms.proofs.RowLemmas.{printed_from}

@@ -1,5 +1,5 @@
 use Rattle.std.proofs.Common.{◌∙◌, ap, arith, get_or, sym}
-use Rattle.it_space.specs.declared.problems.Constraint.{Constraint}
+use Rattle.it_problems.specs.declared.problems.Constraint.{Constraint}
 use Rattle.it_terms.proofs.SaidLemmas.{chosen_more}
 use Rattle.it_terms.proofs.under.chosen.Goals as goal
 

@@ -1,7 +1,7 @@
 use Rattle.std.proofs.Common.{All, List, ℕ, ℤ, map, pos, subst, subst₂, true}
 use Rattle.std.proofs.lemmas.Bool.{OnTrue_at, OnTrue_from}
 use Rattle.it_space.specs.declared.spaces.Space.{Space}
-use Rattle.it_space.specs.declared.problems.Constraint.{Constraint}
+use Rattle.it_problems.specs.declared.problems.Constraint.{Constraint}
 use Rattle.it_space.specs.Rows.{value}
 use Rattle.it_polymatroid.specs.Certificates.{IsAllowed}
 use Rattle.it_elemental.specs.Generators.{forms_of, of_constraint}
