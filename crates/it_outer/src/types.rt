@@ -1,6 +1,6 @@
 //! The limits and the results of a search for outer bounds.
-use it_prove::Effort;
 use it_problems::{Problem, System};
+use it_prove::Effort;
 use it_space::{Cause, Certificate, Point, Row};
 
 /// The limits of a search.

@@ -1,7 +1,6 @@
 //! Certificates: each weight before its generator, over the scale.
 ghost use Rattle.std.specs.Prelude.{◌≡◌, ◌≤◌, ◌<◌, ◌+◌, ◌++◌, length, OnOk, IfOk, All};
 ghost use Rattle.it_polymatroid.specs.Elementals.{elementals};
-ghost use Rattle.it_question.specs.Questions.{question_body};
 ghost use Rattle.it_canon.specs.TrueLines.{variable_count};
 ghost use Rattle.it_print.specs.Lines.{AreListed, weight_text, origins_of, sum_text, variable_names};
 ghost use Rattle.it_print.specs.ByConstraints.{certificate_text_by, proofs_text_by};
@@ -9,8 +8,8 @@ ghost use Rattle.it_print.specs.ByConstraints.{certificate_text_by, proofs_text_
 use crate::generators::write_generator;
 use crate::pieces::{write_if, write_signed};
 use it_canon::problem_names;
-use it_question::types::Question;
 use it_problems::Constraint;
+use it_question::types::Question;
 use it_space::{Certificate, is_nonzero_weight};
 use it_syntax::Names;
 use std::alloc::{AllocError, Global};
@@ -131,9 +130,9 @@ pub fn sum_text(
     constraints: &[Constraint],
     certificate: &Certificate,
 ) -> Result<Vec<u8>, AllocError>
-    requires some { 1 ≤ variable_count (question_body question.now) }
-    requires there { All (λ w. w.0 < length (elementals (variable_count (question_body question.now))) + length constraints.now) certificate.now.weights.items }
-    ensures { IfOk result (λ t. t.items ≡ sum_text (variable_names (question_body question.now)) (origins_of constraints.now) certificate.now.weights.items) }
+    requires some { 1 ≤ variable_count question.now.body }
+    requires there { All (λ w. w.0 < length (elementals (variable_count question.now.body)) + length constraints.now) certificate.now.weights.items }
+    ensures { IfOk result (λ t. t.items ≡ sum_text (variable_names question.now.body) (origins_of constraints.now) certificate.now.weights.items) }
 {
     let mut out = Vec::new(alloc);
     write_sum(

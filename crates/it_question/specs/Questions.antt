@@ -3,9 +3,7 @@ use Rattle.std.specs.Prelude.{ℕ, List, [], map}
 use Rattle.it_syntax.specs.NamesViews.{NamesView}
 use Rattle.it_syntax.specs.Meaning.{RelationView, relation_view}
 use Rattle.it_syntax.specs.Givens.{GivenView, given_view}
-use Rattle.it_question.specs.LineTexts.{text_of_lines}
 use Rattle.it_question.specs.declared.types.OwnLines.{OwnLines}
-use Rattle.it_question.specs.declared.types.Question.{Question}
 use Rattle.it_question.specs.declared.types.Region.{Region}
 use Rattle.it_question.specs.declared.types.Verb.{Verb}
 use Rattle.it_question.specs.declared.types.Verb.TheVariants as verbs
@@ -55,11 +53,3 @@ abbrev pub verb_view : Verb → VerbView
 verb_view (verbs.Prove r) = Prove (relation_view r)
 verb_view (verbs.Eliminate rates) = Eliminate rates.items
 verb_view (verbs.Contain first second tries) = Contain (region_view first) (region_view second) tries.items
-
--- what contracts see of a whole question, but for its text
-abbrev pub question_body : Question → BodyView
-question_body q = record { names = q.names; lines = own_lines_view q.lines; verb = verb_view q.verb }
-
--- what contracts see of a question, with its text
-abbrev pub question_view : Question → QuestionView
-question_view q = record { body = question_body q; text = text_of_lines (map (λ v. v.items) q.source.items) }

@@ -6,7 +6,7 @@ ghost use Rattle.it_question.specs.Bodies.{body_view};
 ghost use Rattle.it_question.specs.Cursors.{line_view};
 ghost use Rattle.it_question.specs.Limits.{IsQuestion};
 ghost use Rattle.it_question.specs.ReaderSteps.{FewLines, FewLinesOf};
-ghost use Rattle.it_question.specs.Questions.{verb_view, question_view, region_view};
+ghost use Rattle.it_question.specs.Questions.{verb_view, region_view};
 ghost use Rattle.it_question.specs.LineTexts.{without_leading, without_trailing};
 ghost use Rattle.it_question.specs.Texts.{region_line_count, verb_line_count, question_line_count, with_texts};
 
@@ -55,7 +55,7 @@ impl Question {
     /// The question's text: its lines from `vars` to the verb, each from its first token to its last with tabs as spaces, and
     /// a line feed after it. It is put together anew at each call, since only a report needs it.
     pub fn text(&self, alloc: Global) -> Result<Vec<u8>, AllocError>
-        ensures { IfOk result (λ text. text.items ≡ (question_view self.now).text) }
+        ensures { IfOk result (λ text. text.items ≡ self.now.text) }
     {
         let mut text = Vec::new(alloc);
         for line in self.source.as_slice() {
@@ -144,7 +144,7 @@ pub fn with_texts(
     bodies: Vec<Body>,
 ) -> Result<Vec<Question>, AllocError>
     requires { All (λ b. IsQuestion (body_view b)) bodies.items }
-    ensures { IfOk result (λ qs. map question_view qs.items ≡ with_texts (map line_view lines.items) (map body_view bodies.items)) }
+    ensures { IfOk result (λ qs. qs.items ≡ with_texts (map line_view lines.items) (map body_view bodies.items)) }
 {
     let mut rest = lines.into_iter();
     let mut left = bodies.into_iter();

@@ -1,9 +1,14 @@
 //! What a question file asks.
+ghost use Rattle.std.specs.Prelude.{◌≡◌, map};
+ghost use Rattle.it_question.specs.Limits.{IsQuestion};
+ghost use Rattle.it_question.specs.LineTexts.{text_of_lines};
+ghost use Rattle.it_question.specs.Questions.{own_lines_view, verb_view};
 
 use it_space::VarSet;
 use it_syntax::Names;
 use it_syntax::types::{Code, Given, Relation};
 use std::alloc::AllocError;
+use std::marker::Model;
 use thiserror::Error;
 
 /// The constraints of `given` lines and of `row` lines, in order.
@@ -67,10 +72,64 @@ impl Drop for Verb {
 /// A question. `source` holds its lines from `vars` to the verb as they were read, without comment and with tabs as spaces;
 /// lines without tokens are left out. `lines` are those before the verb or the first region.
 pub struct Question {
-    pub names: Names,
-    pub source: Vec<Vec<u8>>,
-    pub lines: OwnLines,
-    pub verb: Verb,
+    pub(crate) names: Names,
+    pub(crate) source: Vec<Vec<u8>>,
+    pub(crate) lines: OwnLines,
+    pub(crate) verb: Verb,
+}
+
+impl Model for Question {
+    ghost use Rattle.std.specs.Prelude.{map};
+    ghost use Rattle.it_question.specs.Limits.{IsQuestion};
+    ghost use Rattle.it_question.specs.LineTexts.{text_of_lines};
+    ghost use Rattle.it_question.specs.Questions.{QuestionView, own_lines_view, verb_view};
+
+    ghost Value = { QuestionView };
+
+    ghost view = { λ q. record { body = record { names = q.names; lines = own_lines_view q.lines; verb = verb_view q.verb }; text = text_of_lines (map (λ v. v.items) q.source.items) } };
+
+    ghost invariant = { λ q. IsQuestion (record { names = q.names; lines = own_lines_view q.lines; verb = verb_view q.verb }) };
+}
+
+impl Question {
+    /// What is true of every question.
+    pub fn facts(&self)
+        ensures { IsQuestion self.now.body }
+    {
+        let _ = &self.names;
+    }
+
+    /// The names of the variables and rates.
+    pub fn names(&self) -> &Names
+        ensures value { result.now ≡ self.now.body.names }
+        ensures question { IsQuestion self.now.body }
+    {
+        &self.names
+    }
+
+    /// The constraints before the verb or the first region.
+    pub fn lines(&self) -> &OwnLines
+        ensures value { own_lines_view result.now ≡ self.now.body.lines }
+        ensures question { IsQuestion self.now.body }
+    {
+        &self.lines
+    }
+
+    /// What the question wants.
+    pub fn verb(&self) -> &Verb
+        ensures value { verb_view result.now ≡ self.now.body.verb }
+        ensures question { IsQuestion self.now.body }
+    {
+        &self.verb
+    }
+
+    /// The lines from `vars` to the verb as they were read, without comment and with tabs as spaces; lines without tokens are
+    /// left out.
+    pub fn source(&self) -> &[Vec<u8>]
+        ensures { text_of_lines (map (λ v. v.items) result.now) ≡ self.now.text }
+    {
+        self.source.as_slice()
+    }
 }
 
 impl Drop for Question {

@@ -5,9 +5,8 @@ ghost use Rattle.it_space.specs.Answers.{answer_view, certificate_view};
 ghost use Rattle.it_space.specs.Rows.{value};
 ghost use Rattle.it_space.specs.Answers.AnswerView.{Yes};
 ghost use Rattle.it_polymatroid.specs.Elementals.{elementals};
-ghost use Rattle.it_question.specs.Limits.{IsQuestion};
 ghost use Rattle.it_syntax.specs.Meaning.{relation_view};
-ghost use Rattle.it_question.specs.Questions.{Prove, question_body};
+ghost use Rattle.it_question.specs.Questions.{Prove};
 ghost use Rattle.it_question.specs.ProblemLines.{problem_names};
 ghost use Rattle.it_canon.specs.TrueLines.{variable_count};
 ghost use Rattle.it_canon.specs.QuestionDemands.{question_origins};
@@ -25,8 +24,8 @@ use crate::settings::{Options, Style, is_plain};
 use it_canon::{problem_names, target_rows};
 use it_facts::told_point;
 use it_print::{sum_text, values_text, write_signed};
-use it_question::types::{Question, Verb};
 use it_problems::Constraint;
+use it_question::types::{Question, Verb};
 use it_space::{Answer, Certificate, Point, Row};
 use it_syntax::types::Relation;
 use it_terms::{PrintedProof, printed_form, printed_steps, told_form, told_steps};
@@ -50,9 +49,9 @@ fn weights_text(
     constraints: &[Constraint],
     certificate: &Certificate,
 ) -> Result<Vec<u8>, AllocError>
-    requires some { 1 ≤ variable_count (question_body question.now) }
-    requires there { All (λ w. w.0 < length (elementals (variable_count (question_body question.now))) + length constraints.now) certificate.now.weights.items }
-    ensures { IfOk result (λ t. t.items ≡ weights_text (question_body question.now) (origins_of constraints.now) (certificate_view certificate.now)) }
+    requires some { 1 ≤ variable_count question.now.body }
+    requires there { All (λ w. w.0 < length (elementals (variable_count question.now.body)) + length constraints.now) certificate.now.weights.items }
+    ensures { IfOk result (λ t. t.items ≡ weights_text question.now.body (origins_of constraints.now) (certificate_view certificate.now)) }
 {
     let mut out = Vec::new(alloc);
     out.extend_from_slice(b"as weights ")?;
@@ -65,10 +64,10 @@ fn weights_text(
 
 /// The relation of a question that is about one.
 fn relation_of(question: &Question) -> &Relation
-    requires { IsAboutRelation (question_body question.now).verb }
-    ensures { (question_body question.now).verb ≡ Prove (relation_view result.now) }
+    requires { IsAboutRelation question.now.body.verb }
+    ensures { question.now.body.verb ≡ Prove (relation_view result.now) }
 {
-    let Verb::Prove(relation) = &question.verb else {
+    let Verb::Prove(relation) = question.verb() else {
         unreachable!()
     };
     relation
@@ -80,14 +79,14 @@ fn relation_rows(
     question: &Question,
     proofs: &[Certificate],
 ) -> Result<Vec<Row>, AllocError>
-    requires question { IsQuestion (question_body question.now) }
-    requires fits { HasQuestionShape (question_body question.now) (Yes (map certificate_view proofs.now)) }
-    ensures { IfOk result (λ rows. AreFormRows (question_body question.now) (Yes (map certificate_view proofs.now)) rows.items) }
+    requires fits { HasQuestionShape question.now.body (Yes (map certificate_view proofs.now)) }
+    ensures { IfOk result (λ rows. AreFormRows question.now.body (Yes (map certificate_view proofs.now)) rows.items) }
 {
+    question.facts();
     // the proofs are named in the clauses alone
     let _proofs = proofs;
     let relation = relation_of(question);
-    let rows = target_rows(alloc, relation, question.names.space())?;
+    let rows = target_rows(alloc, relation, question.names().space())?;
     Ok(rows)
 }
 
@@ -134,8 +133,7 @@ fn steps_under(
     lines: &[u32],
     named: &[(u32, i128)],
 ) -> Result<Vec<Vec<u8>>, AllocError>
-    requires { IsQuestion (question_body question.now) }
-    ensures { IfOk result (λ steps. ArePrintedSteps (question_body question.now) options lines.now named.now proof.now (map (λ s. s.items) steps.items)) }
+    ensures { IfOk result (λ steps. ArePrintedSteps question.now.body options lines.now named.now proof.now (map (λ s. s.items) steps.items)) }
 {
     if !options.steps {
         return Ok(Vec::new(alloc));
@@ -161,8 +159,7 @@ fn styled_texts(
     proof: PrintedProof,
     options: Options,
 ) -> Result<Option<Texts>, AllocError>
-    requires { IsQuestion (question_body question.now) }
-    ensures { IfOk result (λ o. IfSome o (λ t. (target : Form) → ArePrinted (question_body question.now) target proof.lines.items proof.named.items proof.text.items proof.whole.items proof.by.items → ArePrintedTexts (question_body question.now) options target (record { proof = t.proof.items; steps = map (λ s. s.items) t.steps.items }))) }
+    ensures { IfOk result (λ o. IfSome o (λ t. (target : Form) → ArePrinted question.now.body target proof.lines.items proof.named.items proof.text.items proof.whole.items proof.by.items → ArePrintedTexts question.now.body options target (record { proof = t.proof.items; steps = map (λ s. s.items) t.steps.items }))) }
 {
     let PrintedProof {
         text,
@@ -195,8 +192,7 @@ fn printed_texts(
     line: Option<&[u8]>,
     options: Options,
 ) -> Result<Option<Texts>, AllocError>
-    requires { IsQuestion (question_body question.now) }
-    ensures { IfOk result (λ o. IfSome o (λ t. ArePrintedTexts (question_body question.now) options (value row.now) (record { proof = t.proof.items; steps = map (λ s. s.items) t.steps.items }))) }
+    ensures { IfOk result (λ o. IfSome o (λ t. ArePrintedTexts question.now.body options (value row.now) (record { proof = t.proof.items; steps = map (λ s. s.items) t.steps.items }))) }
 {
     if is_plain(options.style) {
         return Ok(None);
@@ -219,11 +215,10 @@ fn plain_proof(
     line: Option<&[u8]>,
     options: Options,
 ) -> Result<Vec<u8>, AllocError>
-    requires question { IsQuestion (question_body question.now) }
-    requires some { 1 ≤ variable_count (question_body question.now) }
-    requires origins { origins_of constraints.now ≡ question_origins (question_body question.now) }
-    requires there { All (λ w. w.0 < length (elementals (variable_count (question_body question.now))) + length constraints.now) certificate.now.weights.items }
-    ensures { IfOk result (λ t. IsProofText (question_body question.now) (form_with_proof row.now certificate.now) t.items) }
+    requires some { 1 ≤ variable_count question.now.body }
+    requires origins { origins_of constraints.now ≡ question_origins question.now.body }
+    requires there { All (λ w. w.0 < length (elementals (variable_count question.now.body)) + length constraints.now) certificate.now.weights.items }
+    ensures { IfOk result (λ t. IsProofText question.now.body (form_with_proof row.now certificate.now) t.items) }
 {
     match told_form(alloc, question, row, certificate, line, options.short)? {
         Some(text) => Ok(text),
@@ -238,8 +233,7 @@ fn steps_of(
     options: Options,
     proof: &[u8],
 ) -> Result<Vec<Vec<u8>>, AllocError>
-    requires { IsQuestion (question_body question.now) }
-    ensures { IfOk result (λ steps. AreProofSteps (question_body question.now) options proof.now (map (λ s. s.items) steps.items)) }
+    ensures { IfOk result (λ steps. AreProofSteps question.now.body options proof.now (map (λ s. s.items) steps.items)) }
 {
     if !options.steps {
         return Ok(Vec::new(alloc));
@@ -260,11 +254,10 @@ fn plain_texts(
     line: Option<&[u8]>,
     options: Options,
 ) -> Result<Texts, AllocError>
-    requires question { IsQuestion (question_body question.now) }
-    requires some { 1 ≤ variable_count (question_body question.now) }
-    requires origins { origins_of constraints.now ≡ question_origins (question_body question.now) }
-    requires there { All (λ w. w.0 < length (elementals (variable_count (question_body question.now))) + length constraints.now) certificate.now.weights.items }
-    ensures { IfOk result (λ t. AreProofTexts (question_body question.now) options (form_with_proof row.now certificate.now) (record { proof = t.proof.items; steps = map (λ s. s.items) t.steps.items })) }
+    requires some { 1 ≤ variable_count question.now.body }
+    requires origins { origins_of constraints.now ≡ question_origins question.now.body }
+    requires there { All (λ w. w.0 < length (elementals (variable_count question.now.body)) + length constraints.now) certificate.now.weights.items }
+    ensures { IfOk result (λ t. AreProofTexts question.now.body options (form_with_proof row.now certificate.now) (record { proof = t.proof.items; steps = map (λ s. s.items) t.steps.items })) }
 {
     let proof = plain_proof(
         alloc,
@@ -290,11 +283,10 @@ fn proof_texts(
     line: Option<&[u8]>,
     options: Options,
 ) -> Result<Texts, AllocError>
-    requires question { IsQuestion (question_body question.now) }
-    requires some { 1 ≤ variable_count (question_body question.now) }
-    requires origins { origins_of constraints.now ≡ question_origins (question_body question.now) }
-    requires there { All (λ w. w.0 < length (elementals (variable_count (question_body question.now))) + length constraints.now) certificate.now.weights.items }
-    ensures { IfOk result (λ t. AreProofTexts (question_body question.now) options (form_with_proof row.now certificate.now) (record { proof = t.proof.items; steps = map (λ s. s.items) t.steps.items })) }
+    requires some { 1 ≤ variable_count question.now.body }
+    requires origins { origins_of constraints.now ≡ question_origins question.now.body }
+    requires there { All (λ w. w.0 < length (elementals (variable_count question.now.body)) + length constraints.now) certificate.now.weights.items }
+    ensures { IfOk result (λ t. AreProofTexts question.now.body options (form_with_proof row.now certificate.now) (record { proof = t.proof.items; steps = map (λ s. s.items) t.steps.items })) }
 {
     match printed_texts(alloc, question, row, certificate, line, options)? {
         Some(texts) => Ok(texts),
@@ -341,11 +333,10 @@ pub fn write_proof(
     certificate: &Certificate,
     line: Option<&[u8]>,
 ) -> Result<(), AllocError>
-    requires question { IsQuestion (question_body question.now) }
-    requires some { 1 ≤ variable_count (question_body question.now) }
-    requires origins { origins_of constraints.now ≡ question_origins (question_body question.now) }
-    requires there { All (λ w. w.0 < length (elementals (variable_count (question_body question.now))) + length constraints.now) certificate.now.weights.items }
-    ensures { OnOk result (AppendsProof (question_body question.now) options (form_with_proof row.now certificate.now) out.old.items out.new.items) }
+    requires some { 1 ≤ variable_count question.now.body }
+    requires origins { origins_of constraints.now ≡ question_origins question.now.body }
+    requires there { All (λ w. w.0 < length (elementals (variable_count question.now.body)) + length constraints.now) certificate.now.weights.items }
+    ensures { OnOk result (AppendsProof question.now.body options (form_with_proof row.now certificate.now) out.old.items out.new.items) }
 {
     let texts = proof_texts(
         alloc,
@@ -370,12 +361,11 @@ pub fn write_proofs(
     rows: &[Row],
     proofs: &[Certificate],
 ) -> Result<(), AllocError>
-    requires question { IsQuestion (question_body question.now) }
-    requires some { 1 ≤ variable_count (question_body question.now) }
-    requires origins { origins_of constraints.now ≡ question_origins (question_body question.now) }
-    requires there { AreListed (variable_count (question_body question.now)) (length constraints.now) proofs.now }
+    requires some { 1 ≤ variable_count question.now.body }
+    requires origins { origins_of constraints.now ≡ question_origins question.now.body }
+    requires there { AreListed (variable_count question.now.body) (length constraints.now) proofs.now }
     requires as_many { length rows.now ≡ length proofs.now }
-    ensures { OnOk result (AppendsProofs (question_body question.now) options rows.now (map certificate_view proofs.now) out.old.items out.new.items) }
+    ensures { OnOk result (AppendsProofs question.now.body options rows.now (map certificate_view proofs.now) out.old.items out.new.items) }
 {
     for (i, certificate) in proofs.iter().enumerate() {
         let row = &rows[i];
@@ -402,12 +392,11 @@ fn write_relation_proofs(
     constraints: &[Constraint],
     proofs: &[Certificate],
 ) -> Result<(), AllocError>
-    requires question { IsQuestion (question_body question.now) }
-    requires some { 1 ≤ variable_count (question_body question.now) }
-    requires origins { origins_of constraints.now ≡ question_origins (question_body question.now) }
-    requires there { AreListed (variable_count (question_body question.now)) (length constraints.now) proofs.now }
-    requires fits { HasQuestionShape (question_body question.now) (Yes (map certificate_view proofs.now)) }
-    ensures { OnOk result (AppendsDetails (question_body question.now) options (Yes (map certificate_view proofs.now)) out.old.items out.new.items) }
+    requires some { 1 ≤ variable_count question.now.body }
+    requires origins { origins_of constraints.now ≡ question_origins question.now.body }
+    requires there { AreListed (variable_count question.now.body) (length constraints.now) proofs.now }
+    requires fits { HasQuestionShape question.now.body (Yes (map certificate_view proofs.now)) }
+    ensures { OnOk result (AppendsDetails question.now.body options (Yes (map certificate_view proofs.now)) out.old.items out.new.items) }
 {
     let rows = relation_rows(alloc, question, proofs)?;
     write_proofs(
@@ -423,9 +412,9 @@ fn write_relation_proofs(
 
 /// A point as answers have it.
 fn values_of(alloc: Global, question: &Question, point: &Point) -> Result<Vec<u8>, AllocError>
-    requires there { length point.now < 2 ^ variable_count (question_body question.now) + length (problem_names (question_body question.now)).rates }
+    requires there { length point.now < 2 ^ variable_count question.now.body + length (problem_names question.now.body).rates }
     requires few { length point.now < 2 ^ 16 }
-    ensures { IfOk result (λ t. t.items ≡ codes "as point " ++ values_text (problem_names (question_body question.now)) point.now) }
+    ensures { IfOk result (λ t. t.items ≡ codes "as point " ++ values_text (problem_names question.now.body) point.now) }
 {
     let values = values_text(alloc, problem_names(question), point)?;
     let mut text = Vec::new(alloc);
@@ -437,10 +426,9 @@ fn values_of(alloc: Global, question: &Question, point: &Point) -> Result<Vec<u8
 /// A point by facts that determine it, or as answers have it.
 #[tactic(auto, unfolding(crate::specs::Tellings::IsPointText))]
 fn any_point(alloc: Global, question: &Question, point: &Point) -> Result<Vec<u8>, AllocError>
-    requires question { IsQuestion (question_body question.now) }
-    requires there { length point.now < 2 ^ variable_count (question_body question.now) + length (problem_names (question_body question.now)).rates }
+    requires there { length point.now < 2 ^ variable_count question.now.body + length (problem_names question.now.body).rates }
     requires few { length point.now < 2 ^ 16 }
-    ensures { IfOk result (λ t. IsPointText (problem_names (question_body question.now)) point.now t.items) }
+    ensures { IfOk result (λ t. IsPointText (problem_names question.now.body) point.now t.items) }
 {
     match told_point(alloc, question, point)? {
         Some(text) => Ok(text),
@@ -455,10 +443,9 @@ fn write_point(
     question: &Question,
     point: &Point,
 ) -> Result<(), AllocError>
-    requires question { IsQuestion (question_body question.now) }
-    requires there { length point.now < 2 ^ variable_count (question_body question.now) + length (problem_names (question_body question.now)).rates }
+    requires there { length point.now < 2 ^ variable_count question.now.body + length (problem_names question.now.body).rates }
     requires few { length point.now < 2 ^ 16 }
-    ensures { OnOk result (AppendsPoint (problem_names (question_body question.now)) point.now out.old.items out.new.items) }
+    ensures { OnOk result (AppendsPoint (problem_names question.now.body) point.now out.old.items out.new.items) }
 {
     let text = any_point(alloc, question, point)?;
     write_indented(out, text.as_slice())
@@ -474,12 +461,11 @@ pub fn write_details(
     constraints: &[Constraint],
     answer: &Answer,
 ) -> Result<(), AllocError>
-    requires question { IsQuestion (question_body question.now) }
-    requires some { 1 ≤ variable_count (question_body question.now) }
-    requires origins { origins_of constraints.now ≡ question_origins (question_body question.now) }
-    requires fits { HasQuestionShape (question_body question.now) (answer_view answer.now) }
-    requires printable { IsPrintable (question_body question.now) (length constraints.now) answer.now }
-    ensures { OnOk result (AppendsDetails (question_body question.now) options (answer_view answer.now) out.old.items out.new.items) }
+    requires some { 1 ≤ variable_count question.now.body }
+    requires origins { origins_of constraints.now ≡ question_origins question.now.body }
+    requires fits { HasQuestionShape question.now.body (answer_view answer.now) }
+    requires printable { IsPrintable question.now.body (length constraints.now) answer.now }
+    ensures { OnOk result (AppendsDetails question.now.body options (answer_view answer.now) out.old.items out.new.items) }
 {
     match answer {
         Answer::Yes(proofs) => write_relation_proofs(

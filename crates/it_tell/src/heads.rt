@@ -1,15 +1,14 @@
 //! The first line of an answer.
 ghost use Rattle.std.specs.Prelude.{◌≡◌, ◌≤◌, ◌++◌, length, codes, decimal, IfOk};
 ghost use Rattle.it_space.specs.Answers.{answer_view};
-ghost use Rattle.it_question.specs.Questions.{question_body};
 ghost use Rattle.it_canon.specs.TrueLines.{variable_count};
 ghost use Rattle.it_print.specs.Lines.{IsPrintable};
 ghost use Rattle.it_report.specs.LineVerdicts.{numbered_line};
 ghost use Rattle.it_tell.specs.Tellings.{head_line};
 
 use it_print::{answer_line, write_number};
-use it_question::types::Question;
 use it_problems::Constraint;
+use it_question::types::Question;
 use it_space::Answer;
 use std::alloc::{AllocError, Global};
 
@@ -45,9 +44,9 @@ pub fn head_line(
     constraints: &[Constraint],
     answer: &Answer,
 ) -> Result<Vec<u8>, AllocError>
-    requires some { 1 ≤ variable_count (question_body question.now) }
-    requires printable { IsPrintable (question_body question.now) (length constraints.now) answer.now }
-    ensures { IfOk result (λ t. t.items ≡ head_line k (question_body question.now) (answer_view answer.now)) }
+    requires some { 1 ≤ variable_count question.now.body }
+    requires printable { IsPrintable question.now.body (length constraints.now) answer.now }
+    ensures { IfOk result (λ t. t.items ≡ head_line k question.now.body (answer_view answer.now)) }
 {
     match answer {
         Answer::Yes(_) => numbered_line(alloc, k, b"yes"),

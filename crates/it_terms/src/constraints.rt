@@ -3,8 +3,8 @@
 use crate::finding::turned;
 use crate::untold::Untold;
 use it_fraction::lcm;
-use it_question::types::{Question, Verb};
 use it_problems::Origin;
+use it_question::types::{Question, Verb};
 use it_space::VarSet;
 use it_syntax::types::{Atom, Given, Relation, Sign, Term};
 
@@ -156,7 +156,7 @@ pub fn item_of<'a, T>(own: &'a [T], more: &'a [T], number: u16) -> Result<&'a T,
 
 /// The `given` lines of the first region of a question, if it has one.
 fn region_givens(question: &Question) -> &[Given] {
-    match &question.verb {
+    match question.verb() {
         Verb::Contain { first, .. } => first.lines.givens.as_slice(),
         _ => &[],
     }
@@ -164,7 +164,7 @@ fn region_givens(question: &Question) -> &[Given] {
 
 /// The `row` lines of the first region of a question, if it has one.
 fn region_rows(question: &Question) -> &[Relation] {
-    match &question.verb {
+    match question.verb() {
         Verb::Contain { first, .. } => first.lines.rows.as_slice(),
         _ => &[],
     }
@@ -180,7 +180,7 @@ pub fn put_constraint(
 ) -> Result<(), Untold> {
     match origin {
         Origin::Given { line, part, .. } => {
-            let own = question.lines.givens.as_slice();
+            let own = question.lines().givens.as_slice();
             put_given(
                 out,
                 item_of(own, region_givens(question), line)?,
@@ -189,7 +189,7 @@ pub fn put_constraint(
             )
         }
         Origin::Rate { line } => {
-            let own = question.lines.rows.as_slice();
+            let own = question.lines().rows.as_slice();
             put_relation(out, item_of(own, region_rows(question), line)?, times)
         }
     }

@@ -3,8 +3,6 @@ ghost use Rattle.std.specs.Prelude.{◌≡◌, ◌≤◌, IfOk, IfSome, [], fals
 ghost use Rattle.it_space.specs.Rows.{IsOver, value};
 ghost use Rattle.it_space.specs.Spaces.{size_of};
 ghost use Rattle.it_demand.specs.QuestionSpaces.{space_of};
-ghost use Rattle.it_question.specs.Limits.{IsQuestion};
-ghost use Rattle.it_question.specs.Questions.{question_body};
 ghost use Rattle.it_question.specs.ProblemLines.{problem_names};
 ghost use Rattle.it_terms.specs.FunctionProofs.{ArePrinted};
 ghost use Rattle.it_terms.specs.Proposals.{ArePrintedFrom};
@@ -29,8 +27,8 @@ use it_canon::problem;
 use it_closure::Dependences;
 use it_elemental::count;
 use it_fraction::signed_product;
-use it_question::types::Question;
 use it_problems::Problem;
+use it_question::types::Question;
 use it_space::{Certificate, Row};
 use it_syntax::types::Term;
 use std::alloc::{AllocError, Global};
@@ -333,12 +331,11 @@ fn any_printed(
     line: Option<&[u8]>,
     short: bool,
 ) -> Result<Option<PrintedProof>, Untold>
-    requires question { IsQuestion (question_body question.now) }
-    requires space { problem.now.space ≡ space_of (problem_names (question_body question.now)) }
-    ensures { IfOk result (λ o. IfSome o (λ t. ArePrintedFrom (problem_names (question_body question.now)) (value target.now) problem.now.constraints t.lines.items t.named.items t.text.items t.whole.items t.by.items)) }
+    requires space { problem.now.space ≡ space_of (problem_names question.now.body) }
+    ensures { IfOk result (λ o. IfSome o (λ t. ArePrintedFrom (problem_names question.now.body) (value target.now) problem.now.constraints t.lines.items t.named.items t.text.items t.whole.items t.by.items)) }
 {
     let names = names_of(question);
-    let measures = measures(alloc, question.source.as_slice(), names)?;
+    let measures = measures(alloc, question.source(), names)?;
     let goal = goal_of(alloc, question, measures.as_slice(), names, target, line)?;
     let asked = Asked {
         question,
@@ -372,8 +369,7 @@ pub fn printed_form(
     line: Option<&[u8]>,
     short: bool,
 ) -> Result<Option<PrintedProof>, AllocError>
-    requires { IsQuestion (question_body question.now) }
-    ensures { IfOk result (λ o. IfSome o (λ t. ArePrinted (question_body question.now) (value target.now) t.lines.items t.named.items t.text.items t.whole.items t.by.items)) }
+    ensures { IfOk result (λ o. IfSome o (λ t. ArePrinted question.now.body (value target.now) t.lines.items t.named.items t.text.items t.whole.items t.by.items)) }
 {
     let posed = problem(alloc, question)?;
     match any_printed(alloc, question, &posed, target, certificate, line, short) {

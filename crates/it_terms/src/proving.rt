@@ -2,8 +2,6 @@
 ghost use Rattle.std.specs.Prelude.{◌≤◌, ◌<◌, IfOk, IfSome, length};
 ghost use Rattle.it_space.specs.Rows.{value};
 ghost use Rattle.it_polymatroid.specs.Elementals.{elementals};
-ghost use Rattle.it_question.specs.Limits.{IsQuestion};
-ghost use Rattle.it_question.specs.Questions.{question_body};
 ghost use Rattle.it_terms.specs.Proposals.{MayProve};
 ghost use Rattle.it_terms.specs.Proofs.{TellsForm};
 ghost use Rattle.it_space.specs.Spaces.{most_variables};
@@ -24,8 +22,8 @@ use crate::writing::sums_text;
 use it_canon::{problem, target_rows};
 use it_elemental::{Elemental, count, parts};
 use it_fraction::signed_product;
-use it_question::types::{Question, Verb};
 use it_problems::Constraint;
+use it_question::types::{Question, Verb};
 use it_space::{Certificate, Row, Space, VarSet};
 use it_syntax::Names;
 use it_syntax::types::{Atom, Relation, Sign, Term};
@@ -371,11 +369,10 @@ pub fn goal_of(
     row: &Row,
     line: Option<&[u8]>,
 ) -> Result<Goal, Untold>
-    requires question { IsQuestion (question_body question.now) }
     requires some { 1 ≤ length names.now.variables }
 {
-    if let Verb::Prove(relation) = &question.verb {
-        let targets = target_rows(alloc, relation, question.names.space())?;
+    if let Verb::Prove(relation) = question.verb() {
+        let targets = target_rows(alloc, relation, question.names().space())?;
         if let Some(place) = place_of(targets.as_slice(), row) {
             return relation_goal(alloc, relation, place);
         }
@@ -399,11 +396,10 @@ fn any_proof(
     line: Option<&[u8]>,
     short: bool,
 ) -> Result<Option<Vec<u8>>, Untold>
-    requires question { IsQuestion (question_body question.now) }
     requires some { 1 ≤ length names.now.variables }
     ensures { IfOk result (MayProve names.now target.now constraints.now) }
 {
-    let measures = measures(alloc, question.source.as_slice(), names)?;
+    let measures = measures(alloc, question.source(), names)?;
     let goal = goal_of(alloc, question, measures.as_slice(), names, target, line)?;
     let asked = Asked {
         question,
@@ -435,8 +431,7 @@ pub fn told_form(
     line: Option<&[u8]>,
     short: bool,
 ) -> Result<Option<Vec<u8>>, AllocError>
-    requires { IsQuestion (question_body question.now) }
-    ensures { IfOk result (λ o. IfSome o (λ text. TellsForm (question_body question.now) (value target.now) text.items)) }
+    ensures { IfOk result (λ o. IfSome o (λ text. TellsForm question.now.body (value target.now) text.items)) }
 {
     let names = names_of(question);
     let posed = problem(alloc, question)?;
