@@ -111,7 +111,6 @@ fn write_rows(
     rows: &[(Mark, Row)],
     proofs: &[Certificate],
 ) -> Result<(), AllocError>
-    requires some { 1 ≤ variable_count question.now.body }
     requires as_many { length rows.now ≡ length proofs.now }
     requires rows { All (λ row. IsRowOver (problem_names question.now.body) row.1) rows.now }
     requires there { AreListed (variable_count question.now.body) (length constraints.now) proofs.now }
@@ -134,7 +133,6 @@ fn write_row(
     row: &(Mark, Row),
     proof: &Certificate,
 ) -> Result<(), AllocError>
-    requires some { 1 ≤ variable_count question.now.body }
     requires row { IsRowOver (problem_names question.now.body) row.now.1 }
     requires there { IsThere (variable_count question.now.body) (length constraints.now) proof.now }
     ensures { OnOk result (out.new.items ≡ out.old.items ++ row_line question.now.body constraints.now k row.now proof.now) }
@@ -159,7 +157,6 @@ fn write_proof(
     constraints: &[Constraint],
     proof: &Certificate,
 ) -> Result<(), AllocError>
-    requires some { 1 ≤ variable_count question.now.body }
     requires there { IsThere (variable_count question.now.body) (length constraints.now) proof.now }
     ensures { OnOk result (out.new.items ≡ out.old.items ++ proof_text question.now.body constraints.now proof.now) }
 {

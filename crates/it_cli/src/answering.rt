@@ -126,7 +126,6 @@ pub fn text_lines(
     requires printable { IsPrintable question.now.body (length answered.now.problem.constraints) answered.now.answer }
     ensures { IfOk result (λ text. text.items ≡ text_lines_of k question.now.body answered.now) }
 {
-    question.facts();
     answer_line(
         alloc,
         k,
@@ -149,7 +148,6 @@ fn proof_lines(
     requires printable { IsPrintable question.now.body (length answered.now.problem.constraints) answered.now.answer }
     ensures { IfOk result (λ text. text.items ≡ proof_lines_of k question.now.body answered.now) }
 {
-    question.facts();
     let targets = target_rows(alloc, question, &answered.answer)?;
     proof_text(
         alloc,

@@ -27,7 +27,6 @@ fn write_proof(
     constraints: &[Constraint],
     proof: &Certificate,
 ) -> Result<(), AllocError>
-    requires some { 1 ≤ variable_count question.now.body }
     requires there { IsThere (variable_count question.now.body) (length constraints.now) proof.now }
     ensures { OnOk result (out.new.items ≡ out.old.items ++ proof_text question.now.body constraints.now proof.now) }
 {
@@ -57,7 +56,6 @@ fn write_factor(
     den: i128,
     proof: &Certificate,
 ) -> Result<(), AllocError>
-    requires some { 1 ≤ variable_count question.now.body }
     requires there { IsThere (variable_count question.now.body) (length constraints.now) proof.now }
     ensures { OnOk result (out.new.items ≡ out.old.items ++ proven_factor_text question.now.body constraints.now num den proof.now) }
 {
@@ -77,7 +75,6 @@ fn least_line(
     proof: &Certificate,
     point: &Point,
 ) -> Result<Vec<u8>, AllocError>
-    requires some { 1 ≤ variable_count question.now.body }
     requires there { IsThere (variable_count question.now.body) (length constraints.now) proof.now }
     requires point { AreValuesOf (problem_names question.now.body) point.now }
     ensures { IfOk result (λ t. t.items ≡ least_line question.now.body constraints.now k num den proof.now point.now) }
@@ -123,7 +120,6 @@ fn unbounded_line(
     proof: &Certificate,
     below: &Certificate,
 ) -> Result<Vec<u8>, AllocError>
-    requires some { 1 ≤ variable_count question.now.body }
     requires there { IsThere (variable_count question.now.body) (length constraints.now) proof.now }
     requires below { IsThere (variable_count question.now.body) (length constraints.now) below.now }
     ensures { IfOk result (λ t. t.items ≡ unbounded_line question.now.body constraints.now k num den proof.now below.now) }
@@ -196,7 +192,6 @@ fn best_line(
     constraints: &[Constraint],
     found: &Best,
 ) -> Result<Vec<u8>, AllocError>
-    requires some { 1 ≤ variable_count question.now.body }
     requires printable { IsBestPrintable (problem_names question.now.body) (length constraints.now) found.now }
     ensures { IfOk result (λ t. t.items ≡ best_line k (problem_names question.now.body) (origins_of constraints.now) (best_view found.now)) }
 {
@@ -227,7 +222,6 @@ pub fn reply_line(
     constraints: &[Constraint],
     reply: &Reply,
 ) -> Result<Vec<u8>, AllocError>
-    requires some { 1 ≤ variable_count question.now.body }
     requires printable { IsPrintable question.now.body (length constraints.now) reply.now }
     ensures { IfOk result (λ t. t.items ≡ reply_line k question.now.body (origins_of constraints.now) (reply_view reply.now)) }
 {

@@ -26,7 +26,6 @@ pub fn answer_line(
     constraints: &[Constraint],
     answer: &Answer,
 ) -> Result<Vec<u8>, AllocError>
-    requires some { 1 ≤ variable_count question.now.body }
     requires printable { IsPrintable question.now.body (length constraints.now) answer.now }
     ensures { IfOk result (λ t. t.items ≡ answer_line k question.now.body (origins_of constraints.now) (answer_view answer.now)) }
 {

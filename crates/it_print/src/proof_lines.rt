@@ -31,7 +31,6 @@ pub fn proof_text(
     targets: &[Row],
     answer: &Answer,
 ) -> Result<Vec<u8>, AllocError>
-    requires some { 1 ≤ variable_count question.now.body }
     requires printable { IsPrintable question.now.body (length constraints.now) answer.now }
     requires rows { All (λ c. IsRowOver (problem_names question.now.body) c.row) constraints.now }
     requires targets { All (IsRowOver (problem_names question.now.body)) targets.now }

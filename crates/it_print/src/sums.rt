@@ -130,7 +130,6 @@ pub fn sum_text(
     constraints: &[Constraint],
     certificate: &Certificate,
 ) -> Result<Vec<u8>, AllocError>
-    requires some { 1 ≤ variable_count question.now.body }
     requires there { All (λ w. w.0 < length (elementals (variable_count question.now.body)) + length constraints.now) certificate.now.weights.items }
     ensures { IfOk result (λ t. t.items ≡ sum_text (variable_names question.now.body) (origins_of constraints.now) certificate.now.weights.items) }
 {

@@ -243,7 +243,6 @@ fn write_obligation(
     row: &Row,
     proof: &Certificate,
 ) -> Result<(), AllocError>
-    requires some { 1 ≤ variable_count asked.now.question.now.body }
     requires origins { origins_of asked.now.constraints.now ≡ question_origins asked.now.question.now.body }
     requires there { All (λ w. w.0 < length (elementals (variable_count asked.now.question.now.body)) + length asked.now.constraints.now) proof.now.weights.items }
     requires free { IsFreeProblem asked.now.question.now.body free.now }
@@ -276,7 +275,6 @@ fn own_proofs(
     rows: &[Row],
     proofs: &[Certificate],
 ) -> Result<Vec<u8>, AllocError>
-    requires some { 1 ≤ variable_count asked.now.question.now.body }
     requires origins { origins_of asked.now.constraints.now ≡ question_origins asked.now.question.now.body }
     requires there { AreListed (variable_count asked.now.question.now.body) (length asked.now.constraints.now) proofs.now }
     requires free { IsFreeProblem asked.now.question.now.body free.now }
@@ -301,7 +299,6 @@ fn write_own_line(
     rows: &[Row],
     proofs: &[Certificate],
 ) -> Result<(), AllocError>
-    requires some { 1 ≤ variable_count asked.now.question.now.body }
     requires origins { origins_of asked.now.constraints.now ≡ question_origins asked.now.question.now.body }
     requires contains { IsContainment asked.now.question.now.body.verb }
     requires counted { length asked.now.parts.now ≡ length (auxiliary_names asked.now.question.now.body.names asked.now.question.now.body.verb) }
@@ -342,7 +339,6 @@ fn write_own_lines(
     rows: &[Row],
     proofs: &[Certificate],
 ) -> Result<(), AllocError>
-    requires some { 1 ≤ variable_count asked.now.question.now.body }
     requires contains { IsContainment asked.now.question.now.body.verb }
     requires counted { length asked.now.parts.now ≡ length (auxiliary_names asked.now.question.now.body.names asked.now.question.now.body.verb) }
     requires origins { origins_of asked.now.constraints.now ≡ question_origins asked.now.question.now.body }
@@ -376,7 +372,6 @@ pub fn write_contained(
     asked: &Containment<'_>,
     proofs: &[Certificate],
 ) -> Result<(), AllocError>
-    requires some { 1 ≤ variable_count asked.now.question.now.body }
     requires origins { origins_of asked.now.constraints.now ≡ question_origins asked.now.question.now.body }
     requires there { AreListed (variable_count asked.now.question.now.body) (length asked.now.constraints.now) proofs.now }
     requires counted { length asked.now.parts.now ≡ length (auxiliary_names asked.now.question.now.body.names asked.now.question.now.body.verb) }

@@ -49,7 +49,6 @@ fn weights_text(
     constraints: &[Constraint],
     certificate: &Certificate,
 ) -> Result<Vec<u8>, AllocError>
-    requires some { 1 ≤ variable_count question.now.body }
     requires there { All (λ w. w.0 < length (elementals (variable_count question.now.body)) + length constraints.now) certificate.now.weights.items }
     ensures { IfOk result (λ t. t.items ≡ weights_text question.now.body (origins_of constraints.now) (certificate_view certificate.now)) }
 {
@@ -215,7 +214,6 @@ fn plain_proof(
     line: Option<&[u8]>,
     options: Options,
 ) -> Result<Vec<u8>, AllocError>
-    requires some { 1 ≤ variable_count question.now.body }
     requires origins { origins_of constraints.now ≡ question_origins question.now.body }
     requires there { All (λ w. w.0 < length (elementals (variable_count question.now.body)) + length constraints.now) certificate.now.weights.items }
     ensures { IfOk result (λ t. IsProofText question.now.body (form_with_proof row.now certificate.now) t.items) }
@@ -254,7 +252,6 @@ fn plain_texts(
     line: Option<&[u8]>,
     options: Options,
 ) -> Result<Texts, AllocError>
-    requires some { 1 ≤ variable_count question.now.body }
     requires origins { origins_of constraints.now ≡ question_origins question.now.body }
     requires there { All (λ w. w.0 < length (elementals (variable_count question.now.body)) + length constraints.now) certificate.now.weights.items }
     ensures { IfOk result (λ t. AreProofTexts question.now.body options (form_with_proof row.now certificate.now) (record { proof = t.proof.items; steps = map (λ s. s.items) t.steps.items })) }
@@ -283,7 +280,6 @@ fn proof_texts(
     line: Option<&[u8]>,
     options: Options,
 ) -> Result<Texts, AllocError>
-    requires some { 1 ≤ variable_count question.now.body }
     requires origins { origins_of constraints.now ≡ question_origins question.now.body }
     requires there { All (λ w. w.0 < length (elementals (variable_count question.now.body)) + length constraints.now) certificate.now.weights.items }
     ensures { IfOk result (λ t. AreProofTexts question.now.body options (form_with_proof row.now certificate.now) (record { proof = t.proof.items; steps = map (λ s. s.items) t.steps.items })) }
@@ -333,7 +329,6 @@ pub fn write_proof(
     certificate: &Certificate,
     line: Option<&[u8]>,
 ) -> Result<(), AllocError>
-    requires some { 1 ≤ variable_count question.now.body }
     requires origins { origins_of constraints.now ≡ question_origins question.now.body }
     requires there { All (λ w. w.0 < length (elementals (variable_count question.now.body)) + length constraints.now) certificate.now.weights.items }
     ensures { OnOk result (AppendsProof question.now.body options (form_with_proof row.now certificate.now) out.old.items out.new.items) }
@@ -361,7 +356,6 @@ pub fn write_proofs(
     rows: &[Row],
     proofs: &[Certificate],
 ) -> Result<(), AllocError>
-    requires some { 1 ≤ variable_count question.now.body }
     requires origins { origins_of constraints.now ≡ question_origins question.now.body }
     requires there { AreListed (variable_count question.now.body) (length constraints.now) proofs.now }
     requires as_many { length rows.now ≡ length proofs.now }
@@ -392,7 +386,6 @@ fn write_relation_proofs(
     constraints: &[Constraint],
     proofs: &[Certificate],
 ) -> Result<(), AllocError>
-    requires some { 1 ≤ variable_count question.now.body }
     requires origins { origins_of constraints.now ≡ question_origins question.now.body }
     requires there { AreListed (variable_count question.now.body) (length constraints.now) proofs.now }
     requires fits { HasQuestionShape question.now.body (Yes (map certificate_view proofs.now)) }
@@ -461,7 +454,6 @@ pub fn write_details(
     constraints: &[Constraint],
     answer: &Answer,
 ) -> Result<(), AllocError>
-    requires some { 1 ≤ variable_count question.now.body }
     requires origins { origins_of constraints.now ≡ question_origins question.now.body }
     requires fits { HasQuestionShape question.now.body (answer_view answer.now) }
     requires printable { IsPrintable question.now.body (length constraints.now) answer.now }

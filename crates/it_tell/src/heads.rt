@@ -44,7 +44,6 @@ pub fn head_line(
     constraints: &[Constraint],
     answer: &Answer,
 ) -> Result<Vec<u8>, AllocError>
-    requires some { 1 ≤ variable_count question.now.body }
     requires printable { IsPrintable question.now.body (length constraints.now) answer.now }
     ensures { IfOk result (λ t. t.items ≡ head_line k question.now.body (answer_view answer.now)) }
 {

@@ -18,7 +18,7 @@ pub returns : goal.returns
 returns c = misfit_told c.args.limits c.args.question.now c.as_slice.result.now c.in_ok-line-in-None.line.items
     (c.as_slice.ensures.value ∙ c.in_ok-text.ensures) (reply_view c.args.reply.now) c.as_slice-in-None.result.now
     (c.as_slice-in-None.ensures.value ∙ c.in_ok-words-in-None.ensures
-    ∙ ap (λ (v : NamesView). unreported c.args.limits v (reply_view c.args.reply.now)) c.problem_names.ensures)
+    ∙ ap (λ (v : NamesView). unreported c.args.limits v (reply_view c.args.reply.now)) c.problem_names.ensures.value)
     c.in_ok-line-in-None.ensures
     (subst (λ (s : Option (Vec Step Global)). AreToldSteps true c.args.limits c.args.question.now.body
     (reply_view c.args.reply.now) (option_map (λ v. step_views v.items) s)) c.in-None.is c.in_ok-steps.ensures)

@@ -1,11 +1,7 @@
 use Rattle.it_space.specs.Answers.{answer_view}
 use Rattle.it_region.specs.AnswerForms.{answer_forms}
-use Rattle.it_cli.proofs.LineLemmas.{some_names}
 use Rattle.it_cli.proofs.ProofLemmas.{constraints_over, targets_over}
 use Rattle.it_cli.proofs.answering.proof_lines.Goals as goal
-
-pub proof_text-requires-clause-some : goal.proof_text-requires-clause-some
-proof_text-requires-clause-some c = some_names c.args.question.now.body c.facts.ensures
 
 pub proof_text-requires-clause-rows : goal.proof_text-requires-clause-rows
 proof_text-requires-clause-rows c = rw c.constraints.ensures.value (constraints_over

@@ -27,7 +27,7 @@ other_line-requires c =
     let code = reported_code_view c.args.code.now in
     let a = answer_view c.args.answer.now in
     let told = subst (λ values. FirstOtherIs code.code code.times values c.in_ok-other.other) (sym c.point_of-point.ensures) c.in_ok-other.ensures in
-    set_named c.args.question.now.body a code c.problem_names.result.now c.in-Some.set c.requires.fits c.problem_names.ensures
+    set_named c.args.question.now.body a code c.problem_names.result.now c.in-Some.set c.requires.fits c.problem_names.ensures.value
     (subst (FirstOtherIs code.code code.times (values_of a)) c.in-Some.is told)
 
 pub returns-in-Some : goal.returns-in-Some
@@ -37,7 +37,7 @@ returns-in-Some c =
     let told = subst (λ values. FirstOtherIs code.code code.times values c.in_ok-other.other) (sym c.point_of-point.ensures) c.in_ok-other.ensures in
     other_coded (λ j. j.text.items) (λ j. j.invalid) c.args.k c.args.question.now.body a code c.in_ok-judged.judged.text.items
     c.in_ok-judged.judged.invalid
-    c.problem_names.result.now c.in-Some.set c.other_line.result c.requires.fits.no c.if-judged.false c.in_ok-judged.ensures c.problem_names.ensures
+    c.problem_names.result.now c.in-Some.set c.other_line.result c.requires.fits.no c.if-judged.false c.in_ok-judged.ensures c.problem_names.ensures.value
     (subst (FirstOtherIs code.code code.times (values_of a)) c.in-Some.is told) c.other_line.ensures
 
 pub returns-in-None : goal.returns-in-None

@@ -35,5 +35,5 @@ returns c =
     let are = target_rows_are q (relation_view c.relation_of.result.now) c.relation_of.ensures a p.space c.in_ok-rows.rows.items
     c.in_ok-problem.ensures.poses.space (rw c.space.ensures.value at c.in_ok-rows.ensures) in
     verdict_is_told (λ j. j.text.items) (λ j. j.invalid) c.args.k q a c.problem_names.result.now v c.verdict_line.result
-    (has_verdict q p c.in_ok-problem.ensures.poses a c.in_ok-rows.rows.items c.problem_names.result.now v are c.problem_names.ensures e)
+    (has_verdict q p c.in_ok-problem.ensures.poses a c.in_ok-rows.rows.items c.problem_names.result.now v are c.problem_names.ensures.value e)
     c.verdict_line.ensures

@@ -46,6 +46,6 @@ returns c =
     subst (λ (items : List (Mark × Terms)). AppendsEach indented_line (IsMarkedRowText q style) items c.args.out.now.items c.loop-row.out.items)
     (ap rows_at c.as_slice-in_order.ensures.value ∙ c.in_ok-told.ensures
     ∙ ap (λ (n : ℕ). told_rows style n c.args.rows.now) (ap (λ (s : Space). s.variables) c.space-space.ensures.counts
-    ∙ ap (λ (v : NamesView). length v.variables) c.problem_names.ensures))
+    ∙ ap (λ (v : NamesView). length v.variables) c.problem_names.ensures.value))
     (all_appended indented_line (IsMarkedRowText q style) c.args.out.now.items c.loop-row.out.items
     (rows_at refs) c.loop-row.row-index c.loop-row.invariant (simp length-map (omega arith)))
