@@ -8,8 +8,8 @@ ghost use Rattle.it_prove.specs.ProofViews.{EndsWith, proof_view};
 ghost use Rattle.it_outer.specs.Rounds.{AreOutcomes};
 
 use indexmap::IndexMap;
-use it_prove::{ClosedProblem, Effort, Proof};
 use it_problems::Problem;
+use it_prove::{ClosedProblem, Effort, Proof};
 use it_space::{Certificate, Row};
 use std::alloc::{AllocError, Global};
 

@@ -7,8 +7,8 @@ ghost use Rattle.it_outer.specs.Search.{VisitEnds};
 
 use crate::outcomes::Outcomes;
 use crate::types::Visit;
-use it_prove::{Effort, Proof};
 use it_problems::Problem;
+use it_prove::{Effort, Proof};
 use it_space::Row;
 use std::alloc::{AllocError, Global};
 
