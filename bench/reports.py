@@ -1,5 +1,5 @@
 #!/usr/bin/env python3
-"""Writes a report of so many bytes for `bench/run check`, each line of which is valid.
+"""Writes a report of a given length in bytes for `bench/run check`, each line of which is valid.
 
 usage: reports.py answers|weights|texts|keys BYTES
   answers: the lines of examples/worked-report.json, over and over.

@@ -294,7 +294,7 @@ def told(columns, target, budget):
 
 
 def units(count, budget):
-    """Each of so many columns has one coordinate, and the target has all: one step for each."""
+    """Each column has one coordinate, and the target has all: one step for each."""
     if sys.argv[1] == "ends":
         return f"narrow pivots {budget}" if budget < count else " ".join(["narrow weights"] + [f"{j}:1/1" for j in range(count)])
     return " ".join([str(budget), str(count), row([1] * count)] + [f"{k}:1" for k in range(1, count + 1)])

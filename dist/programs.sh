@@ -109,7 +109,7 @@ unpack() {
     fi
     chmod +x "$part"
     if ! "$part" "$@" </dev/null >/dev/null 2>&1; then
-        lack="the program of dist/$name.gz doesn't run on this machine (docs/answers.md)"
+        lack="the program of dist/$name.gz doesn't run on this machine (docs/reference/statuses.md)"
         return 1
     fi
     [ "$part" = "$built" ] || mv "$part" "$built"

@@ -8,7 +8,7 @@ inequalities", 1998).
 from closures import table_size
 from questions import ENTRIES, LINES, VARIABLES, File, Generator, Line, Question, lines_of, row_of
 
-# at most so many copies, and names of a set
+# the most copies, and the most names of a set
 COPIES, PARTS = 4, 4
 
 

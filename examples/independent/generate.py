@@ -149,7 +149,7 @@ class Draws:
 
 
 def generated_file(seed, count):
-    """So many questions: whether the sum of three elemental inequalities with weights 1 to 4 is at least 0 to 2 times an entropy."""
+    """COUNT questions: whether the sum of three elemental inequalities with weights 1 to 4 is at least 0 to 2 times an entropy."""
     draws, scope, text = Draws(seed), Scope("ABCD"), ""
     names = [g.name for g in scope.elementals()]
     for _ in range(count):

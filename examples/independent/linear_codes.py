@@ -16,7 +16,7 @@ def rank(vectors, q):
 
 
 def first_other(q, times, variables, values):
-    """The first set of variables, by number, whose value isn't so many times the rank of its functions; 0 where there is none."""
+    """The first set of variables, by number, whose value isn't `times` the rank of its functions; 0 where there is none."""
     for number in range(1, 1 << len(variables)):
         functions = [function for place, of in enumerate(variables) if number >> place & 1 for function in of]
         if values[number] != times * rank(functions, q):

@@ -29,7 +29,7 @@ def kept_rates(question):
     return [at for at in range(2 ** len(question.names), question.size() + 1) if at not in question.eliminated]
 
 
-# so many columns at once are asked what they are worth
+# how many columns are priced at once
 BLOCK = 64
 
 

@@ -16,7 +16,7 @@ BLANKS = re.compile(" *")
 TOKEN = re.compile(r"([A-Za-z][A-Za-z0-9_]*)|([0-9]+)|->|>=|<=|:=|[(),;|+=/-]")
 SIGNS = (">=", "<=", "=")
 
-# at most so many of each, and a table of so many entries
+# the most of each, and the most entries of a table
 QUESTIONS, VARIABLES, AUXILIARIES, RATES, LINES, MEMBERS, TERMS = 1000, 10, 4, 16, 64, 16, 256
 ENTRIES = 4000000
 
@@ -186,7 +186,7 @@ class Line:
         return name
 
     def new_names(self, taken, most):
-        """Names that aren't taken, and differ; so many at most."""
+        """Names that aren't taken, and differ; at most the given number."""
         names = []
         while True:
             name = self.name()

@@ -221,7 +221,7 @@ def question_of(value):
 
 
 def file_of(text, most, reader, key):
-    """What a reader finds in a text of so many bytes."""
+    """What a reader finds in a text of at most `most` bytes."""
     text = text.encode("utf-8")
     rule(len(text) <= most, key)
     try:

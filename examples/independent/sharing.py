@@ -6,7 +6,7 @@ it (Beimel, "Secret-Sharing Schemes: A Survey", 2011). It is enough to say so of
 
 from questions import LINES, SIGNS, Fault, Generator, Line, Question, lines_of, negated, row_of
 
-# at most so many parties
+# the most parties
 PARTIES = 8
 
 

@@ -127,14 +127,14 @@ fn is_numbered(certificate: &Certificate) -> bool
     certificate.scale != i128::MIN && are_amounts(certificate.weights.as_slice())
 }
 
-/// The same of weights.
+/// Whether a report can have the numbers of `weights`: none is the least of its type.
 fn are_amounts(weights: &[(u32, i128)]) -> bool
     ensures { OnTrue result (All IsNumberedAmount weights.now) }
 {
     weights.iter().all(is_amount)
 }
 
-/// The same of one.
+/// Whether a report can have the number of `weight`.
 fn is_amount(weight: &(u32, i128)) -> bool
     ensures { OnTrue result (IsNumberedAmount weight.now) }
 {

@@ -23,7 +23,7 @@ pub enum OuterCause {
     Rows,
     /// A number of a hull passes 2^127 - 1.
     Width,
-    /// As many rays as are allowed were found, and a row of their hull is still refuted.
+    /// The limit of rays was reached, and a row of their hull is still refuted.
     Rays,
 }
 

@@ -32,9 +32,9 @@ Answers question files in the field's own notation (docs/guide/ask.md); - is sta
 --per RATE   with --outer, corner points per unit of this rate
 --proofs     with --outer, below each row its proof, and below each corner or ray a point that is there
 --run bland  by the run with Bland's rule alone; without it quick runs come first
---pivots N   so many steps for each run with Bland's rule, or none; what is undecided then isn't asked anew
---rows N     so many rows in an elimination, or in a step of an outer bound
---tries N    so many candidates in a containment, or rays of an outer bound
+--pivots N   at most N steps for each run with Bland's rule, or none; what is undecided then isn't asked anew
+--rows N     at most N rows in an elimination, or in a step of an outer bound
+--tries N    at most N candidates in a containment, or rays of an outer bound
 --made       the question file that a file with less to write makes, in the place of answers
 --version    which program this is
 """

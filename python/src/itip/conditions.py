@@ -72,7 +72,7 @@ class Question:
 
 
 def conditions(variables: int) -> Iterator[Condition]:
-    """All conditions on so many variables: two disjoint sets given a third one, and one variable that others determine."""
+    """All conditions on this number of variables: two disjoint sets given a third one, and one variable that others determine."""
     everything = (1 << variables) - 1
     for known in range(everything + 1):
         free = everything & ~known

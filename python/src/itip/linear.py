@@ -33,7 +33,7 @@ class Late(Exception):
 
 
 class Code:
-    """The space of each variable, over so many elements; `times` its ranks are the point's entropies."""
+    """The space of each variable, over `elements` elements; `times` its ranks are the point's entropies."""
 
     def __init__(self, elements: int, spaces: Sequence[Space], times: int) -> None:
         self.elements, self.spaces, self.times = elements, spaces, times

@@ -22,7 +22,7 @@ BEST = ("best", "--report")
 LONG = f"a file has at most {MOST_BYTES} bytes"
 ENDS = {2: "the words have no reading", 4: "a read failed", 5: "a write failed", 6: "there was too little memory"}
 
-Budget = Union[int, None, str]  # so many steps, None for any number, or "usual"
+Budget = Union[int, None, str]  # a number of steps, None for any number, or "usual"
 AnyPath = Union[str, "os.PathLike[str]"]
 
 

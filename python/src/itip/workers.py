@@ -10,7 +10,7 @@ from .program import Budget, Itip
 
 
 def spread_report(executor: Executor, at: Itip, questions: Sequence[str], pivots: Budget, batch: int) -> list[str]:
-    """The report of the questions, a line for each in their order, from calls of so many questions each.
+    """The report of the questions, a line for each in their order, from calls of `batch` questions each.
 
     The first call without its lines ends it all: what it raised is raised here, and calls that haven't begun are cancelled.
     """
