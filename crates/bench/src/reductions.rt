@@ -12,10 +12,10 @@ use crate::output::Output;
 use crate::targets::Asking;
 use it_canon::{problem, system};
 use it_eliminate::{Eliminated, step};
+use it_problems::{Constraint, Kind, Origin, Problem, System};
 use it_prove::Effort;
 use it_question::types::{Question, Verb};
 use it_redundant::{kept_system, reduce};
-use it_problems::{Constraint, Kind, Origin, Problem, System};
 use it_space::Row;
 use std::alloc::{AllocError, Global};
 

@@ -15,8 +15,8 @@ use crate::numbers::{certificate, turned_point, whole_point};
 use it_check::{Verdict, check_no, check_yes};
 use it_columns::opposite_row;
 use it_fraction::{Fraction, Wide, signed_product};
-use it_ratio::{RowStop, side_row};
 use it_problems::Problem;
+use it_ratio::{RowStop, side_row};
 use it_space::{Certificate, Point, Row, RowFault, value};
 use std::alloc::Global;
 

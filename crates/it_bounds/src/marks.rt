@@ -7,9 +7,9 @@ ghost use Rattle.it_bounds.specs.RowReplies.{AreMarked};
 
 use it_answer::marked_rows;
 use it_hull::constants;
+use it_problems::System;
 use it_prove::Effort;
 use it_redundant::reduce;
-use it_problems::System;
 use it_space::{Mark, Row, Space};
 use std::alloc::{AllocError, Global};
 

@@ -18,11 +18,11 @@ use crate::marks::with_marks;
 use crate::types::{RepliedProblem, Reply};
 use it_closure::size;
 use it_outer::{Bounds, Limits, Outer, outer};
+use it_problems::Problem;
 use it_prove::Effort;
 use it_question::readers::MOST_ENTRIES;
 use it_question::types::{Question, Verb};
 use it_rates::problem_of_lines;
-use it_problems::Problem;
 use it_space::Space;
 use std::alloc::{AllocError, Global};
 

@@ -15,9 +15,9 @@ ghost use Rattle.it_space.specs.Rows.{most_system_rows};
 
 use it_eliminate::Eliminated;
 use it_hull::{constants, first_rows, with_ray};
+use it_problems::{Problem, System};
 use it_prove::Effort;
 use it_redundant::{kept_system, reduce};
-use it_problems::{Problem, System};
 use it_space::{Certificate, Point, Row, Space};
 use it_spans::{Frame, RowDrop, Step};
 use std::alloc::{AllocError, Global};

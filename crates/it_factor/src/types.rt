@@ -1,6 +1,6 @@
 //! Replies with their problems.
-use it_ratio::types::Best;
 use it_problems::Problem;
+use it_ratio::types::Best;
 
 /// A reply to a question in mode `best`.
 #[derive(Drop)]

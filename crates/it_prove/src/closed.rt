@@ -9,8 +9,8 @@ use crate::columns::push_columns;
 use crate::types::Effort;
 use it_closure::Dependences;
 use it_elemental::generator_count;
-use it_quick::QuickProblem;
 use it_problems::Problem;
+use it_quick::QuickProblem;
 use it_space::{Row, RowFault};
 use std::alloc::{AllocError, Global};
 

@@ -22,8 +22,8 @@ use it_check::{Verdict, check_no, check_yes};
 use it_closure::Dependences;
 use it_fraction::Fraction;
 use it_lift::lift;
-use it_simplex::{Budget, Solved, solve};
 use it_problems::Problem;
+use it_simplex::{Budget, Solved, solve};
 use it_space::{Cause, Certificate, Row, RowFault};
 use std::alloc::{AllocError, Global};
 

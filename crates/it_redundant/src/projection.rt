@@ -10,8 +10,8 @@ ghost use Rattle.it_space.specs.Rows.{most_system_rows};
 use crate::reduction::reduce;
 use crate::types::{Projected, Reduced};
 use it_eliminate::{Eliminated, step};
-use it_prove::Effort;
 use it_problems::{Problem, System};
+use it_prove::Effort;
 use it_space::Space;
 use std::alloc::{AllocError, Global};
 

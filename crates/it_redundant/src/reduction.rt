@@ -13,8 +13,8 @@ ghost use Rattle.it_redundant.specs.Theorems.{AreNeeded, HoldAlike};
 use crate::others::{insert_row, remove_row};
 use crate::types::{Need, Reduced};
 use it_eliminate::problem_with;
-use it_prove::{ClosedProblem, Effort, Proof};
 use it_problems::{Problem, System};
+use it_prove::{ClosedProblem, Effort, Proof};
 use it_space::{Certificate, Row};
 use std::alloc::{AllocError, Global};
 

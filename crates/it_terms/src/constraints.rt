@@ -3,8 +3,8 @@
 use crate::finding::turned;
 use crate::untold::Untold;
 use it_fraction::lcm;
-use it_question::types::{Question, Verb};
 use it_problems::Origin;
+use it_question::types::{Question, Verb};
 use it_space::VarSet;
 use it_syntax::types::{Atom, Given, Relation, Sign, Term};
 
