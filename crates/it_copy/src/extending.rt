@@ -19,11 +19,7 @@ use crate::types::{CopyFault, CopyLine};
 use it_canon::problem;
 use it_closure::size;
 use it_problems::Problem;
-<<<<<<< HEAD
 use it_question::readers::{Body, MOST_ENTRIES, MOST_LINES, MOST_VARIABLES};
-=======
-use it_question::readers::{MOST_ENTRIES, MOST_LINES, MOST_VARIABLES};
->>>>>>> 60d577378404fb04c435435e3e9a45b95d993a39
 use it_question::types::{OwnLines, Question, Verb};
 use it_space::VarSet;
 use it_syntax::types::{Given, Relation};
