@@ -147,15 +147,15 @@ fn short_folded(
     shorter(alloc, asked, closures, best, least)
 }
 
-/// The terms over sets joined without folding, where there are no functions, `folded` has no constraints, and these are no more
-/// terms; else `folded`.
+/// The terms over sets joined without folding, where there are no functions and no constraints, and these are no more terms; else
+/// `folded`.
 fn unfolded(
     alloc: Global,
     dependences: &Dependences,
     summands: &Summands,
     folded: Summands,
 ) -> Result<Summands, Untold> {
-    if !dependences.list().is_empty() || !folded.weights.is_empty() {
+    if !dependences.list().is_empty() || !summands.weights.is_empty() {
         return Ok(folded);
     }
     let joined = joined_terms(alloc, summands.shannon.as_slice())?;

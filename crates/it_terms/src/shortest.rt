@@ -23,7 +23,7 @@ const MOST_VARIABLES: u8 = 6;
 /// closed sets.
 const MOST_CLOSED_VARIABLES: u8 = 10;
 
-const MOST_CLOSED_TERMS: usize = 40000;
+const MOST_CLOSED_TERMS: usize = 10000;
 
 /// The most terms of a row that are added up.
 const MOST_TERMS: usize = 1024;
