@@ -1,6 +1,6 @@
 -- The most bytes, questions, auxiliaries and lines. Of variables and rates it is the most of a space.
-use Rattle.std.specs.Prelude.{ℕ}
-use Rattle.std.specs.Prelude.{◌-◌, min, length}
+use Rattle.std.specs.Prelude.{ℕ, ◌-◌, min, length}
+use Rattle.it_space.specs.Spaces.{most_variables}
 use Rattle.it_syntax.specs.NamesViews.{NamesView}
 use Rattle.it_question.specs.Questions.{OwnLinesView}
 
