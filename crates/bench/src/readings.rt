@@ -92,10 +92,10 @@ fn write_given(out: &mut Output, given: &Given) {
 
 /// Writes the `given` and `row` lines.
 fn write_lines(out: &mut Output, lines: &OwnLines) {
-    for given in lines.givens.as_slice() {
+    for given in lines.givens() {
         write_given(out, given);
     }
-    for row in lines.rows.as_slice() {
+    for row in lines.rows() {
         write_relation(out, " row ", row);
     }
 }
@@ -122,10 +122,10 @@ fn write_names(out: &mut Output, names: &Names) {
 /// Writes a region: its names, how many of them are its own, and its lines.
 fn write_region(out: &mut Output, region: &Region) {
     out.put(" (");
-    write_names(out, &region.names);
+    write_names(out, region.names());
     out.put(' ');
-    out.put(region.auxiliaries);
-    write_lines(out, &region.lines);
+    out.put(region.auxiliaries());
+    write_lines(out, region.lines());
     out.put(')');
 }
 

@@ -2,7 +2,7 @@
 ghost use Rattle.std.specs.Prelude.{◌≡◌, map, IfOk};
 ghost use Rattle.it_space.specs.Answers.{answer_view};
 ghost use Rattle.it_syntax.specs.Meaning.{relation_view};
-ghost use Rattle.it_question.specs.Questions.{Contain, Prove, region_view};
+ghost use Rattle.it_question.specs.Questions.{Contain, Prove};
 ghost use Rattle.it_canon.specs.QuestionDemands.{terms_in};
 ghost use Rattle.it_region.specs.Obligations.{IsSubstitution};
 ghost use Rattle.it_answer.specs.AnswerKinds.{IsAnswerTo};
@@ -57,7 +57,7 @@ fn contained_rows(
     tries: &[[VarSet; 4]],
     answer: &Answer,
 ) -> Result<Vec<Row>, AllocError>
-    requires contains { question.now.body.verb ≡ Contain (region_view first.now) (region_view second.now) tries.now }
+    requires contains { question.now.body.verb ≡ Contain first.now second.now tries.now }
     requires fits { IsAnswerTo question.now.body (answer_view answer.now) }
     ensures { IfOk result (λ v. v.items ≡ map (terms_in question.now.body) (answer_forms question.now.body (answer_view answer.now))) }
 {
@@ -78,9 +78,9 @@ fn obligation_rows(
     tries: &[[VarSet; 4]],
     parts: &[VarSet],
 ) -> Result<Vec<Row>, AllocError>
-    requires contains { question.now.body.verb ≡ Contain (region_view first.now) (region_view second.now) tries.now }
-    requires parts { IsSubstitution (region_view first.now) (region_view second.now) parts.now }
-    ensures { IfOk result (λ v. v.items ≡ obligation_rows question.now.body (region_view first.now) (region_view second.now) parts.now) }
+    requires contains { question.now.body.verb ≡ Contain first.now second.now tries.now }
+    requires parts { IsSubstitution first.now second.now parts.now }
+    ensures { IfOk result (λ v. v.items ≡ obligation_rows question.now.body first.now second.now parts.now) }
 {
     let pair = pair(alloc, question)?;
     let candidate = candidate(parts);

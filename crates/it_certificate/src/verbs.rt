@@ -49,9 +49,9 @@ fn verb_answer(
         },
         Verb::Contain { first, second, .. } => match kind {
             AnswerKind::Contained => {
-                let variables = first.names.space().variables;
+                let variables = first.names().space().variables;
                 let obligations = obligation_count(second);
-                contained_at(alloc, value, second.auxiliaries, variables, obligations)
+                contained_at(alloc, value, second.auxiliaries(), variables, obligations)
             }
             AnswerKind::Open => open_at(value),
             AnswerKind::Yes | AnswerKind::No | AnswerKind::Undecided | AnswerKind::Region => {

@@ -186,12 +186,12 @@ fn copied(
 {
     let own = question.lines();
     let mut names = question.names().copy()?;
-    let mut givens = copies::givens(alloc, own.givens.as_slice())?;
+    let mut givens = copies::givens(alloc, own.givens())?;
     match add_copies(alloc, &mut names, &mut givens, lines) {
         Ok(()) => {}
         Err(fault) => return Err(fault),
     }
-    let rows = copies::relations(alloc, own.rows.as_slice())?;
+    let rows = copies::relations(alloc, own.rows())?;
     let relation = relation.copy()?;
     Ok(Body {
         names,
@@ -208,7 +208,7 @@ fn within_limits(alloc: Global, body: Body) -> Result<Question, CopyFault>
     ensures small { IfOk result (λ q. IsLargeBy q.body false) }
     ensures past { IfErr result (IsPastLimits (body_view body)) }
 {
-    if body.lines.givens.len() > MOST_LINES {
+    if body.lines.givens().len() > MOST_LINES {
         return Err(CopyFault::Many);
     }
     let question = body.with_source(Vec::new(alloc));

@@ -21,7 +21,7 @@ pub fn write_substitution(
         Verb::Prove(_) | Verb::Eliminate(_) => Ok(()),
         Verb::Contain { first, second, .. } => {
             let common = question.names().space().variables;
-            write_parts(out, &first.names, &second.names, common, sets)
+            write_parts(out, first.names(), second.names(), common, sets)
         }
     }
 }

@@ -5,13 +5,12 @@ use Rattle.std.proofs.lemmas.List.Elements.{All-head, All-tail}
 use Rattle.std.proofs.lemmas.List.{length-map, map-append, drop-map}
 use Rattle.it_syntax.specs.Meaning.{relation_view}
 use Rattle.it_syntax.specs.Givens.{given_view}
-use Rattle.it_question.specs.declared.types.Region.{Region}
+use Rattle.it_question.specs.Questions.{RegionView, BodyView, QuestionView}
 use Rattle.it_question.specs.declared.bodies.Body.{Body}
 use Rattle.it_question.specs.declared.cursor.Line.{Line}
 use Rattle.it_question.specs.Bodies.{body_view}
 use Rattle.it_question.specs.Cursors.{line_view}
 use Rattle.it_question.specs.Lines.{LineView}
-use Rattle.it_question.specs.Questions.{region_view, BodyView, QuestionView}
 use Rattle.it_question.specs.ReaderSteps.{FewLines}
 use Rattle.it_question.specs.LineTexts.{text_of_lines}
 use Rattle.it_question.specs.Texts.{region_line_count, question_line_count, with_texts}
@@ -20,14 +19,14 @@ use Rattle.it_question.proofs.LineParts.{texts_of}
 abbrev question_with : BodyView → List ℕ → QuestionView
 question_with p text = record { body = p; text = text }
 
-pub few_givens : (r : Region) → FewLines (region_view r).lines → length r.lines.givens.items ≤ 64
-few_givens r h = omega (arith, h.0, length-map r.lines.givens.items given_view)
+pub few_givens : (r : RegionView) → FewLines r.lines → length r.lines.givens ≤ 64
+few_givens r h = h.0
 
-pub few_rows : (r : Region) → FewLines (region_view r).lines → length r.lines.rows.items ≤ 64
-few_rows r h = omega (arith, h.1, length-map r.lines.rows.items relation_view)
+pub few_rows : (r : RegionView) → FewLines r.lines → length r.lines.rows ≤ 64
+few_rows r h = h.1
 
-pub region_lines_are : (r : Region) → region_line_count (region_view r) ≡ 1 + min 1 r.auxiliaries + (length r.lines.givens.items + length r.lines.rows.items)
-region_lines_are r = omega (arith, length-map r.lines.givens.items given_view, length-map r.lines.rows.items relation_view)
+pub region_lines_are : (r : RegionView) → region_line_count r ≡ 1 + min 1 r.auxiliaries + (length r.lines.givens + length r.lines.rows)
+region_lines_are r = omega arith
 
 -- ---- questions with their texts, one after the other
 

@@ -1,10 +1,8 @@
 -- What a question file asks, as contracts compare it: each vector by the list of its items.
-use Rattle.std.specs.Prelude.{ℕ, List, [], map}
+use Rattle.std.specs.Prelude.{ℕ, List, []}
 use Rattle.it_syntax.specs.NamesViews.{NamesView}
 use Rattle.it_syntax.specs.Meaning.{RelationView, relation_view}
-use Rattle.it_syntax.specs.Givens.{GivenView, given_view}
-use Rattle.it_question.specs.declared.types.OwnLines.{OwnLines}
-use Rattle.it_question.specs.declared.types.Region.{Region}
+use Rattle.it_syntax.specs.Givens.{GivenView}
 use Rattle.it_question.specs.declared.types.Verb.{Verb}
 use Rattle.it_question.specs.declared.types.Verb.TheVariants as verbs
 
@@ -40,16 +38,8 @@ pub record QuestionView : Type 0 where
   pub body : BodyView
   pub text : List ℕ
 
--- what contracts see of own lines
-abbrev pub own_lines_view : OwnLines → OwnLinesView
-own_lines_view own = record { givens = map given_view own.givens.items; rows = map relation_view own.rows.items }
-
--- what contracts see of a region
-abbrev pub region_view : Region → RegionView
-region_view r = record { names = r.names; auxiliaries = r.auxiliaries; lines = own_lines_view r.lines }
-
 -- what contracts see of a verb
 abbrev pub verb_view : Verb → VerbView
 verb_view (verbs.Prove r) = Prove (relation_view r)
 verb_view (verbs.Eliminate rates) = Eliminate rates.items
-verb_view (verbs.Contain first second tries) = Contain (region_view first) (region_view second) tries.items
+verb_view (verbs.Contain first second tries) = Contain first second tries.items

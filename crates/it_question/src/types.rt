@@ -1,8 +1,10 @@
 //! What a question file asks.
-ghost use Rattle.std.specs.Prelude.{◌≡◌, map};
+ghost use Rattle.std.specs.Prelude.{◌≡◌, length, map};
 ghost use Rattle.it_question.specs.Limits.{IsQuestion};
 ghost use Rattle.it_question.specs.LineTexts.{text_of_lines};
-ghost use Rattle.it_question.specs.Questions.{own_lines_view, verb_view};
+ghost use Rattle.it_syntax.specs.Givens.{given_view};
+ghost use Rattle.it_syntax.specs.Meaning.{relation_view};
+ghost use Rattle.it_question.specs.Questions.{verb_view};
 
 use it_space::VarSet;
 use it_syntax::Names;
@@ -17,6 +19,35 @@ pub struct OwnLines {
     pub rows: Vec<Relation>,
 }
 
+impl Model for OwnLines {
+    ghost use Rattle.std.specs.Prelude.{map};
+    ghost use Rattle.it_syntax.specs.Givens.{given_view};
+    ghost use Rattle.it_syntax.specs.Meaning.{relation_view};
+    ghost use Rattle.it_question.specs.Questions.{OwnLinesView};
+
+    ghost Value = { OwnLinesView };
+
+    ghost view = { λ own. record { givens = map given_view own.givens.items; rows = map relation_view own.rows.items } };
+}
+
+impl OwnLines {
+    /// The constraints of the `given` lines.
+    pub fn givens(&self) -> &[Given]
+        ensures value { map given_view result.now ≡ self.now.givens }
+        ensures count { length result.now ≡ length self.now.givens }
+    {
+        self.givens.as_slice()
+    }
+
+    /// The constraints of the `row` lines.
+    pub fn rows(&self) -> &[Relation]
+        ensures value { map relation_view result.now ≡ self.now.rows }
+        ensures count { length result.now ≡ length self.now.rows }
+    {
+        self.rows.as_slice()
+    }
+}
+
 impl Drop for OwnLines {
     fn drop(self) {
         let OwnLines { givens: _, rows: _ } = self;
@@ -29,6 +60,37 @@ pub struct Region {
     pub names: Names,
     pub auxiliaries: u8,
     pub lines: OwnLines,
+}
+
+impl Model for Region {
+    ghost use Rattle.it_question.specs.Questions.{RegionView};
+
+    ghost Value = { RegionView };
+
+    ghost view = { λ r. record { names = r.names; auxiliaries = r.auxiliaries; lines = r.lines } };
+}
+
+impl Region {
+    /// The question's names followed by the region's auxiliary variables.
+    pub fn names(&self) -> &Names
+        ensures { result.now ≡ self.now.names }
+    {
+        &self.names
+    }
+
+    /// The number of the auxiliary variables.
+    pub fn auxiliaries(&self) -> u8
+        ensures { result ≡ self.now.auxiliaries }
+    {
+        self.auxiliaries
+    }
+
+    /// The region's own lines.
+    pub fn lines(&self) -> &OwnLines
+        ensures { result.now ≡ self.now.lines }
+    {
+        &self.lines
+    }
 }
 
 impl Drop for Region {
@@ -82,13 +144,13 @@ impl Model for Question {
     ghost use Rattle.std.specs.Prelude.{map};
     ghost use Rattle.it_question.specs.Limits.{IsQuestion};
     ghost use Rattle.it_question.specs.LineTexts.{text_of_lines};
-    ghost use Rattle.it_question.specs.Questions.{QuestionView, own_lines_view, verb_view};
+    ghost use Rattle.it_question.specs.Questions.{QuestionView, verb_view};
 
     ghost Value = { QuestionView };
 
-    ghost view = { λ q. record { body = record { names = q.names; lines = own_lines_view q.lines; verb = verb_view q.verb }; text = text_of_lines (map (λ v. v.items) q.source.items) } };
+    ghost view = { λ q. record { body = record { names = q.names; lines = q.lines; verb = verb_view q.verb }; text = text_of_lines (map (λ v. v.items) q.source.items) } };
 
-    ghost invariant = { λ q. IsQuestion (record { names = q.names; lines = own_lines_view q.lines; verb = verb_view q.verb }) };
+    ghost invariant = { λ q. IsQuestion (record { names = q.names; lines = q.lines; verb = verb_view q.verb }) };
 }
 
 impl Question {
@@ -109,7 +171,7 @@ impl Question {
 
     /// The constraints before the verb or the first region.
     pub fn lines(&self) -> &OwnLines
-        ensures value { own_lines_view result.now ≡ self.now.body.lines }
+        ensures value { result.now ≡ self.now.body.lines }
         ensures question { IsQuestion self.now.body }
     {
         &self.lines

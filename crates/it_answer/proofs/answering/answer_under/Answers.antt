@@ -1,4 +1,4 @@
-use Rattle.std.proofs.Common.{List, ap}
+use Rattle.std.proofs.Common.{List, ap, sym, ◌∙◌}
 use Rattle.it_space.specs.Answers.{answer_view}
 use Rattle.it_syntax.specs.Meaning.{relation_view}
 use Rattle.it_question.specs.Questions.{verb_view}
@@ -18,7 +18,7 @@ returns-in-Prove g c =
     if_ok c.relation_answer.result (λ a. AnswersForms p (targets p.space.variables r) (answer_view a) c.args.budgets.effort)
     (λ a. IsAnswered c.args.budgets _ c.args.question.now a _) c.relation_answer.ensures
     (λ a answered. nothing_found c.args.budgets _ c.args.question.now a (answers_relation q p c.requires.problem.space
-    c.requires.problem.constraints c.requires.problem.limits c.args.budgets _ r (answer_view a) (ap verb_view c.in-Prove.is) answered))
+    c.requires.problem.constraints c.requires.problem.limits c.args.budgets _ r (answer_view a) (sym c.verb.ensures.value ∙ ap verb_view c.in-Prove.is) answered))
 
 pub returns-in-Eliminate : goal.returns-in-Eliminate
 returns-in-Eliminate g c =

@@ -1,6 +1,5 @@
 use Rattle.std.proofs.Common.{◌∙◌}
 use Rattle.it_space.specs.Answers.{answer_view}
-use Rattle.it_question.specs.Questions.{region_view}
 use Rattle.it_region.proofs.PairLemmas.{pair_of_verb}
 use Rattle.it_answer.specs.SearchAnswers.{found_of}
 use Rattle.it_answer.proofs.ContainmentLemmas.{question_is_answered, is_containment}
@@ -8,15 +7,15 @@ use Rattle.it_answer.proofs.containments.containment.Goals as goal
 
 pub pair-requires : goal.pair-requires
 pair-requires g c = record {
-  contains = is_containment c.args.question.now.body (region_view c.args.first.now)
-      (region_view c.args.second.now) c.args.tries.now c.requires.contains;
+  contains = is_containment c.args.question.now.body c.args.first.now
+      c.args.second.now c.args.tries.now c.requires.contains;
 }
 
 pub returns : goal.returns
 returns g c =
     let q = c.args.question.now.body in
-    let a = region_view c.args.first.now in
-    let b = region_view c.args.second.now in
+    let a = c.args.first.now in
+    let b = c.args.second.now in
     let p = c.in_ok-pair.pair in
     let answered =
     question_is_answered q a b c.args.tries.now p c.facts.ensures c.requires.contains c.in_ok-pair.ensures.limits
