@@ -222,7 +222,7 @@ fn write_rows(out: &mut Output, word: &str, rows: &[Row]) {
 fn write_asked(alloc: Global, out: &mut Output, question: &Question) -> Result<(), AllocError> {
     match question.verb() {
         Verb::Prove(relation) => {
-            let rows = target_rows(alloc, relation, question.names().space())?;
+            let rows = target_rows(alloc, relation, question.space())?;
             write_rows(out, "target", rows.as_slice());
         }
         Verb::Eliminate(_) => write_rows(out, "system", system(alloc, question)?.rows.as_slice()),

@@ -29,7 +29,7 @@ fn elemental_rows(alloc: Global, variables: u8) -> Result<Vec<Row>, AllocError>
 
 /// The elemental inequalities and the form of a question that proves a relation, with a budget of steps.
 fn system_of(alloc: Global, question: &Question, steps: u32) -> Result<Option<System>, AllocError> {
-    let space = question.names().space();
+    let space = question.space();
     let Verb::Prove(relation) = question.verb() else {
         return Ok(None);
     };

@@ -45,7 +45,7 @@ fn relation_rows(
     requires proves { question.now.body.verb ≡ Prove (relation_view relation.now) }
     ensures { IfOk result (λ v. v.items ≡ relation_rows question.now.body (relation_view relation.now)) }
 {
-    it_canon::target_rows(alloc, relation, question.names().space())
+    it_canon::target_rows(alloc, relation, question.space())
 }
 
 /// The rows of the obligations, where the answer is a containment.

@@ -107,7 +107,7 @@ fn steps_of(
     ensures { IfOk result (λ s. AreMade (hull_frame limits.rows question.now.body) limits.effort (first_rows (kept_rates question.now.body (gone_rates question.now.body.verb))) rays.now (option_map (λ v. step_views v.items) s)) }
 {
     question.facts();
-    let space = question.names().space();
+    let space = question.space();
     let gone = gone_rates(question.verb());
     let kept = kept_coordinates(alloc, space, gone)?;
     let frame = Frame {

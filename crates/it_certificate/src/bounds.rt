@@ -137,7 +137,7 @@ pub fn question_bounds(
     ensures { GivesKeyed bounds_view result (verb_bounds question.now.body.names question.now.body.verb (view value.now)) }
 {
     match question.verb() {
-        Verb::Eliminate(_) => bounds_at(alloc, value, question.names().space()),
+        Verb::Eliminate(_) => bounds_at(alloc, value, question.space()),
         Verb::Prove(_) | Verb::Contain { .. } => Err(ReportFault::Shape { key: Key::Answer }),
     }
 }

@@ -261,7 +261,7 @@ pub fn question_code(
 ) -> Result<ReportedCode, ReportFault>
     ensures { GivesKeyed reported_code_view result (names_code question.now.body.names (view value.now)) }
 {
-    let count = question.names().space().variables as usize;
+    let count = question.space().variables as usize;
     match code_of_member(alloc, count, value.get("code")) {
         Ok(code) => Ok(code),
         Err(refusal) => Err(fault(refusal, Key::Code)),

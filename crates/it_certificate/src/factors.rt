@@ -261,7 +261,7 @@ pub fn question_best(
     ensures { GivesKeyed best_view result (verb_best question.now.body.names question.now.body.verb kind (view value.now)) }
 {
     if asks_factor(question.verb()) {
-        best_at(alloc, value, question.names().space(), kind)
+        best_at(alloc, value, question.space(), kind)
     } else {
         Err(ReportFault::Shape { key: Key::Answer })
     }

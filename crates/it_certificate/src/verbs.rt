@@ -49,7 +49,7 @@ fn verb_answer(
         },
         Verb::Contain { first, second, .. } => match kind {
             AnswerKind::Contained => {
-                let variables = first.names().space().variables;
+                let variables = first.space().variables;
                 let obligations = obligation_count(second);
                 contained_at(alloc, value, second.auxiliaries(), variables, obligations)
             }

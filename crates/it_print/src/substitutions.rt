@@ -20,7 +20,7 @@ pub fn write_substitution(
     match question.verb() {
         Verb::Prove(_) | Verb::Eliminate(_) => Ok(()),
         Verb::Contain { first, second, .. } => {
-            let common = question.names().space().variables;
+            let common = question.space().variables;
             write_parts(out, first.names(), second.names(), common, sets)
         }
     }

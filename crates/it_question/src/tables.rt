@@ -137,7 +137,7 @@ pub fn containment_is_large(
     ensures large { IfOk result (λ large. containment_flag lines.now first.now ≡ flag_if_large large) }
     ensures memory { IfErr result (λ e. e ≡ Memory) }
 {
-    let space = first.names().space();
+    let space = first.space();
     if space.variables <= MOST_SMALL {
         return Ok(false);
     }

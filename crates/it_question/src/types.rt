@@ -1,12 +1,13 @@
 //! What a question file asks.
 ghost use Rattle.std.specs.Prelude.{◌≡◌, length, map};
+ghost use Rattle.it_demand.specs.QuestionSpaces.{space_of};
 ghost use Rattle.it_question.specs.Limits.{IsQuestion};
 ghost use Rattle.it_question.specs.LineTexts.{text_of_lines};
 ghost use Rattle.it_syntax.specs.Givens.{given_view};
 ghost use Rattle.it_syntax.specs.Meaning.{relation_view};
 ghost use Rattle.it_question.specs.Questions.{verb_view};
 
-use it_space::VarSet;
+use it_space::{Space, VarSet};
 use it_syntax::Names;
 use it_syntax::types::{Code, Given, Relation};
 use std::alloc::AllocError;
@@ -76,6 +77,13 @@ impl Region {
         ensures { result.now ≡ self.now.names }
     {
         &self.names
+    }
+
+    /// The numbers of variables and of rates.
+    pub fn space(&self) -> Space
+        ensures counts { result ≡ space_of self.now.names }
+    {
+        self.names.space()
     }
 
     /// The number of the auxiliary variables.
@@ -167,6 +175,14 @@ impl Question {
         ensures question { IsQuestion self.now.body }
     {
         &self.names
+    }
+
+    /// The numbers of variables and of rates.
+    pub fn space(&self) -> Space
+        ensures counts { result ≡ space_of self.now.body.names }
+        ensures question { IsQuestion self.now.body }
+    {
+        self.names.space()
     }
 
     /// The constraints before the verb or the first region.

@@ -25,7 +25,7 @@ pub fn problem_of_lines(alloc: Global, question: &Question) -> Result<Problem, A
     ensures { IfOk result (λ p. IsProblemOf (under_all_lines question.now.body) p) }
 {
     question.facts();
-    let space = question.names().space();
+    let space = question.space();
     let constraints = line_constraints(alloc, question.lines(), space)?;
     Ok(Problem { space, constraints })
 }

@@ -28,14 +28,14 @@ fn pair_of(alloc: Global, question: &Question) -> Result<Pair, AllocError>
         unreachable!()
     };
     let first = problem(alloc, question)?;
-    let space = second.names().space();
+    let space = second.space();
     let first_given = 1 + question.lines().givens().len() as u16;
     let first_row = 1 + question.lines().rows().len() as u16;
     let own = region_lines(alloc, second, first_given, first_row, space)?;
     Ok(Pair {
         first,
         space,
-        common: question.names().space().variables,
+        common: question.space().variables,
         parts: second.auxiliaries(),
         own,
     })

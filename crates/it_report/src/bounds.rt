@@ -45,7 +45,7 @@ fn hull_verdict(
     ensures { IfOk result (HullVerdictIs question.now.body (bounds_view bounds.now)) }
 {
     question.facts();
-    let space = question.names().space();
+    let space = question.space();
     let gone = gone_rates(question.verb());
     let kept = kept_coordinates(alloc, space, gone)?;
     let frame = Frame {

@@ -46,7 +46,7 @@ fn own_constraints(alloc: Global, question: &Question) -> Result<Vec<Constraint>
     let Verb::Contain { second, .. } = question.verb() else {
         unreachable!()
     };
-    let space = second.names().space();
+    let space = second.space();
     let own = region_lines(alloc, second, 1, 1, space)?;
     Ok(own)
 }
@@ -142,7 +142,7 @@ fn write_parts(out: &mut Vec<u8>, asked: &Containment<'_>) -> Result<(), AllocEr
     let Verb::Contain { second, .. } = asked.question.verb() else {
         unreachable!()
     };
-    let common = asked.question.names().space().variables;
+    let common = asked.question.space().variables;
     let names = problem_names(asked.question);
     write_choices(out, names, second.names(), common, asked.parts)
 }

@@ -85,7 +85,7 @@ fn relation_rows(
     // the proofs are named in the clauses alone
     let _proofs = proofs;
     let relation = relation_of(question);
-    let rows = target_rows(alloc, relation, question.names().space())?;
+    let rows = target_rows(alloc, relation, question.space())?;
     Ok(rows)
 }
 

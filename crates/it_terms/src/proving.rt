@@ -372,7 +372,7 @@ pub fn goal_of(
     requires some { 1 ≤ length names.now.variables }
 {
     if let Verb::Prove(relation) = question.verb() {
-        let targets = target_rows(alloc, relation, question.names().space())?;
+        let targets = target_rows(alloc, relation, question.space())?;
         if let Some(place) = place_of(targets.as_slice(), row) {
             return relation_goal(alloc, relation, place);
         }

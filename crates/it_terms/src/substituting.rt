@@ -184,7 +184,7 @@ pub fn substituted(
         return Err(Untold::NotFound);
     };
     let substitution = Substitution {
-        common: question.names().space().variables,
+        common: question.space().variables,
         parts,
     };
     substitution.demanded(alloc, second, origin)

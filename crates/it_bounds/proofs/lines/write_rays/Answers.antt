@@ -23,5 +23,5 @@ returns c = rays_done c.args.k c.problem_names-names.result.now (problem_names c
     (told_rates c.args.question.now.body) c.args.rays.now c.loop-ray.ray-index
     c.loop-ray.out.items c.args.out.now.items c.problem_names-names.ensures.value
     (c.in_ok-kept.ensures ∙ ap₂ (λ (s : Space) (rs : List ℕ). kept_coordinates s rs)
-    (c.space.ensures.counts ∙ ap space_of c.problem_names-names.ensures.value) c.gone_rates.ensures)
+    (c.space.ensures.counts ∙ ap space_of c.problem_names-names.ensures.value) (rw c.verb.ensures.value at c.gone_rates.ensures))
     c.loop-ray-test.false c.loop-ray.invariant

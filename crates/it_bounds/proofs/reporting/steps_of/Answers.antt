@@ -11,11 +11,11 @@ pub hull_steps-requires : goal.hull_steps-requires
 hull_steps-requires c = let q = c.args.question.now.body in record {
   frame = own_frame c.args.limits.rows q c.facts.ensures c.requires.few_rows
       (some_rates q c.facts.ensures c.requires.asked) c.space-space.result c.gone_rates-gone.result.now c.as_slice.result.now
-      c.space-space.ensures.counts c.gone_rates-gone.ensures
+      c.space-space.ensures.counts (rw c.verb.ensures.value at c.gone_rates-gone.ensures)
       (c.as_slice.ensures.value ∙ c.in_ok-kept.ensures);
   kept = own_kept c.args.limits.rows q c.facts.ensures c.requires.few_rows
       (some_rates q c.facts.ensures c.requires.asked) c.space-space.result c.gone_rates-gone.result.now c.as_slice.result.now
-      c.space-space.ensures.counts c.gone_rates-gone.ensures
+      c.space-space.ensures.counts (rw c.verb.ensures.value at c.gone_rates-gone.ensures)
       (c.as_slice.ensures.value ∙ c.in_ok-kept.ensures);
   rays = subst (λ (s : Space). All (λ (ray : List ℤ). length ray ≡ size_of s) c.args.rays.now) (sym c.space-space.ensures.counts) c.requires.rays;
 }
@@ -23,5 +23,5 @@ hull_steps-requires c = let q = c.args.question.now.body in record {
 pub returns : goal.returns
 returns c = own_steps c.args.limits c.args.question.now.body c.facts.ensures c.requires.few_rows
     (some_rates c.args.question.now.body c.facts.ensures c.requires.asked) c.space-space.result c.gone_rates-gone.result.now
-    c.as_slice.result.now c.space-space.ensures.counts c.gone_rates-gone.ensures
+    c.as_slice.result.now c.space-space.ensures.counts (rw c.verb.ensures.value at c.gone_rates-gone.ensures)
     (c.as_slice.ensures.value ∙ c.in_ok-kept.ensures) c.args.rays.now (option_map (λ v. step_views v.items) c.in_ok-steps.steps) c.in_ok-steps.ensures

@@ -5,7 +5,7 @@ pub invariant_of-result : goal.invariant_of-result
 invariant_of-result c =
     (posed_by_lines c.args.question.now.body
     (record { space = c.space-space.result; constraints = c.in_ok-constraints.constraints.items }) c.facts.ensures
-    c.space-space.ensures.counts c.in_ok-constraints.ensures).limits
+    c.space-space.ensures.counts (rw c.lines.ensures.value at c.in_ok-constraints.ensures)).limits
 
 pub returns : goal.returns
-returns c = posed_by_lines c.args.question.now.body _ c.facts.ensures c.space-space.ensures.counts c.in_ok-constraints.ensures
+returns c = posed_by_lines c.args.question.now.body _ c.facts.ensures c.space-space.ensures.counts (rw c.lines.ensures.value at c.in_ok-constraints.ensures)

@@ -12,7 +12,7 @@ pub check_hull-requires-clause-kept : goal.check_hull-requires-clause-kept
 check_hull-requires-clause-kept c = own_kept most_rows c.args.question.now.body c.facts.ensures (omega arith)
     (asked_rates c.args.question.now.body c.requires.fits.gone c.facts.ensures c.requires.fits.asked) c.space-space.result
     c.gone_rates-gone.result.now c.as_slice.result.now
-    c.space-space.ensures.counts c.gone_rates-gone.ensures (c.as_slice.ensures.value ∙ c.in_ok-kept.ensures)
+    c.space-space.ensures.counts (rw c.verb.ensures.value at c.gone_rates-gone.ensures) (c.as_slice.ensures.value ∙ c.in_ok-kept.ensures)
 
 pub check_hull-requires-clause-steps : goal.check_hull-requires-clause-steps
 check_hull-requires-clause-steps c =
