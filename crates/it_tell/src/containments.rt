@@ -15,7 +15,7 @@ ghost use Rattle.it_tell.specs.OwnLines.{own_line_comment, relation_part, sets_w
 ghost use Rattle.it_tell.specs.Steps.{AppendsDetails, AppendsEachOwnLine, AppendsObligation, AppendsOwnLine, AppendsOwnProofs, AreObligations, AreOwnConstraints, HasObligations, IsFreeProblem, SaysOrNothing, contained_by, form_with_proof, obliged};
 ghost use Rattle.it_tell.specs.Tellings.{IsByShannon};
 
-use crate::details::{write_indented, write_proof, write_proofs};
+use crate::details::{Asked, write_indented, write_proof, write_proofs};
 use crate::settings::{Options, is_plain};
 use it_canon::{problem_names, region_lines};
 use it_check::{Verdict, check_yes};
@@ -25,7 +25,7 @@ use it_question::types::{Question, Verb};
 use it_region::{candidate, obligations, pair};
 use it_space::{Certificate, Row, VarSet};
 use it_syntax::Names;
-use it_terms::told_line;
+use it_terms::{Proven, told_line};
 use std::alloc::{AllocError, Global};
 
 /// A containment question, the options of its telling, the constraints of its problem, and the sets for the second region's
@@ -252,16 +252,17 @@ fn write_obligation(
     if is_by_shannon(free, row, proof) {
         return Ok(());
     }
-    write_proof(
-        alloc,
-        out,
-        asked.question,
-        asked.options,
-        asked.constraints,
+    let told = Asked {
+        question: asked.question,
+        options: asked.options,
+        constraints: asked.constraints,
+    };
+    let proven = Proven {
         row,
-        proof,
-        Some(relation),
-    )?;
+        certificate: proof,
+        line: Some(relation),
+    };
+    write_proof(alloc, out, &told, &proven)?;
     Ok(())
 }
 
@@ -381,15 +382,12 @@ pub fn write_contained(
     let rows = obligation_rows(alloc, asked, proofs)?;
     let rows = rows.as_slice();
     if is_plain(asked.options.style) {
-        return write_proofs(
-            alloc,
-            out,
-            asked.question,
-            asked.options,
-            asked.constraints,
-            rows,
-            proofs,
-        );
+        let told = Asked {
+            question: asked.question,
+            options: asked.options,
+            constraints: asked.constraints,
+        };
+        return write_proofs(alloc, out, &told, rows, proofs);
     }
     let free = free_problem(alloc, asked.question);
     let own = own_constraints(alloc, asked.question)?;

@@ -28,7 +28,7 @@ use it_problems::Constraint;
 use it_question::types::{Question, Verb};
 use it_space::{Answer, Certificate, Point, Row};
 use it_syntax::types::Relation;
-use it_terms::{PrintedProof, printed_form, printed_steps, told_form, told_steps};
+use it_terms::{PrintedProof, Proven, printed_form, printed_steps, told_form, told_steps};
 use std::alloc::{AllocError, Global};
 
 /// Appends a text as a line below the first one.
@@ -87,6 +87,13 @@ fn relation_rows(
     let relation = relation_of(question);
     let rows = target_rows(alloc, relation, question.space())?;
     Ok(rows)
+}
+
+/// A question with how it is told and the constraints of its problem, which are the generators after the elemental inequalities.
+pub struct Asked<'a> {
+    pub question: &'a Question,
+    pub options: Options,
+    pub constraints: &'a [Constraint],
 }
 
 /// The text of a proof, and those of its steps.
@@ -186,17 +193,15 @@ fn styled_texts(
 fn printed_texts(
     alloc: Global,
     question: &Question,
-    row: &Row,
-    certificate: &Certificate,
-    line: Option<&[u8]>,
+    proven: &Proven<'_>,
     options: Options,
 ) -> Result<Option<Texts>, AllocError>
-    ensures { IfOk result (λ o. IfSome o (λ t. ArePrintedTexts question.now.body options (value row.now) (record { proof = t.proof.items; steps = map (λ s. s.items) t.steps.items }))) }
+    ensures { IfOk result (λ o. IfSome o (λ t. ArePrintedTexts question.now.body options (value proven.now.row.now) (record { proof = t.proof.items; steps = map (λ s. s.items) t.steps.items }))) }
 {
     if is_plain(options.style) {
         return Ok(None);
     }
-    let Some(proof) = printed_form(alloc, question, row, certificate, line, options.short)? else {
+    let Some(proof) = printed_form(alloc, question, proven, options.short)? else {
         return Ok(None);
     };
     let texts = styled_texts(alloc, question, proof, options)?;
@@ -205,22 +210,15 @@ fn printed_texts(
 
 /// The proof of a row as an equation that is true of every map, or its weights.
 #[tactic(auto, unfolding(crate::specs::Tellings::IsProofText))]
-fn plain_proof(
-    alloc: Global,
-    question: &Question,
-    constraints: &[Constraint],
-    row: &Row,
-    certificate: &Certificate,
-    line: Option<&[u8]>,
-    options: Options,
-) -> Result<Vec<u8>, AllocError>
-    requires origins { origins_of constraints.now ≡ question_origins question.now.body }
-    requires there { All (λ w. w.0 < length (elementals (variable_count question.now.body)) + length constraints.now) certificate.now.weights.items }
-    ensures { IfOk result (λ t. IsProofText question.now.body (form_with_proof row.now certificate.now) t.items) }
+fn plain_proof(alloc: Global, asked: &Asked<'_>, proven: &Proven<'_>) -> Result<Vec<u8>, AllocError>
+    requires origins { origins_of asked.now.constraints.now ≡ question_origins asked.now.question.now.body }
+    requires there { All (λ w. w.0 < length (elementals (variable_count asked.now.question.now.body)) + length asked.now.constraints.now) proven.now.certificate.now.weights.items }
+    ensures { IfOk result (λ t. IsProofText asked.now.question.now.body (form_with_proof proven.now.row.now proven.now.certificate.now) t.items) }
 {
-    match told_form(alloc, question, row, certificate, line, options.short)? {
+    let question = asked.question;
+    match told_form(alloc, question, proven, asked.options.short)? {
         Some(text) => Ok(text),
-        None => weights_text(alloc, question, constraints, certificate),
+        None => weights_text(alloc, question, asked.constraints, proven.certificate),
     }
 }
 
@@ -243,58 +241,26 @@ fn steps_of(
 }
 
 /// The texts of the proof of a row as an equation that is true of every map, or its weights.
-fn plain_texts(
-    alloc: Global,
-    question: &Question,
-    constraints: &[Constraint],
-    row: &Row,
-    certificate: &Certificate,
-    line: Option<&[u8]>,
-    options: Options,
-) -> Result<Texts, AllocError>
-    requires origins { origins_of constraints.now ≡ question_origins question.now.body }
-    requires there { All (λ w. w.0 < length (elementals (variable_count question.now.body)) + length constraints.now) certificate.now.weights.items }
-    ensures { IfOk result (λ t. AreProofTexts question.now.body options (form_with_proof row.now certificate.now) (record { proof = t.proof.items; steps = map (λ s. s.items) t.steps.items })) }
+fn plain_texts(alloc: Global, asked: &Asked<'_>, proven: &Proven<'_>) -> Result<Texts, AllocError>
+    requires origins { origins_of asked.now.constraints.now ≡ question_origins asked.now.question.now.body }
+    requires there { All (λ w. w.0 < length (elementals (variable_count asked.now.question.now.body)) + length asked.now.constraints.now) proven.now.certificate.now.weights.items }
+    ensures { IfOk result (λ t. AreProofTexts asked.now.question.now.body asked.now.options (form_with_proof proven.now.row.now proven.now.certificate.now) (record { proof = t.proof.items; steps = map (λ s. s.items) t.steps.items })) }
 {
-    let proof = plain_proof(
-        alloc,
-        question,
-        constraints,
-        row,
-        certificate,
-        line,
-        options,
-    )?;
-    let steps = steps_of(alloc, question, options, proof.as_slice())?;
+    let proof = plain_proof(alloc, asked, proven)?;
+    let steps = steps_of(alloc, asked.question, asked.options, proof.as_slice())?;
     Ok(Texts { proof, steps })
 }
 
 /// The texts of the proof of a row in the question's own terms, or of its weights.
 #[tactic(auto, unfolding(crate::specs::Tellings::AreProofTexts))]
-fn proof_texts(
-    alloc: Global,
-    question: &Question,
-    constraints: &[Constraint],
-    row: &Row,
-    certificate: &Certificate,
-    line: Option<&[u8]>,
-    options: Options,
-) -> Result<Texts, AllocError>
-    requires origins { origins_of constraints.now ≡ question_origins question.now.body }
-    requires there { All (λ w. w.0 < length (elementals (variable_count question.now.body)) + length constraints.now) certificate.now.weights.items }
-    ensures { IfOk result (λ t. AreProofTexts question.now.body options (form_with_proof row.now certificate.now) (record { proof = t.proof.items; steps = map (λ s. s.items) t.steps.items })) }
+fn proof_texts(alloc: Global, asked: &Asked<'_>, proven: &Proven<'_>) -> Result<Texts, AllocError>
+    requires origins { origins_of asked.now.constraints.now ≡ question_origins asked.now.question.now.body }
+    requires there { All (λ w. w.0 < length (elementals (variable_count asked.now.question.now.body)) + length asked.now.constraints.now) proven.now.certificate.now.weights.items }
+    ensures { IfOk result (λ t. AreProofTexts asked.now.question.now.body asked.now.options (form_with_proof proven.now.row.now proven.now.certificate.now) (record { proof = t.proof.items; steps = map (λ s. s.items) t.steps.items })) }
 {
-    match printed_texts(alloc, question, row, certificate, line, options)? {
+    match printed_texts(alloc, asked.question, proven, asked.options)? {
         Some(texts) => Ok(texts),
-        None => plain_texts(
-            alloc,
-            question,
-            constraints,
-            row,
-            certificate,
-            line,
-            options,
-        ),
+        None => plain_texts(alloc, asked, proven),
     }
 }
 
@@ -318,30 +284,18 @@ fn write_steps(out: &mut Vec<u8>, steps: &[Vec<u8>]) -> Result<(), AllocError>
     Ok(())
 }
 
-/// Appends the lines of the proof of a row; with the terms of `line` on the left, where the row is that of one of its targets.
+/// Appends the lines of the proof of a row; with the terms of its line on the left, where the row is that of one of its targets.
 pub fn write_proof(
     alloc: Global,
     out: &mut Vec<u8>,
-    question: &Question,
-    options: Options,
-    constraints: &[Constraint],
-    row: &Row,
-    certificate: &Certificate,
-    line: Option<&[u8]>,
+    asked: &Asked<'_>,
+    proven: &Proven<'_>,
 ) -> Result<(), AllocError>
-    requires origins { origins_of constraints.now ≡ question_origins question.now.body }
-    requires there { All (λ w. w.0 < length (elementals (variable_count question.now.body)) + length constraints.now) certificate.now.weights.items }
-    ensures { OnOk result (AppendsProof question.now.body options (form_with_proof row.now certificate.now) out.old.items out.new.items) }
+    requires origins { origins_of asked.now.constraints.now ≡ question_origins asked.now.question.now.body }
+    requires there { All (λ w. w.0 < length (elementals (variable_count asked.now.question.now.body)) + length asked.now.constraints.now) proven.now.certificate.now.weights.items }
+    ensures { OnOk result (AppendsProof asked.now.question.now.body asked.now.options (form_with_proof proven.now.row.now proven.now.certificate.now) out.old.items out.new.items) }
 {
-    let texts = proof_texts(
-        alloc,
-        question,
-        constraints,
-        row,
-        certificate,
-        line,
-        options,
-    )?;
+    let texts = proof_texts(alloc, asked, proven)?;
     write_indented(out, texts.proof.as_slice())?;
     write_steps(out, texts.steps.as_slice())
 }
@@ -350,29 +304,23 @@ pub fn write_proof(
 pub fn write_proofs(
     alloc: Global,
     out: &mut Vec<u8>,
-    question: &Question,
-    options: Options,
-    constraints: &[Constraint],
+    asked: &Asked<'_>,
     rows: &[Row],
     proofs: &[Certificate],
 ) -> Result<(), AllocError>
-    requires origins { origins_of constraints.now ≡ question_origins question.now.body }
-    requires there { AreListed (variable_count question.now.body) (length constraints.now) proofs.now }
+    requires origins { origins_of asked.now.constraints.now ≡ question_origins asked.now.question.now.body }
+    requires there { AreListed (variable_count asked.now.question.now.body) (length asked.now.constraints.now) proofs.now }
     requires as_many { length rows.now ≡ length proofs.now }
-    ensures { OnOk result (AppendsProofs question.now.body options rows.now (map certificate_view proofs.now) out.old.items out.new.items) }
+    ensures { OnOk result (AppendsProofs asked.now.question.now.body asked.now.options rows.now (map certificate_view proofs.now) out.old.items out.new.items) }
 {
     for (i, certificate) in proofs.iter().enumerate() {
         let row = &rows[i];
-        write_proof(
-            alloc,
-            out,
-            question,
-            options,
-            constraints,
+        let proven = Proven {
             row,
             certificate,
-            None,
-        )?;
+            line: None,
+        };
+        write_proof(alloc, out, asked, &proven)?;
     }
     Ok(())
 }
@@ -392,15 +340,12 @@ fn write_relation_proofs(
     ensures { OnOk result (AppendsDetails question.now.body options (Yes (map certificate_view proofs.now)) out.old.items out.new.items) }
 {
     let rows = relation_rows(alloc, question, proofs)?;
-    write_proofs(
-        alloc,
-        out,
+    let asked = Asked {
         question,
         options,
         constraints,
-        rows.as_slice(),
-        proofs,
-    )
+    };
+    write_proofs(alloc, out, &asked, rows.as_slice(), proofs)
 }
 
 /// A point as answers have it.
