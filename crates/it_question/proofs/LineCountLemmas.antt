@@ -5,7 +5,8 @@ use Rattle.std.proofs.lemmas.List.Elements.{All-head, All-tail}
 use Rattle.std.proofs.lemmas.List.{length-map, map-append, drop-map}
 use Rattle.it_syntax.specs.Meaning.{relation_view}
 use Rattle.it_syntax.specs.Givens.{given_view}
-use Rattle.it_question.specs.Questions.{RegionView, BodyView, QuestionView}
+use Rattle.it_question.specs.OwnLines.{RegionView}
+use Rattle.it_question.specs.Questions.{BodyView, QuestionView}
 use Rattle.it_question.specs.declared.bodies.Body.{Body}
 use Rattle.it_question.specs.declared.cursor.Line.{Line}
 use Rattle.it_question.specs.Bodies.{body_view}

@@ -32,7 +32,7 @@ use Rattle.it_demand.specs.RowsOfForms.{terms_of_form}
 use Rattle.it_demand.proofs.FormRows.{row_is_terms_of_form}
 use Rattle.it_demand.proofs.LimitLemmas.{wider_relation, wider_given, givens-few}
 use Rattle.it_demand.proofs.ZipLemmas.{zip-both, zip-length, zip-right}
-use Rattle.it_question.specs.Questions.{OwnLinesView, RegionView}
+use Rattle.it_question.specs.OwnLines.{OwnLinesView, RegionView}
 use Rattle.it_question.specs.Limits.{IsRegionOf}
 use Rattle.it_question.specs.ReaderSteps.{flag_if_large}
 use Rattle.it_question.specs.LineOrigins.{line_origins}

@@ -1,25 +1,10 @@
 -- What a question file asks, as contracts compare it: each vector by the list of its items.
-use Rattle.std.specs.Prelude.{ℕ, List, []}
+use Rattle.std.specs.Prelude.{ℕ, List}
 use Rattle.it_syntax.specs.NamesViews.{NamesView}
 use Rattle.it_syntax.specs.Meaning.{RelationView, relation_view}
-use Rattle.it_syntax.specs.Givens.{GivenView}
+use Rattle.it_question.specs.OwnLines.{OwnLinesView, RegionView}
 use Rattle.it_question.specs.declared.types.Verb.{Verb}
 use Rattle.it_question.specs.declared.types.Verb.TheVariants as verbs
-
--- the constraints of `given` lines, and of `row` lines, in order
-pub record OwnLinesView : Type 0 where
-  pub givens : List GivenView
-  pub rows : List RelationView
-
--- neither a `given` nor a `row` line
-abbrev pub no_lines : OwnLinesView
-no_lines = record { givens = []; rows = [] }
-
--- a region: the names of its variables and of the rates, the number of its auxiliaries, its own lines
-pub record RegionView : Type 0 where
-  pub names : NamesView
-  pub auxiliaries : ℕ
-  pub lines : OwnLinesView
 
 -- Each of `tries` gives a set for each auxiliary of the second region.
 pub data VerbView : Type 0 where

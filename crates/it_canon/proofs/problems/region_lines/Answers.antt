@@ -4,7 +4,7 @@ use Rattle.it_syntax.specs.Meaning.{RelationView}
 use Rattle.it_demand.specs.Demands.{demand_of, demands}
 use Rattle.it_demand.specs.Origins.{AreStated, given_origins, row_origins}
 use Rattle.it_demand.proofs.GeneratorLemmas.{stated-append}
-use Rattle.it_question.specs.Questions.{OwnLinesView}
+use Rattle.it_question.specs.OwnLines.{OwnLinesView}
 use Rattle.it_canon.proofs.problems.region_lines.Goals as goal
 
 pub returns : goal.returns

@@ -3,7 +3,7 @@ use Rattle.std.specs.Prelude.{All}
 use Rattle.it_syntax.specs.Givens.{IsGivenOf, given_view}
 use Rattle.it_demand.proofs.ZipLemmas.{image-at}
 use Rattle.std.specs.List.{sum_by}
-use Rattle.it_question.specs.Questions.{OwnLinesView}
+use Rattle.it_question.specs.OwnLines.{OwnLinesView}
 use Rattle.it_certificate.specs.ReportSteps.{given_form_count}
 use Rattle.it_certificate.proofs.ObligationLemmas.{given_more}
 use Rattle.it_certificate.proofs.obligations.givens_form_count.Goals as goal

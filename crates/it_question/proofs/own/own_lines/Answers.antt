@@ -10,7 +10,7 @@ use Rattle.it_syntax.specs.Gives.{StopsAs}
 use Rattle.it_question.specs.QuestionLimits.{givens_left, rows_left}
 use Rattle.it_question.specs.Cursors.{letters_left}
 use Rattle.it_question.specs.QuestionForms.{own_words, own_keyword, own_line, more_own_lines}
-use Rattle.it_question.specs.Questions.{OwnLinesView}
+use Rattle.it_question.specs.OwnLines.{OwnLinesView}
 use Rattle.it_question.specs.ReaderSteps.{own_word}
 use Rattle.it_syntax.proofs.Loops.{after_with_flags, no_limit, loop_goes, loop_stops, loop_flagged, loop_ends, rest_is_shorter}
 use Rattle.it_question.proofs.own.own_lines.Goals as goal

@@ -3,7 +3,7 @@ use Rattle.it_syntax.specs.Givens.{GivenView}
 use Rattle.it_syntax.specs.Meaning.{RelationView}
 use Rattle.it_demand.specs.Demands.{demand_of, demands}
 use Rattle.it_demand.specs.Origins.{AreStated, given_origins, row_origins}
-use Rattle.it_question.specs.Questions.{OwnLinesView}
+use Rattle.it_question.specs.OwnLines.{OwnLinesView}
 use Rattle.it_question.proofs.StatedLines.{region_stated}
 use Rattle.it_question.proofs.tables.region_constraints.Goals as goal
 

@@ -1,6 +1,7 @@
 use Rattle.std.proofs.Common.{◌+◌, length, ap, arith, refl, sym, ◌∙◌}
 use Rattle.it_space.specs.declared.spaces.Space.{Space}
-use Rattle.it_question.specs.Questions.{OwnLinesView, verb_view}
+use Rattle.it_question.specs.OwnLines.{OwnLinesView}
+use Rattle.it_question.specs.Questions.{verb_view}
 use Rattle.it_region.proofs.PairLemmas.{pair_by}
 use Rattle.it_region.proofs.pairs.pair_of.Goals as goal
 
