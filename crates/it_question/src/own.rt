@@ -5,7 +5,7 @@ ghost use Rattle.it_forms.specs.FormReading.{read, after};
 ghost use Rattle.it_syntax.specs.declared.rest.Stop.TheVariants.{Memory};
 ghost use Rattle.it_syntax.specs.Givens.{given_view};
 ghost use Rattle.it_syntax.specs.Meaning.{relation_view};
-ghost use Rattle.it_question.specs.Cursors.{ParsesBy, letters_left};
+ghost use Rattle.it_question.specs.Cursors.{Parses, ParsesBy, letters_left};
 ghost use Rattle.it_question.specs.QuestionForms as forms;
 ghost use Rattle.it_question.specs.ReaderSteps.{own_word, with_given, with_row};
 ghost use Rattle.it_question.specs.QuestionLimits.{givens_left, rows_left};
