@@ -58,7 +58,7 @@ impl Question {
         ensures { IfOk result (λ text. text.items ≡ self.now.text) }
     {
         let mut text = Vec::new(alloc);
-        for line in self.source.as_slice() {
+        for line in self.source() {
             text.extend_from_slice(trim(line.as_slice()))?;
             match text.push(b'\n') {
                 Ok(()) => {}
