@@ -1,10 +1,26 @@
-use Rattle.std.proofs.Common.{arith}
+use Rattle.std.proofs.Common.{◌≡◌, ℕ, List, [], Ok, arith, subst}
 use Rattle.std.proofs.lemmas.Result.{err_from_is_err_and}
 use Rattle.it_question.specs.Cursors.{letters_left}
 use Rattle.it_question.specs.QuestionLimits.{most_lines, givens_left, rows_left}
 use Rattle.it_question.proofs.LimitLemmas.{region_limited}
 use Rattle.it_question.proofs.RegionLemmas.{tries_stop, contain_stops, contain_gives, region_under}
+use Rattle.it_forms.specs.FormReading.{read}
+use Rattle.it_forms.specs.Forms.{Form}
+use Rattle.it_syntax.specs.Gives.{StopsAs}
+use Rattle.it_syntax.specs.NamesViews.{NamesView}
+use Rattle.it_syntax.specs.Scopes.{env_of}
+use Rattle.it_question.specs.QuestionForms.{more_tries}
+use Rattle.it_question.specs.TrySets.{auxiliary_env, unnamed_sets}
 use Rattle.it_question.proofs.regions.containment.Goals as goal
+
+-- the form of the `try` lines where the names of the question and of both regions are these
+abbrev tried : NamesView → NamesView → NamesView → ℕ → Form (List (List ℕ))
+tried question first second n = more_tries (auxiliary_env question second) (env_of first) (unnamed_sets n) []
+
+with_names : (P : Form (List (List ℕ)) → Type 0) (q a b s t : NamesView) (n m : ℕ) → a ≡ b → s ≡ t → n ≡ m
+    → P (tried q a s n) → P (tried q b t m)
+with_names P q a b s t n m e g h p = subst (λ (k : ℕ). P (tried q b t k)) h
+    (subst (λ (v : NamesView). P (tried q b v n)) g (subst (λ (v : NamesView). P (tried q v s n)) e p))
 
 pub returns-in_err-tries : goal.returns-in_err-tries
 returns-in_err-tries c =
@@ -19,11 +35,13 @@ returns-in_err-tries c =
       one
           = c.in_ok-first.ensures;
       word = c.in_ok-word.ensures;
-      givens = c.givens_left-givens.ensures;
-      rows = c.rows_left-rows.ensures;
+      givens = rw c.lines.ensures at c.givens_left-givens.ensures;
+      rows = rw c.lines-2.ensures at c.rows_left-rows.ensures;
       two
           = c.in_ok-second.ensures;
-    }) c.in_err-tries.field-0.0 (letters_left c.tries.new.cursor) c.in_err-tries.ensures)
+    }) c.in_err-tries.field-0.0 (letters_left c.tries.new.cursor)
+    (with_names (λ form. StopsAs c.in_err-tries.field-0.0 (letters_left c.tries.new.cursor) (read form (letters_left c.region-2.new.cursor)))
+    c.args.names.now _ _ _ _ _ _ c.names.ensures c.names-2.ensures c.auxiliaries.ensures c.in_err-tries.ensures))
 
 pub returns-in_err-contain : goal.returns-in_err-contain
 returns-in_err-contain c =
@@ -38,11 +56,13 @@ returns-in_err-contain c =
       one
           = c.in_ok-first.ensures;
       word = c.in_ok-word.ensures;
-      givens = c.givens_left-givens.ensures;
-      rows = c.rows_left-rows.ensures;
+      givens = rw c.lines.ensures at c.givens_left-givens.ensures;
+      rows = rw c.lines-2.ensures at c.rows_left-rows.ensures;
       two
           = c.in_ok-second.ensures;
-    }) c.in_ok-tries.tries.items (letters_left c.tries.new.cursor) c.in_ok-tries.ensures
+    }) c.in_ok-tries.tries.items (letters_left c.tries.new.cursor)
+    (with_names (λ form. read form (letters_left c.region-2.new.cursor) ≡ Ok (c.in_ok-tries.tries.items, letters_left c.tries.new.cursor))
+    c.args.names.now _ _ _ _ _ _ c.names.ensures c.names-2.ensures c.auxiliaries.ensures c.in_ok-tries.ensures)
     c.in_err-contain.field-0.0 (letters_left c.contain.new.cursor) c.in_err-contain.ensures)
 
 pub returns : goal.returns
@@ -56,11 +76,13 @@ returns c = contain_gives c.args.lines.now c.args.names.now (letters_left c.args
       one
           = c.in_ok-first.ensures;
       word = c.in_ok-word.ensures;
-      givens = c.givens_left-givens.ensures;
-      rows = c.rows_left-rows.ensures;
+      givens = rw c.lines.ensures at c.givens_left-givens.ensures;
+      rows = rw c.lines-2.ensures at c.rows_left-rows.ensures;
       two
           = c.in_ok-second.ensures;
-    }) c.in_ok-tries.tries.items (letters_left c.tries.new.cursor) c.in_ok-tries.ensures
+    }) c.in_ok-tries.tries.items (letters_left c.tries.new.cursor)
+    (with_names (λ form. read form (letters_left c.region-2.new.cursor) ≡ Ok (c.in_ok-tries.tries.items, letters_left c.tries.new.cursor))
+    c.args.names.now _ _ _ _ _ _ c.names.ensures c.names-2.ensures c.auxiliaries.ensures c.in_ok-tries.ensures)
     (letters_left c.contain.new.cursor) c.in_ok-contain.ensures
 
 pub contain-requires-clause-region : goal.contain-requires-clause-region
