@@ -87,6 +87,4 @@ texts_keep_limits lines ys h = from_map IsQuestion (λ (q : QuestionView). q.bod
 
 pub questions_keep_limits : (qs : List QuestionView) (lines : List LineView) (ys : List BodyView) → All IsQuestion ys
     → qs ≡ with_texts lines ys → All (λ q. IsQuestion q.body) qs
-questions_keep_limits qs lines ys h are =
-    from_map (λ (q : QuestionView). IsQuestion q.body) qs (subst (All (λ (q : QuestionView). IsQuestion q.body)) (sym are)
-    (texts_keep_limits lines ys h))
+questions_keep_limits qs lines ys h are = subst (All (λ (q : QuestionView). IsQuestion q.body)) (sym are) (texts_keep_limits lines ys h)

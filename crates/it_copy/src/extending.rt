@@ -230,7 +230,10 @@ pub fn extend(alloc: Global, question: &Question, lines: &[CopyLine]) -> Result<
     question.facts();
     match question.verb() {
         Verb::Prove(relation) => match copied(alloc, question, relation, lines) {
-            Ok(body) => within_limits(alloc, body),
+            Ok(body) => match within_limits(alloc, body) {
+                Ok(extended) => Ok(extended),
+                Err(fault) => Err(fault),
+            },
             Err(fault) => Err(fault),
         },
         _ => Err(CopyFault::Verb),
