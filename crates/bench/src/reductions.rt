@@ -5,17 +5,18 @@ ghost use Rattle.std.specs.Bool.{OnTrue};
 ghost use Rattle.it_question.specs.Limits.{IsQuestion};
 ghost use Rattle.it_question.specs.Questions.{question_body};
 ghost use Rattle.it_redundant.specs.Reduction.{IsSystemUnder};
-ghost use Rattle.it_space.specs.Rows.{IsOver};
+ghost use Rattle.it_space.specs.Rows.{IsOver, most_system_rows};
 
 use crate::Task;
 use crate::output::Output;
 use crate::targets::Asking;
 use it_canon::{problem, system};
 use it_eliminate::{Eliminated, step};
+use it_problems::{Constraint, Kind, Origin, Problem, System};
 use it_prove::Effort;
 use it_question::types::{Question, Verb};
 use it_redundant::{kept_system, reduce};
-use it_space::{Constraint, Kind, Origin, Problem, Row, System};
+use it_space::Row;
 use std::alloc::{AllocError, Global};
 
 /// The defined run, with as many steps as it takes.
@@ -88,7 +89,7 @@ fn push_givens(
 
 /// Whether there are at most 65,535 constraints, of `size` coordinates.
 fn are_constraints(constraints: &[Constraint], size: u32) -> bool
-    ensures few { OnTrue result (length constraints.now ≤ 65535) }
+    ensures few { OnTrue result (length constraints.now ≤ most_system_rows) }
     ensures rows { OnTrue result (All (λ c. IsOver size c.row) constraints.now) }
 {
     constraints.len() <= 65535
@@ -163,7 +164,7 @@ fn reduction(
     asking: &mut Asking,
 ) -> Result<System, AllocError>
     requires under { IsSystemUnder givens.now list }
-    requires few { length list.rows.items ≤ 65535 }
+    requires few { length list.rows.items ≤ most_system_rows }
 {
     match way {
         "shared" => {
@@ -178,7 +179,7 @@ fn reduction(
 /// Whether the list has few rows of the givens' space.
 fn is_under(list: &System, givens: &Problem) -> bool
     ensures under { OnTrue result (IsSystemUnder givens.now list.now) }
-    ensures few { OnTrue result (length list.now.rows.items ≤ 65535) }
+    ensures few { OnTrue result (length list.now.rows.items ≤ most_system_rows) }
 {
     givens.facts();
     list.space == givens.space()

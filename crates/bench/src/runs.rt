@@ -3,6 +3,7 @@
 ghost use Rattle.std.specs.Prelude.{◌≤◌};
 ghost use Rattle.it_question.specs.Limits.{IsQuestion};
 ghost use Rattle.it_question.specs.Questions.{question_body};
+ghost use Rattle.it_space.specs.Spaces.{most_variables};
 
 use crate::Task;
 use crate::output::Output;
@@ -19,7 +20,7 @@ use std::alloc::{AllocError, Global};
 /// The rows of the elemental inequalities.
 fn elemental_rows(alloc: Global, variables: u8) -> Result<Vec<Row>, AllocError>
     requires some { 1 ≤ variables }
-    requires few { variables ≤ 10 }
+    requires few { variables ≤ most_variables }
 {
     let mut rows = Vec::new(alloc);
     for index in 0..count(variables) {

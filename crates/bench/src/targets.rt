@@ -11,10 +11,11 @@ use crate::Task;
 use crate::output::Output;
 use crate::reductions::elimination;
 use it_canon::{problem, target_rows};
+use it_problems::Problem;
 use it_prove::{Effort, Proof, prove, settle};
 use it_question::types::{Question, Verb};
 use it_quick::QuickProblem;
-use it_space::{Problem, Row};
+use it_space::Row;
 use it_syntax::types::Relation;
 use std::alloc::{AllocError, Global};
 

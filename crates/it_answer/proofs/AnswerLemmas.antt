@@ -2,7 +2,7 @@
 use Rattle.std.proofs.Common.{◌≡◌, inl, inr, ℕ, ◌+◌, ◌≤◌, ℤ, pos, neg_ℤ, ◌≤ℤ◌, List, [], ◌∷◌, map, length, Bool, true, false, refl, sym, ap, subst, ◌∙◌}
 use Rattle.std.proofs.lemmas.List.Elements.{All-nil, All-cons, All-head, All-tail}
 use Rattle.it_space.specs.declared.spaces.Space.{Space}
-use Rattle.it_space.specs.Problems.{ProblemView, IsProblem}
+use Rattle.it_problems.specs.Problems.{ProblemView, IsProblem}
 use Rattle.it_space.specs.declared.answers.Answer.{Answer}
 use Rattle.it_space.specs.Answers.{AnswerView, CertificateView, answer_view}
 use Rattle.it_space.specs.Answers as answer_views
@@ -53,7 +53,8 @@ module _ (p : ProblemView) (f : Form) (t : Terms) (row : IsRowOf p.space f t) (e
   after_one (No values) r e = record { shows = r.0; due = e }
   after_one (Undecided cause) r e = record { shows = tt; due = inl e }
 
-  pub answers_one : (o : ProofView) (answer : AnswerView) → answer ≡ answer_after_one o → IsRightProof p t o → EndsWith p t effort o → AnswersForms p (f ∷ []) answer effort
+  pub answers_one : (o : ProofView) (answer : AnswerView) → answer ≡ answer_after_one o → IsRightProof p t o → EndsWith p t effort o
+      → AnswersForms p (f ∷ []) answer effort
   answers_one o answer is r e = record { rows = t ∷ []; are = (row, tt); answered = subst (AnswersRows p effort (t ∷ [])) (sym is) (after_one o r e) }
 
   module _ (g : Form) (u : Terms) (other : IsRowOf p.space g u) where
@@ -63,24 +64,39 @@ module _ (p : ProblemView) (f : Form) (t : Terms) (row : IsRowOf p.space f t) (e
     not_proven (proofs.No point) n r e = record { shows = r.0; due = e }
     not_proven (proofs.Undecided cause) n r e = record { shows = tt; due = inl e }
 
-    pub answers_first : (proof : Proof) (answer : AnswerView) → answer ≡ answer_after_one (proof_view proof) → ((c : _) → proof ≡ proofs.Yes c → ⊥) → IsRightProof p t (proof_view proof)
+    pub answers_first : (proof : Proof) (answer : AnswerView) → answer ≡ answer_after_one (proof_view proof)
+        → ((c : _) → proof ≡ proofs.Yes c → ⊥) → IsRightProof p t (proof_view proof)
         → EndsWith p t effort (proof_view proof) → AnswersForms p (f ∷ g ∷ []) answer effort
-    answers_first proof answer is n r e = record { rows = t ∷ u ∷ []; are = (row, (other, tt)); answered = subst (AnswersRows p effort (t ∷ u ∷ [])) (sym is) (not_proven proof n r e) }
+    answers_first proof answer is n r e = record {
+      rows = t ∷ u ∷ [];
+      are = (row, (other, tt));
+      answered = subst
+          (AnswersRows p effort (t ∷ u ∷ [])) (sym is) (not_proven proof n r e);
+    }
 
-    after_two : (w : CertificateView) (o : ProofView) → IsRightProof p t (Yes w) → EndsWith p t effort (Yes w) → IsRightProof p u o → EndsWith p u effort o → AnswersRows p effort (t ∷ u ∷ []) (answer_after_two w o)
+    after_two : (w : CertificateView) (o : ProofView) → IsRightProof p t (Yes w) → EndsWith p t effort (Yes w) → IsRightProof p u o
+        → EndsWith p u effort o → AnswersRows p effort (t ∷ u ∷ []) (answer_after_two w o)
     after_two w (Yes v) r e s d = record { shows = (r.0, (s.0, tt)); due = (e, (d, tt)) }
     after_two w (No values) r e s d = record { shows = ((w, r.0), s.0); due = ((w, e), d) }
     after_two w (Undecided cause) r e s d = record { shows = tt; due = inr ((w, e), inl d) }
 
-    pub answers_two : (w : CertificateView) (o : ProofView) (answer : AnswerView) → answer ≡ answer_after_two w o → IsRightProof p t (Yes w) → EndsWith p t effort (Yes w) → IsRightProof p u o
+    pub answers_two : (w : CertificateView) (o : ProofView) (answer : AnswerView) → answer ≡ answer_after_two w o → IsRightProof p t (Yes w)
+        → EndsWith p t effort (Yes w) → IsRightProof p u o
         → EndsWith p u effort o → AnswersForms p (f ∷ g ∷ []) answer effort
-    answers_two w o answer is r e s d = record { rows = t ∷ u ∷ []; are = (row, (other, tt)); answered = subst (AnswersRows p effort (t ∷ u ∷ [])) (sym is) (after_two w o r e s d) }
+    answers_two w o answer is r e s d = record {
+      rows = t ∷ u ∷ [];
+      are = (row, (other, tt));
+      answered = subst
+          (AnswersRows p effort (t ∷ u ∷ [])) (sym is) (after_two w o r e s d);
+    }
 
 -- ---- the row of a form's negation
 
 turned_up_to : (size : ℕ) (ts : Terms) → IsOver size ts → IsOver size (negated_terms ts)
 turned_up_to size [] u = All-nil (λ (t : ℕ × ℤ). (1 ≤ t.0) × (t.0 ≤ size))
-turned_up_to size (t ∷ ts) u = All-cons (λ (t : ℕ × ℤ). (1 ≤ t.0) × (t.0 ≤ size)) (t.0, neg_ℤ t.1) (negated_terms ts) (All-head (λ (t : ℕ × ℤ). (1 ≤ t.0) × (t.0 ≤ size)) t ts u) (turned_up_to size ts (All-tail (λ (t : ℕ × ℤ). (1 ≤ t.0) × (t.0 ≤ size)) t ts u))
+turned_up_to size (t ∷ ts) u = All-cons (λ (t : ℕ × ℤ). (1 ≤ t.0) × (t.0 ≤ size)) (t.0, neg_ℤ t.1) (negated_terms ts)
+    (All-head (λ (t : ℕ × ℤ). (1 ≤ t.0) × (t.0 ≤ size)) t ts u) (turned_up_to size ts
+    (All-tail (λ (t : ℕ × ℤ). (1 ≤ t.0) × (t.0 ≤ size)) t ts u))
 
 pub row_negation : (s : Space) (f : Form) (t u : Terms) → u ≡ negated_terms t → IsRowOf s f t → IsRowOf s (negation f) u
 row_negation s f t u e h = subst (IsRowOf s (negation f)) (sym e) (record {
@@ -92,7 +108,8 @@ row_negation s f t u e h = subst (IsRowOf s (negation f)) (sym e) (record {
 
 -- ---- a right answer by the question's verb
 
-pub right_by_verb : (budgets : Budgets) (plans : List Plan) (q : BodyView) (verb : VerbView) (reply : Reply) → q.verb ≡ verb → ShowsBy q verb reply.answer → IsDueBy budgets plans q verb reply → IsRightAnswer budgets plans q reply
+pub right_by_verb : (budgets : Budgets) (plans : List Plan) (q : BodyView) (verb : VerbView) (reply : Reply) → q.verb ≡ verb
+    → ShowsBy q verb reply.answer → IsDueBy budgets plans q verb reply → IsRightAnswer budgets plans q reply
 right_by_verb budgets plans q verb reply is x d = record {
   shows = subst (λ (v : VerbView). ShowsBy q v reply.answer) (sym is) x;
   due = subst (λ (v : VerbView). IsDueBy budgets plans q v reply) (sym is) d;
@@ -100,11 +117,13 @@ right_by_verb budgets plans q verb reply is x d = record {
 
 -- where nothing was found, the boxes keep their plans
 
-pub nothing_found : (budgets : Budgets) (plans : List Plan) (question : Question) (answer : Answer) → IsRightAnswer budgets plans (question_body question) (record { answer = answer_view answer; found = [] })
+pub nothing_found : (budgets : Budgets) (plans : List Plan) (question : Question) (answer : Answer)
+    → IsRightAnswer budgets plans (question_body question) (record { answer = answer_view answer; found = [] })
     → IsAnswered budgets plans question answer plans
 nothing_found budgets plans question answer x = record { found = []; right = x; learned = sym (after_none plans) }
 
-pub left_of_rows : (budgets : Budgets) (plans : List Plan) (q : BodyView) (rates : List ℕ) (answer : AnswerView) → q.verb ≡ Eliminate rates → ShowsBy q (Eliminate rates) answer → IsDueElimination budgets q rates answer
+pub left_of_rows : (budgets : Budgets) (plans : List Plan) (q : BodyView) (rates : List ℕ) (answer : AnswerView) → q.verb ≡ Eliminate rates
+    → ShowsBy q (Eliminate rates) answer → IsDueElimination budgets q rates answer
     → IsRightAnswer budgets plans q (record { answer = answer; found = [] })
 left_of_rows budgets plans q rates answer is x d = right_by_verb budgets plans q (Eliminate rates) (record { answer = answer; found = [] }) is x (d, refl)
 
@@ -125,19 +144,23 @@ shown_targets q r (answer_views.Region rows) x = absurd x
 shown_targets q r (answer_views.Contained parts proofs) x = absurd x
 shown_targets q r (answer_views.Open tried) x = absurd x
 
-module _ (q : BodyView) (p : ProblemView) (e : p.space ≡ space_of (problem_names q)) (st : AreStated p.space (question_origins q) (demanded q) p.constraints) (k : IsProblem p) where
+module _ (q : BodyView) (p : ProblemView) (e : p.space ≡ space_of (problem_names q))
+    (st : AreStated p.space (question_origins q) (demanded q) p.constraints) (k : IsProblem p) where
   to_question_space : (P : Space → Type 0) → P p.space → P (space_of (problem_names q))
   to_question_space P x = subst P e x
 
-  pub show_certificate : (f : Form) (t : Terms) (w : CertificateView) → IsOver (size_of p.space) t → ((x : ℕ → ℤ) → x 0 ≡ pos 0 → value t x ≡ f x) → CertifiesRow p t w → CertifiesForm q f w
+  pub show_certificate : (f : Form) (t : Terms) (w : CertificateView) → IsOver (size_of p.space) t
+      → ((x : ℕ → ℤ) → x 0 ≡ pos 0 → value t x ≡ f x) → CertifiesRow p t w → CertifiesForm q f w
   show_certificate f t w up same c = to_question_space (λ s. Certifies (all_demands s.variables (demanded q)) f w)
-      (by_forms (all_demands p.space.variables (demanded q)) (generators p) (generators_speak p.space (demanded q) p.constraints st.stated) (size_of p.space + 1) (value t) f same w c (rows_add_up p t w k up c))
+      (by_forms (all_demands p.space.variables (demanded q)) (generators p) (generators_speak p.space (demanded q) p.constraints st.stated)
+      (size_of p.space + 1) (value t) f same w c (rows_add_up p t w k up c))
 
   show_point : (f : Form) (t : Terms) (values : List ℤ) → IsRowOf p.space f t → RefutesRow p t values → IsCounterexample q f values
   show_point f t values r c = record {
     complete = to_question_space (λ s. length values ≡ size_of s) c.complete;
     polymatroid = to_question_space (λ s. IsPolymatroid s.variables (point_of values)) c.polymatroid;
-    lines_hold = to_question_space (λ s. AreTrueAt s.variables (point_of values) (problem_lines q)) ((question_met q p.space p.constraints e st (point_of values) refl).0 c.met);
+    lines_hold = to_question_space (λ s. AreTrueAt s.variables (point_of values) (problem_lines q))
+        ((question_met q p.space p.constraints e st (point_of values) refl).0 c.met);
     violated = subst (λ (x : ℤ). x ≤ℤ neg_ℤ (pos 1)) (r.same (point_of values) refl) c.violated;
   }
 
@@ -149,7 +172,8 @@ module _ (q : BodyView) (p : ProblemView) (e : p.space ≡ space_of (problem_nam
   show_all (f ∷ fs) (t ∷ ts) [] z c = absurd c
   show_all (f ∷ fs) (t ∷ ts) (w ∷ ws) z c = (show_certificate f t w z.0.coordinates z.0.same c.0, show_all fs ts ws z.1 c.1)
 
-  show_first : (fs : List Form) (ts : List Terms) (is_back : Bool) (values : List ℤ) → AreRowsOf p.space fs ts → RefutesFirst p ts is_back values → Refutes q fs is_back values
+  show_first : (fs : List Form) (ts : List Terms) (is_back : Bool) (values : List ℤ) → AreRowsOf p.space fs ts
+      → RefutesFirst p ts is_back values → Refutes q fs is_back values
   show_first [] [] is_back values z c = absurd c
   show_first [] (t ∷ ts) is_back values z c = absurd z
   show_first (f ∷ fs) [] is_back values z c = absurd z
@@ -167,13 +191,17 @@ module _ (q : BodyView) (p : ProblemView) (e : p.space ≡ space_of (problem_nam
   show_targets fs ts (answer_views.Contained parts proofs) z c = absurd c
   show_targets fs ts (answer_views.Open tried) z c = absurd c
 
-  pub answers_relation : (budgets : Budgets) (plans : List Plan) (r : RelationView) (answer : AnswerView) → q.verb ≡ Prove r → AnswersForms p (targets p.space.variables r) answer budgets.effort
+  pub answers_relation : (budgets : Budgets) (plans : List Plan) (r : RelationView) (answer : AnswerView) → q.verb ≡ Prove r
+      → AnswersForms p (targets p.space.variables r) answer budgets.effort
       → IsRightAnswer budgets plans q (record { answer = answer; found = [] })
   answers_relation budgets plans r answer is a =
-      let shown = shown_targets q r answer (to_question_space (λ s. ShowsTargets q (targets s.variables r) answer) (show_targets (targets p.space.variables r) a.rows answer a.are a.answered.shows)) in
+      let shown = shown_targets q r answer (to_question_space (λ s. ShowsTargets q (targets s.variables r) answer)
+      (show_targets (targets p.space.variables r) a.rows answer a.are a.answered.shows)) in
       let rows : a.rows ≡ map (terms_in q) (targets (variable_count q) r) =
-      rows_are_terms_of_forms p.space (targets p.space.variables r) a.rows a.are ∙ ap (λ (s : Space). map (terms_of_form (size_of s)) (targets s.variables r)) e in
+      rows_are_terms_of_forms p.space (targets p.space.variables r) a.rows a.are
+      ∙ ap (λ (s : Space). map (terms_of_form (size_of s)) (targets s.variables r)) e in
       let due : IsDueRelation budgets.effort q r answer =
-      subst (λ (x : ProblemView). IsDueByRuns x budgets.effort (map (terms_in q) (targets (variable_count q) r)) answer) (one_problem q p (record { space = e; limits = k; constraints = st }))
+      subst (λ (x : ProblemView). IsDueByRuns x budgets.effort (map (terms_in q) (targets (variable_count q) r)) answer)
+      (one_problem q p (record { space = e; limits = k; constraints = st }))
       (subst (λ (ts : List Terms). IsDueByRuns p budgets.effort ts answer) rows a.answered.due) in
       right_by_verb budgets plans q (Prove r) (record { answer = answer; found = [] }) is shown (due, refl)

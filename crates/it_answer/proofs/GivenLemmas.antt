@@ -3,7 +3,7 @@ use Rattle.std.proofs.Common.{◌≡◌, ◌↔◌, ℕ, ◌≤◌, ℤ, pos, sy
 use Rattle.std.proofs.lemmas.List.{append-nil}
 use Rattle.std.proofs.lemmas.List.Elements.{All-nil}
 use Rattle.it_space.specs.declared.spaces.Space.{Space}
-use Rattle.it_space.specs.Problems.{ProblemView, AreMet}
+use Rattle.it_problems.specs.Problems.{ProblemView, AreMet}
 use Rattle.it_syntax.specs.Givens.{IsGivenOf, IsTrueAt}
 use Rattle.it_syntax.specs.Meaning.{Holds}
 use Rattle.it_question.specs.Questions.{BodyView, OwnLinesView, VerbView, Eliminate}
@@ -28,11 +28,14 @@ module _ (q : BodyView) (rates : List ℕ) (givens : ProblemView) (is : q.verb �
   given_lines = record { givens = q.lines.givens; rows = [] }
 
   lines_stated : AreStated givens.space (question_origins q) (line_demands givens.space.variables given_lines) givens.constraints
-  lines_stated = subst (λ (s : Space). AreStated givens.space (question_origins q) (line_demands s.variables given_lines) givens.constraints) (sym space_of_names)
-      (subst (λ (verb : VerbView). AreStated givens.space (question_origins q) (line_demands (length (names_under q.names verb).variables) (lines_under q.lines verb)) givens.constraints) is own.constraints)
+  lines_stated = subst (λ (s : Space). AreStated givens.space (question_origins q)
+      (line_demands s.variables given_lines) givens.constraints) (sym space_of_names)
+      (subst (λ (verb : VerbView). AreStated givens.space (question_origins q)
+      (line_demands (length (names_under q.names verb).variables) (lines_under q.lines verb)) givens.constraints) is own.constraints)
 
   pub givens_stated : AreStated givens.space (question_origins q) (flat_map (demands givens.space.variables) q.lines.givens) givens.constraints
-  givens_stated = subst (λ (ds : List Demand). AreStated givens.space (question_origins q) ds givens.constraints) (append-nil (flat_map (demands givens.space.variables) q.lines.givens)) lines_stated
+  givens_stated = subst (λ (ds : List Demand). AreStated givens.space (question_origins q) ds givens.constraints)
+      (append-nil (flat_map (demands givens.space.variables) q.lines.givens)) lines_stated
 
   -- the constraints are met where the givens are true
   pub met_where_true : (p : ℕ → ℤ) → p 0 ≡ pos 0 → AreMet p givens.constraints ↔ All (IsTrueAt givens.space.variables p) q.lines.givens
@@ -49,7 +52,13 @@ module _ (q : BodyView) (rates : List ℕ) (givens : ProblemView) (is : q.verb �
     pub few_constraints : length givens.constraints ≤ 65535
     few_constraints =
         let wanted = flat_map (demands givens.space.variables) q.lines.givens in
-        omega (arith, zip-length (States givens.space) wanted givens.constraints givens_stated.stated, givens-few givens.space.variables q.lines.givens are_givens, limits.lines.few_givens)
+        omega (
+          arith,
+          zip-length (States givens.space) wanted givens.constraints givens_stated.stated,
+          givens-few givens.space.variables
+              q.lines.givens are_givens,
+          limits.lines.few_givens,
+        )
 
     pub constraints_of_sets : SpeakOfSets givens
     constraints_of_sets = given_sets givens.space (question_origins q) q.lines.givens givens.constraints are_givens givens_stated

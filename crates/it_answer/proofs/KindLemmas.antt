@@ -27,7 +27,8 @@ of_region q rates (Region rows) x = tt
 of_region q rates (Contained parts proofs) x = absurd x
 of_region q rates (Open tried) x = absurd x
 
-of_search : (q : BodyView) (a b : RegionView) (tries : List (List ℕ)) (answer : AnswerView) → ShowsBy q (Contain a b tries) answer → IsAnswerBy (Contain a b tries) answer
+of_search : (q : BodyView) (a b : RegionView) (tries : List (List ℕ)) (answer : AnswerView) → ShowsBy q (Contain a b tries) answer
+    → IsAnswerBy (Contain a b tries) answer
 of_search q a b tries (Yes ws) x = absurd x
 of_search q a b tries (No is_back values) x = absurd x
 of_search q a b tries (Undecided cause) x = absurd x

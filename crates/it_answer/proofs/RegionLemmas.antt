@@ -8,7 +8,7 @@ use Rattle.it_space.specs.declared.answers.Mark.TheVariants as marks
 use Rattle.it_space.specs.declared.spaces.Space.{Space}
 use Rattle.it_space.specs.Answers.{AnswerView}
 use Rattle.it_space.specs.Answers.AnswerView.{Undecided, Region}
-use Rattle.it_space.specs.Problems.{ProblemView, AreMet}
+use Rattle.it_problems.specs.Problems.{ProblemView, AreMet}
 use Rattle.it_space.specs.Rows.{Terms, IsOver, point_of}
 use Rattle.it_space.specs.Spaces.{size_of}
 use Rattle.it_polymatroid.specs.Polymatroid.{IsPolymatroid}
@@ -46,7 +46,8 @@ not_zero n [] m = m
 not_zero n (r ∷ rs) (inl e) = omega (arith, e, pow_pos n)
 not_zero n (r ∷ rs) (inr m) = not_zero n rs m
 
-module _ (n : ℕ) (rates : List ℕ) (lines : List RelationView) (rows : List Terms) (met : (p : ℕ → ℤ) → p 0 ≡ pos 0 → AreAtLeastZero p rows ↔ All (Holds n p) lines) where
+module _ (n : ℕ) (rates : List ℕ) (lines : List RelationView) (rows : List Terms)
+    (met : (p : ℕ → ℤ) → p 0 ≡ pos 0 → AreAtLeastZero p rows ↔ All (Holds n p) lines) where
   -- at 0 the extended point is 0 as well
   zero_kept : (k : ℕ) (p q : ℕ → ℤ) → p 0 ≡ pos 0 → ((c : ℕ) → ¬ (Contains (coordinates_of n rates) c) → q c ≡ pos k *ℤ p c) → q 0 ≡ pos 0
   zero_kept k p q z f = f 0 (λ m. not_zero n rates (member_of (coordinates_of n rates) 0 m)) ∙ ap (λ x. pos k *ℤ x) z ∙ omega (arith, ints)
@@ -75,7 +76,8 @@ record StandsBetween (kept : List (Terms × NeedView)) (before after : List (Mar
 unsettled_not_needed : marks.Unsettled ≡ marks.Needed → ⊥
 unsettled_not_needed e = cc
 
-stands_first : (k : Terms × NeedView) (kept : List (Terms × NeedView)) (after : List (Mark × Terms)) (row : Terms) → marked_rows (k ∷ kept) ≡ (marks.Needed, row) ∷ after → StandsBetween (k ∷ kept) [] after row
+stands_first : (k : Terms × NeedView) (kept : List (Terms × NeedView)) (after : List (Mark × Terms)) (row : Terms)
+    → marked_rows (k ∷ kept) ≡ (marks.Needed, row) ∷ after → StandsBetween (k ∷ kept) [] after row
 stands_first (t, Needed values) kept after row e = record {
   kept_before = [];
   kept_after = kept;
@@ -87,7 +89,8 @@ stands_first (t, Needed values) kept after row e = record {
 stands_first (t, Unsettled cause) kept after row e =
     let same : (marks.Unsettled, t) ≡ (marks.Needed, row) = cc in absurd (unsettled_not_needed (ap (λ (x : Mark × Terms). x.0) same))
 
-stands_later : (k : Terms × NeedView) (m : Mark × Terms) (kept : List (Terms × NeedView)) (before after : List (Mark × Terms)) (row : Terms) → marked_rows (k ∷ kept) ≡ m ∷ before ++ (marks.Needed, row) ∷ after
+stands_later : (k : Terms × NeedView) (m : Mark × Terms) (kept : List (Terms × NeedView)) (before after : List (Mark × Terms)) (row : Terms)
+    → marked_rows (k ∷ kept) ≡ m ∷ before ++ (marks.Needed, row) ∷ after
     → StandsBetween kept before after row → StandsBetween (k ∷ kept) (m ∷ before) after row
 stands_later k m kept before after row e b = record {
   kept_before = k ∷ b.kept_before;
@@ -98,7 +101,8 @@ stands_later k m kept before after row e b = record {
   after_is = b.after_is;
 }
 
-stands_between : (kept : List (Terms × NeedView)) (before after : List (Mark × Terms)) (row : Terms) → marked_rows kept ≡ before ++ (marks.Needed, row) ∷ after → StandsBetween kept before after row
+stands_between : (kept : List (Terms × NeedView)) (before after : List (Mark × Terms)) (row : Terms)
+    → marked_rows kept ≡ before ++ (marks.Needed, row) ∷ after → StandsBetween kept before after row
 stands_between [] [] after row e = absurd cc
 stands_between [] (m ∷ before) after row e = absurd cc
 stands_between (k ∷ kept) [] after row e = stands_first k kept after row e
@@ -110,13 +114,15 @@ module _ (q : BodyView) (rates : List ℕ) (givens : ProblemView) (rows : List T
     (true_at : (p : ℕ → ℤ) → p 0 ≡ pos 0 → AreMet p givens.constraints ↔ All (IsTrueAt givens.space.variables p) q.lines.givens)
     (met : (p : ℕ → ℤ) → p 0 ≡ pos 0 → AreAtLeastZero p rows ↔ All (Holds givens.space.variables p) q.lines.rows) where
   -- a polymatroid and rates at which the givens are true meet their constraints
-  meets_givens : (p : ℕ → ℤ) → IsPolymatroid (length q.names.variables) p → All (IsTrueAt (length q.names.variables) p) q.lines.givens → theorems.MeetsGivens givens p
+  meets_givens : (p : ℕ → ℤ) → IsPolymatroid (length q.names.variables) p → All (IsTrueAt (length q.names.variables) p) q.lines.givens
+      → theorems.MeetsGivens givens p
   meets_givens p h g = (
     subst (λ (s : Space). IsPolymatroid s.variables p) (sym same) h,
     (true_at p h.empty).1 (subst (λ (s : Space). All (IsTrueAt s.variables p) q.lines.givens) (sym same) g),
   )
 
-  row_does_not_follow : (others other_rows : List Terms) (row : Terms) (values : List ℤ) → others ≡ other_rows → theorems.SeparatesRow givens others row values → DoesNotFollow q other_rows row
+  row_does_not_follow : (others other_rows : List Terms) (row : Terms) (values : List ℤ) → others ≡ other_rows
+      → theorems.SeparatesRow givens others row values → DoesNotFollow q other_rows row
   row_does_not_follow others other_rows row values e x = record {
     point = point_of values;
     polymatroid = subst (λ (s : Space). IsPolymatroid s.variables (point_of values)) same x.meets.0;
@@ -129,13 +135,17 @@ module _ (q : BodyView) (rates : List ℕ) (givens : ProblemView) (rows : List T
   are_needed kept need before after row e =
       let b = stands_between kept before after row e in
       let others : kept_rows b.kept_before ++ kept_rows b.kept_after ≡ region_rows before ++ region_rows after =
-      ap₂ (λ (xs ys : List Terms). xs ++ ys) (sym (rows_again b.kept_before) ∙ ap region_rows (sym b.before_is)) (sym (rows_again b.kept_after) ∙ ap region_rows (sym b.after_is)) in
-      row_does_not_follow (kept_rows b.kept_before ++ kept_rows b.kept_after) (region_rows before ++ region_rows after) row b.values others (need b.kept_before b.kept_after (row, Needed b.values) b.is)
+      ap₂ (λ (xs ys : List Terms). xs ++ ys) (sym (rows_again b.kept_before) ∙ ap region_rows (sym b.before_is))
+      (sym (rows_again b.kept_after) ∙ ap region_rows (sym b.after_is)) in
+      row_does_not_follow (kept_rows b.kept_before ++ kept_rows b.kept_after) (region_rows before ++ region_rows after) row b.values others
+      (need b.kept_before b.kept_after (row, Needed b.values) b.is)
 
   region_shown : (kept : List (Terms × NeedView)) → IsReducedRegion givens rates rows kept → IsExactRegion q rates (marked_rows kept)
   region_shown kept x = record {
-    coordinates = subst (λ (rs : List Terms). All (IsOver (size_of (space_of q.names))) rs) (sym (rows_again kept)) (subst (λ (s : Space). All (IsOver (size_of s)) (kept_rows kept)) same x.coordinates);
-    free = λ r m. subst (λ (rs : List Terms). LacksCoordinate (2 ^ length q.names.variables + r) rs) (sym (rows_again kept)) (subst (λ (s : Space). LacksCoordinate (2 ^ s.variables + r) (kept_rows kept)) same (x.free r m));
+    coordinates = subst (λ (rs : List Terms). All (IsOver (size_of (space_of q.names))) rs) (sym (rows_again kept))
+        (subst (λ (s : Space). All (IsOver (size_of s)) (kept_rows kept)) same x.coordinates);
+    free = λ r m. subst (λ (rs : List Terms). LacksCoordinate (2 ^ length q.names.variables + r) rs) (sym (rows_again kept))
+        (subst (λ (s : Space). LacksCoordinate (2 ^ s.variables + r) (kept_rows kept)) same (x.free r m));
     exact = λ p h g. subst (λ (rs : List Terms). IsPointOf rs p ↔ LinesExtend (length q.names.variables) rates q.lines.rows p) (sym (rows_again kept))
         (subst (λ (s : Space). IsPointOf (kept_rows kept) p ↔ LinesExtend s.variables rates q.lines.rows p) same (
           λ a. (lines_extend givens.space.variables rates q.lines.rows rows met p h.empty).0 ((x.exact p (meets_givens p h g)).0 a),
@@ -149,27 +159,36 @@ module _ (q : BodyView) (rates : List ℕ) (givens : ProblemView) (rows : List T
   shows_end (projections.Rows rate) x = tt
   shows_end (projections.Wide rate) x = tt
 
-  pub region_shows : (end : ProjectedView) (answer : AnswerView) → RegionIsReduced givens rates rows end → answer ≡ answer_of_end end → ShowsBy q (Eliminate rates) answer
+  pub region_shows : (end : ProjectedView) (answer : AnswerView) → RegionIsReduced givens rates rows end → answer ≡ answer_of_end end
+      → ShowsBy q (Eliminate rates) answer
   region_shows end answer x is = subst (ShowsBy q (Eliminate rates)) (sym is) (shows_end end x)
 
-pub region_is_due : (budgets : Budgets) (q : BodyView) (rates : List ℕ) (givens : ProblemView) (rows : List Terms) (end : ProjectedView) (answer : AnswerView) → givens ≡ problem_of q
-    → rows ≡ map (terms_in q) (system_forms (variable_count q) q.lines.rows) → ReducedEnds givens budgets.effort budgets.rows rows [] [] rates end → answer ≡ answer_of_end end → IsDueElimination budgets q rates answer
+pub region_is_due : (budgets : Budgets) (q : BodyView) (rates : List ℕ) (givens : ProblemView) (rows : List Terms) (end : ProjectedView)
+    (answer : AnswerView) → givens ≡ problem_of q
+    → rows ≡ map (terms_in q) (system_forms (variable_count q) q.lines.rows)
+    → ReducedEnds givens budgets.effort budgets.rows rows [] [] rates end → answer ≡ answer_of_end end
+    → IsDueElimination budgets q rates answer
 region_is_due budgets q rates givens rows end answer posed rows_are ends is = record {
   end = end;
-  ends = subst (λ (g : ProblemView). ReducedEnds g budgets.effort budgets.rows (map (terms_in q) (system_forms (variable_count q) q.lines.rows)) [] [] rates end) posed
+  ends = subst (λ (g : ProblemView). ReducedEnds g budgets.effort budgets.rows
+      (map (terms_in q) (system_forms (variable_count q) q.lines.rows)) [] [] rates end) posed
       (subst (λ (rs : List Terms). ReducedEnds givens budgets.effort budgets.rows rs [] [] rates end) rows_are ends);
   is = is;
 }
 
 -- the rows of the `row` lines are the terms of their forms
-pub system_rows_are : (q : BodyView) (s : Space) (rows : List Terms) → s ≡ space_of (problem_names q) → AreRowsOf s (system_forms s.variables q.lines.rows) rows → rows ≡ map (terms_in q) (system_forms (variable_count q) q.lines.rows)
-system_rows_are q s rows same are = rows_are_terms_of_forms s (system_forms s.variables q.lines.rows) rows are ∙ ap (λ (t : Space). map (terms_of_form (size_of t)) (system_forms t.variables q.lines.rows)) same
+pub system_rows_are : (q : BodyView) (s : Space) (rows : List Terms) → s ≡ space_of (problem_names q)
+    → AreRowsOf s (system_forms s.variables q.lines.rows) rows → rows ≡ map (terms_in q) (system_forms (variable_count q) q.lines.rows)
+system_rows_are q s rows same are = rows_are_terms_of_forms s (system_forms s.variables q.lines.rows) rows are
+    ∙ ap (λ (t : Space). map (terms_of_form (size_of t)) (system_forms t.variables q.lines.rows)) same
 
 -- ---- there is one right answer
 
-pub one_elimination : (budgets : Budgets) (q : BodyView) (rates : List ℕ) (a b : AnswerView) → budgets.effort.quick ≡ false → IsDueElimination budgets q rates a → IsDueElimination budgets q rates b → a ≡ b
+pub one_elimination : (budgets : Budgets) (q : BodyView) (rates : List ℕ) (a b : AnswerView) → budgets.effort.quick ≡ false
+    → IsDueElimination budgets q rates a → IsDueElimination budgets q rates b → a ≡ b
 one_elimination budgets q rates a b defined x y = x.is
-    ∙ ap answer_of_end (one_reduced_end (problem_of q) budgets.effort budgets.rows (map (terms_in q) (system_forms (variable_count q) q.lines.rows)) [] [] rates x.end y.end defined x.ends y.ends) ∙ sym y.is
+    ∙ ap answer_of_end (one_reduced_end (problem_of q) budgets.effort budgets.rows
+    (map (terms_in q) (system_forms (variable_count q) q.lines.rows)) [] [] rates x.end y.end defined x.ends y.ends) ∙ sym y.is
 
 -- ---- what follows
 

@@ -30,7 +30,8 @@ use Rattle.it_region.specs.AnswerForms.{answer_forms, answer_forms_by}
 pub relation_rows : {E : Type 0} (q : BodyView) (r : RelationView) (s : Space) (rows : Result (Vec Terms Global) E) → q.verb ≡ Prove r → s ≡ space_of q.names
     → IfOk rows (λ v. AreRowsOf s (targets s.variables r) v.items) → IfOk rows (λ v. v.items ≡ map (terms_in q) (targets (variable_count q) r))
 relation_rows q r s (Err e) is space_is a = tt
-relation_rows q r s (Ok v) is space_is a = rows_are_terms_of_forms s (targets s.variables r) v.items a ∙ ap (λ (t : Space). map (terms_of_form (size_of t)) (targets t.variables r)) same_space
+relation_rows q r s (Ok v) is space_is a = rows_are_terms_of_forms s (targets s.variables r) v.items a
+    ∙ ap (λ (t : Space). map (terms_of_form (size_of t)) (targets t.variables r)) same_space
   where
     same_space : s ≡ space_of (problem_names q)
     same_space = space_is ∙ sym (ap (λ m. space_of (names_under q.names m)) is)
@@ -44,21 +45,26 @@ relation_forms q r answer (Ok v) is a = a ∙ ap (map (terms_in q)) (sym (ap (λ
 -- ---- of a containment
 
 module _ (q : BodyView) (a b : RegionView) (tries : List (List ℕ)) (is : q.verb ≡ Contain a b tries) where
-  pub obligation_rows : (p : Pair) (o : IsPairOf q a b p) (c : Candidate) (parts : List ℕ) (rows : List Terms) → candidate_parts c ≡ parts → ArePulledRows p.first.space (pair_obligations p c) rows
+  pub obligation_rows : (p : Pair) (o : IsPairOf q a b p) (c : Candidate) (parts : List ℕ) (rows : List Terms) → candidate_parts c ≡ parts
+      → ArePulledRows p.first.space (pair_obligations p c) rows
       → rows ≡ map (terms_in q) (obligations q a b parts)
   obligation_rows p o c parts rows same h = pulled_rows_are p.first.space (obligations q a b (candidate_parts c)) rows (text_rows q a b p o c rows h)
-      ∙ ap₂ (λ (t : Space) (zs : List ℕ). map (terms_of_form (size_of t)) (obligations q a b zs)) (o.first_space ∙ sym (ap (λ m. space_of (names_under q.names m)) is)) same
+      ∙ ap₂ (λ (t : Space) (zs : List ℕ). map (terms_of_form (size_of t)) (obligations q a b zs))
+      (o.first_space ∙ sym (ap (λ m. space_of (names_under q.names m)) is)) same
 
-  pub contained_rows : {E : Type 0} (answer : Answer) (parts : Vec ℕ Global) (proofs : Vec Certificate Global) (rows : Result (Vec Terms Global) E) → answer ≡ answers.Contained parts proofs
+  pub contained_rows : {E : Type 0} (answer : Answer) (parts : Vec ℕ Global) (proofs : Vec Certificate Global)
+      (rows : Result (Vec Terms Global) E) → answer ≡ answers.Contained parts proofs
       → IfOk rows (λ v. v.items ≡ map (terms_in q) (obligations q a b parts.items))
       → IfOk rows (λ v. v.items ≡ map (terms_in q) (answer_forms q (answer_view answer)))
   contained_rows answer parts proofs (Err e) answer_is h = tt
   contained_rows answer parts proofs (Ok v) answer_is h = h ∙ sym (ap₂ (λ m x. map (terms_in q) (answer_forms_by q m x)) is (ap answer_view answer_is))
 
-  pub no_obligations : (answer : Answer) → ((parts : Vec ℕ Global) (proofs : Vec Certificate Global) → answer ≡ answers.Contained parts proofs → ⊥) → answer_forms q (answer_view answer) ≡ []
+  pub no_obligations : (answer : Answer) → ((parts : Vec ℕ Global) (proofs : Vec Certificate Global)
+      → answer ≡ answers.Contained parts proofs → ⊥) → answer_forms q (answer_view answer) ≡ []
   no_obligations answer not = ap (λ m. answer_forms_by q m (answer_view answer)) is ∙ by_answer answer not
     where
-      by_answer : (x : Answer) → ((parts : Vec ℕ Global) (proofs : Vec Certificate Global) → x ≡ answers.Contained parts proofs → ⊥) → answer_forms_by q (Contain a b tries) (answer_view x) ≡ []
+      by_answer : (x : Answer) → ((parts : Vec ℕ Global) (proofs : Vec Certificate Global) → x ≡ answers.Contained parts proofs → ⊥)
+          → answer_forms_by q (Contain a b tries) (answer_view x) ≡ []
       by_answer (answers.Yes proofs) n = refl
       by_answer (answers.No is_back point) n = refl
       by_answer (answers.Undecided cause) n = refl

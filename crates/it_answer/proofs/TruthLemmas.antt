@@ -4,7 +4,7 @@ use Rattle.std.specs.List.{AllByRecursion as Every}
 use Rattle.std.proofs.lemmas.Int.{ints}
 use Rattle.std.proofs.lemmas.List.Elements.{All-nil, All-cons, All-head, All-tail, All-append, All-weaker}
 use Rattle.it_number.proofs.SignLemmas.{least_by_multiple}
-use Rattle.it_space.specs.declared.problems.Kind.TheVariants.{Inequality}
+use Rattle.it_problems.specs.declared.problems.Kind.TheVariants.{Inequality}
 use Rattle.it_space.specs.Answers.{AnswerView, CertificateView}
 use Rattle.it_space.specs.Answers.AnswerView.{Yes, No, Undecided, Region, Contained, Open}
 use Rattle.it_space.specs.Rows.{point_of}
@@ -57,7 +57,8 @@ module _ (q : BodyView) (m : ℕ → ℤ) (together : AreTrueTogether q m) where
   all_satisfied =
       let n : ℕ = variable_count q in
       every-append (IsSatisfied m) (map (demand_of_elemental n) (elementals n)) (question_demands q)
-      (every-map (IsSatisfied m) (demand_of_elemental n) (elementals n) (every_of (λ e. pos 0 ≤ℤ elemental_value n m e) (elementals n) ((elementals_generate n m together.0.empty).1 together.0)))
+      (every-map (IsSatisfied m) (demand_of_elemental n) (elementals n) (every_of (λ e. pos 0 ≤ℤ elemental_value n m e) (elementals n)
+      ((elementals_generate n m together.0.empty).1 together.0)))
       (every_of (IsSatisfied m) (question_demands q) lines_satisfied)
 
   satisfied_at : (i : ℕ) → IsSatisfied m (demand_at ds i)
@@ -68,7 +69,8 @@ module _ (q : BodyView) (m : ℕ → ℤ) (together : AreTrueTogether q m) where
       (subst (λ (x : ℤ). pos 0 ≤ℤ x) (sym (c.adds_up m together.0.empty))
       (weighted_least (generators_by ds) (λ i. (demand_at ds i).form m) (λ i l. at_least (demand_at ds i).kind ((demand_at ds i).form m) (satisfied_at i))
       (λ i l e. is_zero (demand_at ds i).kind ((demand_at ds i).form m) (satisfied_at i) e) w.weights
-      (All-weaker (IsAllowedWeight ds) (IsAllowed (generators_by ds)) (λ x a. (a.0, λ e. a.1 (inequality_unless_equation (demand_at ds x.0).kind e))) w.weights c.allowed)))
+      (All-weaker (IsAllowedWeight ds) (IsAllowed (generators_by ds)) (λ x a.
+      (a.0, λ e. a.1 (inequality_unless_equation (demand_at ds x.0).kind e))) w.weights c.allowed)))
 
   all_valid : (fs : List Form) (ws : List CertificateView) → CertifyAll q fs ws → All (λ f. pos 0 ≤ℤ f m) fs
   all_valid [] [] c = All-nil (λ (f : Form). pos 0 ≤ℤ f m)
@@ -93,11 +95,18 @@ module _ (q : BodyView) (r : RelationView) where
   violates : (fs : List Form) (is_back : Bool) (values : List ℤ) → Refutes q fs is_back values
       → AreTrueTogether q (point_of values) × (All (λ (f : Form). pos 0 ≤ℤ f (point_of values)) fs → ⊥)
   violates [] is_back values c = absurd c
-  violates (f ∷ fs) false values c =
-      ((c.polymatroid, c.lines_hold), λ all. not_at_least_zero (f (point_of values)) c.violated (All-head (λ (f : Form). pos 0 ≤ℤ f (point_of values)) f fs all))
+  violates (f ∷ fs) false values c = (
+    (c.polymatroid, c.lines_hold),
+    λ all. not_at_least_zero (f (point_of values)) c.violated
+        (All-head (λ (f : Form). pos 0 ≤ℤ f (point_of values)) f fs all),
+  )
   violates (f ∷ []) true values c = absurd c
-  violates (f ∷ g ∷ fs) true values c =
-      ((c.1.polymatroid, c.1.lines_hold), λ all. not_at_least_zero (g (point_of values)) c.1.violated (All-head (λ (f : Form). pos 0 ≤ℤ f (point_of values)) g fs (All-tail (λ (f : Form). pos 0 ≤ℤ f (point_of values)) f (g ∷ fs) all)))
+  violates (f ∷ g ∷ fs) true values c = (
+    (c.1.polymatroid, c.1.lines_hold),
+    λ all. not_at_least_zero (g (point_of values)) c.1.violated
+        (All-head (λ (f : Form). pos 0 ≤ℤ f (point_of values)) g fs (All-tail (λ (f : Form). pos 0 ≤ℤ f (point_of values)) f
+        (g ∷ fs) all)),
+  )
 
   no_is_true : (is_back : Bool) (values : List ℤ) → Refutes q (targets (variable_count q) r) is_back values
       → AreTrueTogether q (point_of values) × ¬ (Holds (variable_count q) (point_of values) r)
@@ -131,7 +140,8 @@ true_by q (Contain a b tries) (Open tried) s = tt
 pub what_is_shown_is_true : WhatIsShownIsTrue
 what_is_shown_is_true q answer s = true_by q q.verb answer s
 
-never_both : (q : BodyView) (verb : VerbView) (ws : List CertificateView) (is_back : Bool) (values : List ℤ) → IsTrueBy q verb (Yes ws) → IsTrueBy q verb (No is_back values) → ⊥
+never_both : (q : BodyView) (verb : VerbView) (ws : List CertificateView) (is_back : Bool) (values : List ℤ) → IsTrueBy q verb (Yes ws)
+    → IsTrueBy q verb (No is_back values) → ⊥
 never_both q (Prove r) ws is_back values holds fails = fails.1 (holds (point_of values) fails.0)
 never_both q (Eliminate rates) ws is_back values holds fails = holds
 never_both q (Contain a b tries) ws is_back values holds fails = holds

@@ -2,7 +2,7 @@
 use Rattle.std.proofs.Common.{◌≡◌, inl, inr, ℕ, ℤ, List, [], ◌∷◌, Bool, true, false, All, map, take, refl, sym, ap, ap₂, subst, ◌∙◌}
 use Rattle.std.proofs.lemmas.List.Elements.{All-nil, All-cons}
 use Rattle.it_space.specs.declared.answers.Cause.{Cause}
-use Rattle.it_space.specs.Problems.{ProblemView}
+use Rattle.it_problems.specs.Problems.{ProblemView}
 use Rattle.it_space.specs.Answers.{AnswerView, CertificateView}
 use Rattle.it_space.specs.Answers as answer_views
 use Rattle.it_space.specs.Rows.{Terms, IsCanonical}
@@ -61,7 +61,8 @@ module _ (p : ProblemView) (effort : Effort) (defined : effort.quick ≡ false) 
   one_yes (t ∷ ts) (w ∷ ws) [] a b = absurd b
   one_yes (t ∷ ts) (w ∷ ws) (v ∷ vs) a b = ap₂ (λ x xs. x ∷ xs) (proven_is w v (same t (Yes w) (Yes v) a.0 b.0)) (one_yes ts ws vs a.1 b.1)
 
-  yes_not_no : (ts : List Terms) (ws : List CertificateView) (is_back : Bool) (values : List ℤ) → AreProofsOf p effort ts ws → PointIsDue p effort ts is_back values → ⊥
+  yes_not_no : (ts : List Terms) (ws : List CertificateView) (is_back : Bool) (values : List ℤ) → AreProofsOf p effort ts ws
+      → PointIsDue p effort ts is_back values → ⊥
   yes_not_no [] ws is_back values a b = absurd b
   yes_not_no (t ∷ ts) [] is_back values a b = absurd a
   yes_not_no (t ∷ ts) (w ∷ ws) false values a b = proven_not_refuted w values (same t (Yes w) (No values) a.0 b)
@@ -75,7 +76,8 @@ module _ (p : ProblemView) (effort : Effort) (defined : effort.quick ≡ false) 
   yes_not_undecided (t ∷ ts) (w ∷ ws) cause a (inl e) = proven_not_open w cause (same t (Yes w) (Undecided cause) a.0 e)
   yes_not_undecided (t ∷ ts) (w ∷ ws) cause a (inr b) = yes_not_undecided ts ws cause a.1 b.1
 
-  one_no : (ts : List Terms) (is_back is_other : Bool) (xs ys : List ℤ) → PointIsDue p effort ts is_back xs → PointIsDue p effort ts is_other ys → answer_views.No is_back xs ≡ answer_views.No is_other ys
+  one_no : (ts : List Terms) (is_back is_other : Bool) (xs ys : List ℤ) → PointIsDue p effort ts is_back xs
+      → PointIsDue p effort ts is_other ys → answer_views.No is_back xs ≡ answer_views.No is_other ys
   one_no [] is_back is_other xs ys a b = absurd a
   one_no (t ∷ ts) false false xs ys a b = ap (answer_views.No false) (refuted_is xs ys (same t (No xs) (No ys) a b))
   one_no (t ∷ []) false true xs ys a b = absurd b
@@ -84,7 +86,8 @@ module _ (p : ProblemView) (effort : Effort) (defined : effort.quick ≡ false) 
   one_no (t ∷ u ∷ ts) true false xs ys a b = absurd (proven_not_refuted a.0.0 ys (same t (Yes a.0.0) (No ys) a.0.1 b))
   one_no (t ∷ u ∷ ts) true true xs ys a b = ap (answer_views.No true) (refuted_is xs ys (same u (No xs) (No ys) a.1 b.1))
 
-  no_not_undecided : (ts : List Terms) (is_back : Bool) (values : List ℤ) (cause : Cause) → PointIsDue p effort ts is_back values → CauseIsDue p effort ts cause → ⊥
+  no_not_undecided : (ts : List Terms) (is_back : Bool) (values : List ℤ) (cause : Cause) → PointIsDue p effort ts is_back values
+      → CauseIsDue p effort ts cause → ⊥
   no_not_undecided [] is_back values cause a b = absurd b
   no_not_undecided (t ∷ ts) false values cause a (inl e) = refuted_not_open values cause (same t (No values) (Undecided cause) a e)
   no_not_undecided (t ∷ ts) false values cause a (inr b) = proven_not_refuted b.0.0 values (same t (Yes b.0.0) (No values) b.0.1 a)
@@ -107,7 +110,8 @@ module _ (p : ProblemView) (effort : Effort) (defined : effort.quick ≡ false) 
   yes_is ts ws (answer_views.Contained parts proofs) x y = absurd y
   yes_is ts ws (answer_views.Open tried) x y = absurd y
 
-  no_is : (ts : List Terms) (is_back : Bool) (values : List ℤ) (b : AnswerView) → PointIsDue p effort ts is_back values → IsDueByRuns p effort ts b → answer_views.No is_back values ≡ b
+  no_is : (ts : List Terms) (is_back : Bool) (values : List ℤ) (b : AnswerView) → PointIsDue p effort ts is_back values
+      → IsDueByRuns p effort ts b → answer_views.No is_back values ≡ b
   no_is ts is_back values (answer_views.Yes ws) x y = absurd (yes_not_no ts ws is_back values y x)
   no_is ts is_back values (answer_views.No is_other others) x y = one_no ts is_back is_other values others x y
   no_is ts is_back values (answer_views.Undecided cause) x y = absurd (no_not_undecided ts is_back values cause x y)
@@ -115,7 +119,8 @@ module _ (p : ProblemView) (effort : Effort) (defined : effort.quick ≡ false) 
   no_is ts is_back values (answer_views.Contained parts proofs) x y = absurd y
   no_is ts is_back values (answer_views.Open tried) x y = absurd y
 
-  undecided_is : (ts : List Terms) (cause : Cause) (b : AnswerView) → CauseIsDue p effort ts cause → IsDueByRuns p effort ts b → answer_views.Undecided cause ≡ b
+  undecided_is : (ts : List Terms) (cause : Cause) (b : AnswerView) → CauseIsDue p effort ts cause → IsDueByRuns p effort ts b
+      → answer_views.Undecided cause ≡ b
   undecided_is ts cause (answer_views.Yes ws) x y = absurd (yes_not_undecided ts ws cause y x)
   undecided_is ts cause (answer_views.No is_back values) x y = absurd (no_not_undecided ts is_back values cause y x)
   undecided_is ts cause (answer_views.Undecided other) x y = ap answer_views.Undecided (one_cause ts cause other x y)
@@ -131,7 +136,8 @@ module _ (p : ProblemView) (effort : Effort) (defined : effort.quick ≡ false) 
   one_due ts (answer_views.Contained parts proofs) b x y = absurd x
   one_due ts (answer_views.Open tried) b x y = absurd x
 
-one_for : (effort : Effort) (q : BodyView) (r : RelationView) (a b : AnswerView) → effort.quick ≡ false → IsDueRelation effort q r a → IsDueRelation effort q r b → a ≡ b
+one_for : (effort : Effort) (q : BodyView) (r : RelationView) (a b : AnswerView) → effort.quick ≡ false → IsDueRelation effort q r a
+    → IsDueRelation effort q r b → a ≡ b
 one_for effort q r a b defined x y = one_due (problem_of q) effort defined (map (terms_in q) (targets (variable_count q) r)) a b x y
 
 -- ---- what a search finds
@@ -146,18 +152,21 @@ module _ (q : BodyView) (a b : RegionView) (effort : Effort) (defined : effort.q
   decides : Decides proves
   decides = decides_by_one proves (λ t o other. one_outcome (problem_of q) t effort o other defined)
 
-  one_found : (xs ys : List Candidate) (parts others : List ℕ) (ws vs : List CertificateView) → IsFound proves tries plan xs parts ws → IsFound proves tries plan ys others vs
+  one_found : (xs ys : List Candidate) (parts others : List ℕ) (ws vs : List CertificateView) → IsFound proves tries plan xs parts ws
+      → IsFound proves tries plan ys others vs
       → reply_of (answer_views.Contained parts ws) xs ≡ reply_of (answer_views.Contained others vs) ys
   one_found xs ys parts others ws vs x y =
       let c : x.candidate ≡ y.candidate = one_first proves decides tries plan x.candidate y.candidate x.first y.first in
       let proof : IsProofOf proves y.candidate ws = subst (λ (d : Candidate). IsProofOf proves d ws) c x.proofs in
-      let same_proofs : ws ≡ vs = one_yes (problem_of q) effort defined (map (terms_in q) (obligations q a b (take y.candidate.count y.candidate.parts))) ws vs proof.proofs y.proofs.proofs in
+      let same_proofs : ws ≡ vs = one_yes (problem_of q) effort defined (map (terms_in q)
+      (obligations q a b (take y.candidate.count y.candidate.parts))) ws vs proof.proofs y.proofs.proofs in
       let same_parts : parts ≡ others = x.parts_are ∙ ap (λ (d : Candidate). take d.count d.parts) c ∙ sym y.parts_are in
       let same_found : xs ≡ ys = x.found_is ∙ ap (λ d. d ∷ []) c ∙ sym y.found_is in
       ap₂ (λ zs cs. reply_of (answer_views.Contained zs ws) cs) same_parts same_found ∙ ap (λ us. reply_of (answer_views.Contained others us) ys) same_proofs
 
   module _ (xs ys : List Candidate) where
-    found_then : (parts : List ℕ) (ws : List CertificateView) (other : AnswerView) → IsFound proves tries plan xs parts ws → IsDueBySearch proves tries plan ys other → reply_of (answer_views.Contained parts ws) xs ≡ reply_of other ys
+    found_then : (parts : List ℕ) (ws : List CertificateView) (other : AnswerView) → IsFound proves tries plan xs parts ws
+        → IsDueBySearch proves tries plan ys other → reply_of (answer_views.Contained parts ws) xs ≡ reply_of other ys
     found_then parts ws (answer_views.Contained others vs) x y = one_found xs ys parts others ws vs x y
     found_then parts ws (answer_views.Open t) x y = absurd (first_not_open proves decides tries plan x.candidate t x.first y.0)
     found_then parts ws (answer_views.Yes vs) x y = absurd y
@@ -165,7 +174,8 @@ module _ (q : BodyView) (a b : RegionView) (effort : Effort) (defined : effort.q
     found_then parts ws (answer_views.Undecided cause) x y = absurd y
     found_then parts ws (answer_views.Region rows) x y = absurd y
 
-    open_then : (t : ℕ) (other : AnswerView) → IsOpen proves tries plan t → xs ≡ [] → IsDueBySearch proves tries plan ys other → reply_of (answer_views.Open t) xs ≡ reply_of other ys
+    open_then : (t : ℕ) (other : AnswerView) → IsOpen proves tries plan t → xs ≡ [] → IsDueBySearch proves tries plan ys other
+        → reply_of (answer_views.Open t) xs ≡ reply_of other ys
     open_then t (answer_views.Contained others vs) x e y = absurd (first_not_open proves decides tries plan y.candidate t y.first x)
     open_then t (answer_views.Open s) x e y = ap₂ (λ n cs. reply_of (answer_views.Open n) cs) (one_open proves tries plan t s x y.0) (e ∙ sym y.1)
     open_then t (answer_views.Yes vs) x e y = absurd y
@@ -173,7 +183,8 @@ module _ (q : BodyView) (a b : RegionView) (effort : Effort) (defined : effort.q
     open_then t (answer_views.Undecided cause) x e y = absurd y
     open_then t (answer_views.Region rows) x e y = absurd y
 
-    one_search : (one other : AnswerView) → IsDueBySearch proves tries plan xs one → IsDueBySearch proves tries plan ys other → reply_of one xs ≡ reply_of other ys
+    one_search : (one other : AnswerView) → IsDueBySearch proves tries plan xs one → IsDueBySearch proves tries plan ys other
+        → reply_of one xs ≡ reply_of other ys
     one_search (answer_views.Contained parts ws) other x y = found_then parts ws other x y
     one_search (answer_views.Open t) other x y = open_then t other x.0 x.1 y
     one_search (answer_views.Yes ws) other x y = absurd x
@@ -186,9 +197,12 @@ module _ (q : BodyView) (a b : RegionView) (effort : Effort) (defined : effort.q
 without_found : (one other : AnswerView) (xs ys : List Candidate) → one ≡ other → xs ≡ [] → ys ≡ [] → reply_of one xs ≡ reply_of other ys
 without_found one other xs ys same e f = ap₂ reply_of same (e ∙ sym f)
 
-one_by : (budgets : Budgets) (plans : List Plan) (q : BodyView) (verb : VerbView) (a b : Reply) → budgets.effort.quick ≡ false → IsDueBy budgets plans q verb a → IsDueBy budgets plans q verb b → a ≡ b
-one_by budgets plans q (Prove r) a b defined x y = without_found a.answer b.answer a.found b.found (one_for budgets.effort q r a.answer b.answer defined x.0 y.0) x.1 y.1
-one_by budgets plans q (Eliminate rates) a b defined x y = without_found a.answer b.answer a.found b.found (one_elimination budgets q rates a.answer b.answer defined x.0 y.0) x.1 y.1
+one_by : (budgets : Budgets) (plans : List Plan) (q : BodyView) (verb : VerbView) (a b : Reply) → budgets.effort.quick ≡ false
+    → IsDueBy budgets plans q verb a → IsDueBy budgets plans q verb b → a ≡ b
+one_by budgets plans q (Prove r) a b defined x y = without_found a.answer b.answer a.found b.found
+    (one_for budgets.effort q r a.answer b.answer defined x.0 y.0) x.1 y.1
+one_by budgets plans q (Eliminate rates) a b defined x y = without_found a.answer b.answer a.found b.found
+    (one_elimination budgets q rates a.answer b.answer defined x.0 y.0) x.1 y.1
 one_by budgets plans q (Contain first second tries) a b defined x y =
     one_search q first second budgets.effort defined budgets.tries _ a.found b.found a.answer b.answer x y
 
@@ -197,11 +211,13 @@ one_right_answer budgets plans q a b defined x y = one_by budgets plans q q.verb
 
 -- ---- the certificates of an answer
 
-each_ascends : (p : ProblemView) (effort : Effort) (ts : List Terms) (ws : List CertificateView) → AreProofsOf p effort ts ws → All (λ (w : CertificateView). IsCanonical w.weights) ws
+each_ascends : (p : ProblemView) (effort : Effort) (ts : List Terms) (ws : List CertificateView) → AreProofsOf p effort ts ws
+    → All (λ (w : CertificateView). IsCanonical w.weights) ws
 each_ascends p effort [] [] a = All-nil (λ (w : CertificateView). IsCanonical w.weights)
 each_ascends p effort [] (w ∷ ws) a = absurd a
 each_ascends p effort (t ∷ ts) [] a = absurd a
-each_ascends p effort (t ∷ ts) (w ∷ ws) a = All-cons (λ (w : CertificateView). IsCanonical w.weights) w ws (proven_ascends p t effort w a.0) (each_ascends p effort ts ws a.1)
+each_ascends p effort (t ∷ ts) (w ∷ ws) a = All-cons (λ (w : CertificateView). IsCanonical w.weights) w ws (proven_ascends p t effort w a.0)
+    (each_ascends p effort ts ws a.1)
 
 targets_ascend : (p : ProblemView) (effort : Effort) (ts : List Terms) (answer : AnswerView) → IsDueByRuns p effort ts answer → ProofsAscend answer
 targets_ascend p effort ts (answer_views.Yes ws) x = each_ascends p effort ts ws x
@@ -216,15 +232,18 @@ region_ascends answer (projections.Region kept dropped) is = subst ProofsAscend 
 region_ascends answer (projections.Rows rate) is = subst ProofsAscend (sym is) tt
 region_ascends answer (projections.Wide rate) is = subst ProofsAscend (sym is) tt
 
-search_ascends : (q : BodyView) (a b : RegionView) (effort : Effort) (tries : ℕ) (plan found : List Candidate) (answer : AnswerView) → IsDueBySearch (containment_goal q a b effort) tries plan found answer → ProofsAscend answer
+search_ascends : (q : BodyView) (a b : RegionView) (effort : Effort) (tries : ℕ) (plan found : List Candidate) (answer : AnswerView)
+    → IsDueBySearch (containment_goal q a b effort) tries plan found answer → ProofsAscend answer
 search_ascends q a b effort tries plan found (answer_views.Yes ws) x = absurd x
 search_ascends q a b effort tries plan found (answer_views.No is_back values) x = absurd x
 search_ascends q a b effort tries plan found (answer_views.Undecided cause) x = absurd x
 search_ascends q a b effort tries plan found (answer_views.Region rows) x = absurd x
-search_ascends q a b effort tries plan found (answer_views.Contained parts ws) x = each_ascends (problem_of q) effort (map (terms_in q) (obligations q a b (take x.candidate.count x.candidate.parts))) ws x.proofs.proofs
+search_ascends q a b effort tries plan found (answer_views.Contained parts ws) x = each_ascends (problem_of q) effort
+    (map (terms_in q) (obligations q a b (take x.candidate.count x.candidate.parts))) ws x.proofs.proofs
 search_ascends q a b effort tries plan found (answer_views.Open tried) x = tt
 
-ascends_by : (budgets : Budgets) (plans : List Plan) (q : BodyView) (verb : VerbView) (reply : Reply) → IsDueBy budgets plans q verb reply → ProofsAscend reply.answer
+ascends_by : (budgets : Budgets) (plans : List Plan) (q : BodyView) (verb : VerbView) (reply : Reply) → IsDueBy budgets plans q verb reply
+    → ProofsAscend reply.answer
 ascends_by budgets plans q (Prove r) reply d = targets_ascend (problem_of q) budgets.effort (map (terms_in q) (targets (variable_count q) r)) reply.answer d.0
 ascends_by budgets plans q (Eliminate rates) reply d = region_ascends reply.answer d.0.end d.0.is
 ascends_by budgets plans q (Contain a b tries) reply d = search_ascends q a b budgets.effort budgets.tries _ reply.found reply.answer d

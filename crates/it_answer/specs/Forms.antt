@@ -2,7 +2,7 @@
 -- demand; and certificates over these.
 use Rattle.std.specs.Prelude.{◌≡◌, ℕ, ◌<◌, ℤ, pos, ◌*ℤ◌, ◌≤ℤ◌, List, ◌++◌, length, map, slice_index_or, All}
 use Rattle.std.specs.List.{AllZip}
-use Rattle.it_space.specs.declared.problems.Kind.TheVariants.{Inequality}
+use Rattle.it_problems.specs.declared.problems.Kind.TheVariants.{Inequality}
 use Rattle.it_space.specs.Answers.{CertificateView}
 use Rattle.it_polymatroid.specs.Certificates.{Form, combination}
 use Rattle.it_polymatroid.specs.Elementals.{Elemental, elementals, elemental_value}

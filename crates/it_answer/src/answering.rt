@@ -19,9 +19,10 @@ use crate::types::{AnsweredProblem, Budgets};
 use it_canon::{canon, problem};
 use it_columns::opposite_row;
 use it_contain::Proposer;
+use it_problems::Problem;
 use it_prove::{ClosedProblem, Effort, Proof, prove};
 use it_question::types::{Question, Verb};
-use it_space::{Answer, Certificate, Problem};
+use it_space::{Answer, Certificate};
 use it_syntax::types::{Relation, Sign};
 use std::alloc::{AllocError, Global};
 

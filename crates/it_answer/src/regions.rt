@@ -12,9 +12,10 @@ ghost use Rattle.it_answer.specs.RightAnswers.{IsAnswered};
 
 use crate::types::Budgets;
 use it_canon::system;
+use it_problems::Problem;
 use it_question::types::Question;
 use it_redundant::{Need, Projected, project};
-use it_space::{Answer, Cause, Mark, Problem, Row};
+use it_space::{Answer, Cause, Mark, Row};
 use std::alloc::{AllocError, Global};
 
 /// The region that the question's `row` lines leave without the rates `rates`. These are eliminated in their order, and after each

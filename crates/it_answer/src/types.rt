@@ -1,6 +1,7 @@
 //! Answers with their problems, and what they may cost.
+use it_problems::Problem;
 use it_prove::Effort;
-use it_space::{Answer, Problem};
+use it_space::Answer;
 
 /// How much an answer may cost: the effort for each target, whether a quick run comes first and the most steps of the defined run; the
 /// most rows that the elimination of a rate may leave before they are reduced, at most 65,535 by its type; and the most candidates

@@ -29,7 +29,8 @@ turned_sum c [] gs = ring ring_ℚ [] nil (S.minus nil) refl
 turned_sum c (x ∷ xs) [] = ring ring_ℚ [] nil (S.minus nil) refl
 turned_sum c (x ∷ xs) (g ∷ gs) =
     ap₂ (λ y z. plus (times x y) z) (ap integer (coefficient-negated_terms c g.row) ∙ whole_minus (coefficient g.row c)) (turned_sum c xs gs)
-    ∙ ring ring_ℚ (x ∷ integer (coefficient g.row c) ∷ number_sum c xs gs ∷ []) (S.plus (S.times (v 0) (S.minus (v 1))) (S.minus (v 2))) (S.minus (S.plus (S.times (v 0) (v 1)) (v 2))) refl
+    ∙ ring ring_ℚ (x ∷ integer (coefficient g.row c) ∷ number_sum c xs gs ∷ []) (S.plus (S.times (v 0) (S.minus (v 1))) (S.minus (v 2)))
+    (S.minus (S.plus (S.times (v 0) (v 1)) (v 2))) refl
 
 -- each number k times
 pub multiple_sum : (c : ℕ) (k : ℤ) (xs : List Rational) (gs : List Generator) → number_sum c (multiples k xs) gs ≡ times (integer k) (number_sum c xs gs)
@@ -47,7 +48,8 @@ zero_more i = omega arith
 next_more : (i k : ℕ) → i + 1 + k ≡ i + suc k
 next_more i k = omega arith
 
-pub weighted_terms : (c l i : ℕ) (all gs : List Generator) (xs : List Rational) → length xs ≡ length gs → ((k : ℕ) → k < length gs → generator_at all (i + k) ≡ generator_at gs k) → Every (λ q. q.den ∣ l) xs
+pub weighted_terms : (c l i : ℕ) (all gs : List Generator) (xs : List Rational) → length xs ≡ length gs
+    → ((k : ℕ) → k < length gs → generator_at all (i + k) ≡ generator_at gs k) → Every (λ q. q.den ∣ l) xs
     → integer (value (terms_from i (map (scaled_number l) xs)) (column all c)) ≡ times (integer (pos l)) (number_sum c xs gs)
 weighted_terms c l i all [] [] e h d = ring ring_ℚ (integer (pos l) ∷ []) nil (S.times (v 0) nil) refl
 weighted_terms c l i all (g ∷ gs) [] e h d = absurd (omega (arith, e))
@@ -74,12 +76,15 @@ times_den x = same_value (times (integer (pos x.den)) x) (integer x.num) (pos x.
 
 -- if a factor times the left side less weights times the generators is the right side, the denominator times these weights gives the
 -- numerator times the left side less the denominator times the right one
-pub factor_sum : (c : ℕ) (x : Rational) (xs : List Rational) (gs : List Generator) (l r : ℤ) → plus (times x (integer l)) (number_sum c xs (map counterweight gs)) ≡ integer r
+pub factor_sum : (c : ℕ) (x : Rational) (xs : List Rational) (gs : List Generator) (l r : ℤ)
+    → plus (times x (integer l)) (number_sum c xs (map counterweight gs)) ≡ integer r
     → number_sum c (multiples (pos x.den) xs) gs ≡ integer (x.num *ℤ l -ℤ pos x.den *ℤ r)
 factor_sum c x xs gs l r e =
     multiple_sum c (pos x.den) xs gs
-    ∙ ap (times (integer (pos x.den))) (weights_are (number_sum c xs gs) (times x (integer l)) (integer r) (ap (plus (times x (integer l))) (sym (turned_sum c xs gs)) ∙ e))
-    ∙ ring ring_ℚ (integer (pos x.den) ∷ x ∷ integer l ∷ integer r ∷ []) (S.times (v 0) (S.plus (S.times (v 1) (v 2)) (S.minus (v 3)))) (S.plus (S.times (S.times (v 0) (v 1)) (v 2)) (S.minus (S.times (v 0) (v 3)))) refl
+    ∙ ap (times (integer (pos x.den))) (weights_are (number_sum c xs gs) (times x (integer l)) (integer r)
+    (ap (plus (times x (integer l))) (sym (turned_sum c xs gs)) ∙ e))
+    ∙ ring ring_ℚ (integer (pos x.den) ∷ x ∷ integer l ∷ integer r ∷ []) (S.times (v 0) (S.plus (S.times (v 1) (v 2)) (S.minus (v 3))))
+    (S.plus (S.times (S.times (v 0) (v 1)) (v 2)) (S.minus (S.times (v 0) (v 3)))) refl
     ∙ ap₂ (λ y z. plus (times y (integer l)) (minus z)) (times_den x) (sym (whole_times (pos x.den) r))
     ∙ ap₂ plus (sym (whole_times x.num l)) (sym (whole_minus (pos x.den *ℤ r)))
     ∙ sym (whole_plus (x.num *ℤ l) (neg_ℤ (pos x.den *ℤ r)))

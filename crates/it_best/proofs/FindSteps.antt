@@ -8,9 +8,9 @@ use Rattle.it_check.specs.Meaning.{PointFits}
 use Rattle.std.proofs.lemmas.List.{length-map, length-append}
 use Rattle.it_number.specs.Limit.{IsWithin}
 use Rattle.it_rational.specs.Rational.{Rational, integer}
-use Rattle.it_space.specs.declared.problems.Kind.{Kind}
-use Rattle.it_space.specs.declared.problems.Kind.TheVariants.{Inequality, Equation}
-use Rattle.it_space.specs.Problems.{ProblemView, IsProblem}
+use Rattle.it_problems.specs.declared.problems.Kind.{Kind}
+use Rattle.it_problems.specs.declared.problems.Kind.TheVariants.{Inequality, Equation}
+use Rattle.it_problems.specs.Problems.{ProblemView, IsProblem}
 use Rattle.it_space.specs.Rows.{Terms, IsOver, point_of, value}
 use Rattle.it_space.specs.Spaces.{size_of}
 use Rattle.it_polymatroid.specs.Elementals.{span}
@@ -49,11 +49,14 @@ slacks_few e (g ∷ gs) = by_kind g.kind (slacks_few (e + 1) gs)
     by_kind Inequality h = omega (arith, h)
     by_kind Equation h = omega (arith, h)
 
-third_length : (n size : ℕ) (gs : List Generator) (left right : Terms) → length (third_phase n size gs left right) ≡ 1 + (length gs + (size + length (slacks (size + 1) gs)))
+third_length : (n size : ℕ) (gs : List Generator) (left right : Terms)
+    → length (third_phase n size gs left right) ≡ 1 + (length gs + (size + length (slacks (size + 1) gs)))
 unfolding third_phase
-third_length n size gs left right = ap suc (length-append (map counterweight gs) (map (coordinate_unknown n size gs left right) (span 1 size) ++ slacks (size + 1) gs)
+third_length n size gs left right = ap suc (length-append (map counterweight gs)
+    (map (coordinate_unknown n size gs left right) (span 1 size) ++ slacks (size + 1) gs)
     ∙ ap₂ (λ a b. a + b) (length-map gs counterweight) (length-append (map (coordinate_unknown n size gs left right) (span 1 size)) (slacks (size + 1) gs)
-    ∙ ap (λ a. a + length (slacks (size + 1) gs)) (length-map (span 1 size) (coordinate_unknown n size gs left right) ∙ length-span 1 size))) ∙ as_sum (length gs + (size + length (slacks (size + 1) gs)))
+    ∙ ap (λ a. a + length (slacks (size + 1) gs)) (length-map (span 1 size) (coordinate_unknown n size gs left right)
+    ∙ length-span 1 size))) ∙ as_sum (length gs + (size + length (slacks (size + 1) gs)))
   where
     as_sum : (a : ℕ) → suc a ≡ 1 + a
     as_sum a = omega arith
@@ -89,7 +92,8 @@ module _ (q : ProblemView) (left right : Terms) (k : IsProblem q) where
   gs_few = omega (arith, few_equations q k)
 
 -- as the code has them
-pub ordered_of : (m : ℕ) (us : List Generator) (target : Terms) (ws : List (ℕ × Rational)) → length us < 2 ^ 23 → PhaseSums m us target ws → AreWeights rationals (2 ^ 63) 0 ws
+pub ordered_of : (m : ℕ) (us : List Generator) (target : Terms) (ws : List (ℕ × Rational)) → length us < 2 ^ 23 → PhaseSums m us target ws
+    → AreWeights rationals (2 ^ 63) 0 ws
 ordered_of m us target ws h s = weights_below (length (columns us)) (2 ^ 63) 0 ws (omega (arith, h, few_columns us)) s.ordered
 
 pub unknowns_few : (unknowns : List Unknown) (us : List Generator) → unknown_views unknowns ≡ us → length us < 2 ^ 23 → length unknowns < 2 ^ 32
@@ -100,26 +104,41 @@ numbers_length us ws = length-numbers_from us 0 (column_weight ws)
 
 -- ---- the third phase's numbers
 
-module _ (q : ProblemView) (left right : Terms) (k : IsProblem q) (l : IsOver (size_of q.space) left) (r : IsOver (size_of q.space) right) (ws : List (ℕ × Rational))
+module _ (q : ProblemView) (left right : Terms) (k : IsProblem q) (l : IsOver (size_of q.space) left) (r : IsOver (size_of q.space) right)
+    (ws : List (ℕ × Rational))
     (s : PhaseSums (right_equation (size_of q.space) (generators q)) (third q left right) (third_target (size_of q.space) (generators q) right) ws) where
   abbrev ns : List Rational
   ns = numbers (third q left right) ws
 
   pub third_long : (xs : List Rational) → xs ≡ ns → length (generators q) + size_of q.space < length xs
-  third_long xs e = omega (arith, ap length e, numbers_length (third q left right) ws, third_length q.space.variables (size_of q.space) (generators q) left right)
+  third_long xs e = omega (
+    arith,
+    ap length e,
+    numbers_length (third q left right) ws,
+    third_length q.space.variables (size_of q.space)
+        (generators q) left right,
+  )
 
-  pub third_factor_is : (x : Rational) (xs : List Rational) → x ≡ slice_index_or ns 0 (integer (pos 0)) → xs ≡ take (length (generators q)) (drop 1 ns) → IsFactor (ground_of q) (value left) (value right) x.num (pos x.den) (weights_certificate (pos x.den) xs)
-  third_factor_is x xs e f = subst₂ (λ (x : Rational) (xs : List Rational). IsFactor (ground_of q) (value left) (value right) x.num (pos x.den) (weights_certificate (pos x.den) xs))
-      (sym (e ∙ phases.factor_is q left right k l r ws)) (sym (f ∙ phases.weights_are q left right k l r ws)) (phases.third_factor_right q left right k l r ws s)
+  pub third_factor_is : (x : Rational) (xs : List Rational) → x ≡ slice_index_or ns 0 (integer (pos 0))
+      → xs ≡ take (length (generators q)) (drop 1 ns)
+      → IsFactor (ground_of q) (value left) (value right) x.num (pos x.den) (weights_certificate (pos x.den) xs)
+  third_factor_is x xs e f = subst₂ (λ (x : Rational) (xs : List Rational). IsFactor (ground_of q) (value left) (value right) x.num
+      (pos x.den) (weights_certificate (pos x.den) xs))
+      (sym (e ∙ phases.factor_is q left right k l r ws)) (sym (f ∙ phases.weights_are q left right k l r ws))
+      (phases.third_factor_right q left right k l r ws s)
 
   pub third_values_length : (vs : List Rational) → vs ≡ take (size_of q.space) (drop (length (generators q)) (drop 1 ns)) → length vs ≡ size_of q.space
   third_values_length vs e = ap length (e ∙ phases.values_are q left right k l r ws) ∙ phases.hs_length q left right k l r ws
 
-  pub third_point_meets : (vs : List Rational) → vs ≡ take (size_of q.space) (drop (length (generators q)) (drop 1 ns)) → IsPoint (ground_of q) (scaled_point vs)
-  third_point_meets vs e = subst (λ (vs : List Rational). IsPoint (ground_of q) (scaled_point vs)) (sym (e ∙ phases.values_are q left right k l r ws)) (third_meets q left right k l r ws s)
+  pub third_point_meets : (vs : List Rational) → vs ≡ take (size_of q.space) (drop (length (generators q)) (drop 1 ns))
+      → IsPoint (ground_of q) (scaled_point vs)
+  third_point_meets vs e = subst (λ (vs : List Rational). IsPoint (ground_of q) (scaled_point vs))
+      (sym (e ∙ phases.values_are q left right k l r ws)) (third_meets q left right k l r ws s)
 
-  pub third_left_some : (vs : List Rational) → vs ≡ take (size_of q.space) (drop (length (generators q)) (drop 1 ns)) → pos 1 ≤ℤ value left (point_of (scaled_point vs))
-  third_left_some vs e = subst (λ (vs : List Rational). pos 1 ≤ℤ value left (point_of (scaled_point vs))) (sym (e ∙ phases.values_are q left right k l r ws)) (left_some q left right k l r ws s)
+  pub third_left_some : (vs : List Rational) → vs ≡ take (size_of q.space) (drop (length (generators q)) (drop 1 ns))
+      → pos 1 ≤ℤ value left (point_of (scaled_point vs))
+  third_left_some vs e = subst (λ (vs : List Rational). pos 1 ≤ℤ value left (point_of (scaled_point vs)))
+      (sym (e ∙ phases.values_are q left right k l r ws)) (left_some q left right k l r ws s)
 
 -- ---- the first phase's
 
@@ -130,8 +149,11 @@ module _ (q : ProblemView) (left right : Terms) (ws : List (ℕ × Rational)) (s
   pub first_long : (xs : List Rational) → xs ≡ first_ns → length (generators q) < length xs
   first_long xs e = omega (arith, ap length e, numbers_length (first q left right) ws, first_length (generators q) left)
 
-  pub first_factor_is : (x : Rational) (xs : List Rational) → x ≡ slice_index_or first_ns 0 (integer (pos 0)) → xs ≡ take (length (generators q)) (drop 1 first_ns) → IsFactor (ground_of q) (value left) (value right) x.num (pos x.den) (weights_certificate (pos x.den) xs)
-  first_factor_is x xs e f = subst₂ (λ (x : Rational) (xs : List Rational). IsFactor (ground_of q) (value left) (value right) x.num (pos x.den) (weights_certificate (pos x.den) xs)) (sym e) (sym f) (phases.first_right q left right ws s)
+  pub first_factor_is : (x : Rational) (xs : List Rational) → x ≡ slice_index_or first_ns 0 (integer (pos 0))
+      → xs ≡ take (length (generators q)) (drop 1 first_ns)
+      → IsFactor (ground_of q) (value left) (value right) x.num (pos x.den) (weights_certificate (pos x.den) xs)
+  first_factor_is x xs e f = subst₂ (λ (x : Rational) (xs : List Rational). IsFactor (ground_of q) (value left) (value right) x.num
+      (pos x.den) (weights_certificate (pos x.den) xs)) (sym e) (sym f) (phases.first_right q left right ws s)
 
 pub gs_numbers_few : (q : ProblemView) (k : IsProblem q) (ws : List (ℕ × Rational)) (xs : List Rational) → xs ≡ numbers (generators q) ws → length xs < 2 ^ 32
 gs_numbers_few q k ws xs e = omega (arith, ap length e, numbers_length (generators q) ws, few_equations q k)
@@ -139,17 +161,27 @@ gs_numbers_few q k ws xs e = omega (arith, ap length e, numbers_length (generato
 -- ---- the ends of the phases
 
 -- the run of the code's rows is that of the phase
-pub ends_so : (m n : ℕ) (us vs : List Generator) (target row : Terms) (budget : Option ℕ) (e : RunEndView (List (ℕ × Rational)) (List Rational)) → m ≡ n → us ≡ vs → target ≡ row → PhaseEnds m us target budget e → PhaseEnds n vs row budget e
-ends_so m n us vs target row budget e a b d p = subst (λ k. PhaseEnds k vs row budget e) a (subst₂ (λ (ws : List Generator) (ts : Terms). PhaseEnds m ws ts budget e) b d p)
+pub ends_so : (m n : ℕ) (us vs : List Generator) (target row : Terms) (budget : Option ℕ)
+    (e : RunEndView (List (ℕ × Rational)) (List Rational)) → m ≡ n → us ≡ vs → target ≡ row → PhaseEnds m us target budget e
+    → PhaseEnds n vs row budget e
+ends_so m n us vs target row budget e a b d p = subst (λ k. PhaseEnds k vs row budget e) a
+    (subst₂ (λ (ws : List Generator) (ts : Terms). PhaseEnds m ws ts budget e) b d p)
 
 -- the answer by the end of a phase's run is one by some end
-pub by_end : {E : Type 0} (m n : ℕ) (us vs : List Generator) (target : Terms) (budget : Option ℕ) (solved : Solved) (o : Result Best E) (Follows : RunEndView (List (ℕ × Rational)) (List Rational) → BestView → Type 0) → m ≡ n → us ≡ vs
+pub by_end : {E : Type 0} (m n : ℕ) (us vs : List Generator) (target : Terms) (budget : Option ℕ) (solved : Solved) (o : Result Best E)
+    (Follows : RunEndView (List (ℕ × Rational)) (List Rational) → BestView → Type 0) → m ≡ n → us ≡ vs
     → PhaseEnds m us target budget (end_of_answer solved) → IfOk o (λ b. Follows (end_of_answer solved) (best_view b))
     → IfOk o (λ b. (e : RunEndView (List (ℕ × Rational)) (List Rational)) × PhaseEnds n vs target budget e × Follows e (best_view b))
 by_end m n us vs target budget solved (Err e) Follows a b p f = tt
-by_end m n us vs target budget solved (Ok o) Follows a b p f = (end_of_answer solved, ends_so m n us vs target target budget (end_of_answer solved) a b refl p, f)
+by_end m n us vs target budget solved (Ok o) Follows a b p f = (
+  end_of_answer solved,
+  ends_so m n us vs target target budget
+      (end_of_answer solved) a b refl p,
+  f,
+)
 
-pub right_result : {E : Type 0} (q : ProblemView) (left right : Terms) (budget : Option ℕ) (r : Result Best E) → IsProblem q → IsOver (size_of q.space) left → IsOver (size_of q.space) right
+pub right_result : {E : Type 0} (q : ProblemView) (left right : Terms) (budget : Option ℕ) (r : Result Best E) → IsProblem q
+    → IsOver (size_of q.space) left → IsOver (size_of q.space) right
     → IfOk r (λ b. EndsWith q left right budget (best_view b)) → IfOk r (λ b. IsRightBest (ground_of q) (value left) (value right) (best_view b))
 right_result q left right budget (Err e) k l r h = tt
 right_result q left right budget (Ok b) k l r h = best_is_right q left right budget (best_view b) k l r h
@@ -160,14 +192,17 @@ not_large false P e i p = Rattle.std.proofs.lemmas.Bool.false≢true (i.1 p)
 
 -- where the table isn't too large, the answer by the first phase is the answer
 pub goes_on : {E : Type 0} (q : ProblemView) (left right : Terms) (budget : Option ℕ) (o : Result Best E) → ¬ (IsLarge q)
-    → IfOk o (λ b. (e : RunEndView (List (ℕ × Rational)) (List Rational)) × PhaseEnds (size_of q.space) (first q left right) right budget e × FirstFollows q left right budget e (best_view b)) → IfOk o (λ b. EndsWith q left right budget (best_view b))
+    → IfOk o (λ b. (e : RunEndView (List (ℕ × Rational)) (List Rational)) × PhaseEnds (size_of q.space) (first q left right) right budget e
+    × FirstFollows q left right budget e (best_view b)) → IfOk o (λ b. EndsWith q left right budget (best_view b))
 goes_on q left right budget (Err e) small f = tt
 goes_on q left right budget (Ok b) small f = inr (small, f)
 
 -- ---- the point of the least factor
 
-pub least_fits : (q : ProblemView) (left right : Terms) (x : Rational) (qs : List Rational) (point : List ℤ) (above below : ℤ) → point ≡ scaled_point qs → NumbersFit qs → PointFits q left point → ValueFits left (point_of point) × ValueFits right (point_of point)
-    → ◌≡◌ {A = ℤ × ℤ} (above, below) (value left (point_of point), value right (point_of point)) → IsWithin (x.num *ℤ above) × IsWithin (pos x.den *ℤ below) → LeastPointFits q left right x qs
+pub least_fits : (q : ProblemView) (left right : Terms) (x : Rational) (qs : List Rational) (point : List ℤ) (above below : ℤ)
+    → point ≡ scaled_point qs → NumbersFit qs → PointFits q left point → ValueFits left (point_of point) × ValueFits right (point_of point)
+    → ◌≡◌ {A = ℤ × ℤ} (above, below) (value left (point_of point), value right (point_of point))
+    → IsWithin (x.num *ℤ above) × IsWithin (pos x.den *ℤ below) → LeastPointFits q left right x qs
 least_fits q left right x qs point above below e f p v same w =
     let a : above ≡ value left (point_of point) = ap (λ (t : ℤ × ℤ). t.0) same in
     let b : below ≡ value right (point_of point) = ap (λ (t : ℤ × ℤ). t.1) same in record {
@@ -177,7 +212,8 @@ least_fits q left right x qs point above below e f p v same w =
       right_times = subst (λ (vs : List ℤ). IsWithin (pos x.den *ℤ value right (point_of vs))) e (subst (λ (z : ℤ). IsWithin (pos x.den *ℤ z)) b w.1);
     }
 
-pub least_products : (q : ProblemView) (left right : Terms) (x : Rational) (qs : List Rational) (point : List ℤ) (above below : ℤ) → point ≡ scaled_point qs → ◌≡◌ {A = ℤ × ℤ} (above, below) (value left (point_of point), value right (point_of point))
+pub least_products : (q : ProblemView) (left right : Terms) (x : Rational) (qs : List Rational) (point : List ℤ) (above below : ℤ)
+    → point ≡ scaled_point qs → ◌≡◌ {A = ℤ × ℤ} (above, below) (value left (point_of point), value right (point_of point))
     → LeastPointFits q left right x qs → IsWithin (x.num *ℤ above) × IsWithin (pos x.den *ℤ below)
 least_products q left right x qs point above below e same f =
     let a : above ≡ value left (point_of point) = ap (λ (t : ℤ × ℤ). t.0) same in

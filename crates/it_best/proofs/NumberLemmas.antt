@@ -7,8 +7,8 @@ use Rattle.it_number.proofs.Ring as S
 use Rattle.it_rational.specs.Rational.{Rational, integer, plus, times, minus, sign_least, is_at_least_zero}
 use Rattle.it_rational.proofs.RationalLaws.{ring_ℚ}
 use Rattle.it_rational.proofs.Field.{field_ℚ}
-use Rattle.it_space.specs.declared.problems.Kind.{Kind}
-use Rattle.it_space.specs.declared.problems.Kind.TheVariants.{Inequality, Equation}
+use Rattle.it_problems.specs.declared.problems.Kind.{Kind}
+use Rattle.it_problems.specs.declared.problems.Kind.TheVariants.{Inequality, Equation}
 use Rattle.it_space.specs.Rows.{Terms, coefficient}
 use Rattle.it_space.proofs.TermLemmas.{coefficient-negated_terms}
 use Rattle.it_polymatroid.specs.Elementals.{span}
@@ -36,7 +36,8 @@ module _ (c : ℕ) where
 
   total-null : (j : ℕ) (cols : List Terms) → total j cols (λ k. integer (pos 0)) ≡ integer (pos 0)
   total-null j [] = refl
-  total-null j (r ∷ rs) = ap (plus (times (integer (pos 0)) (integer (coefficient r c)))) (total-null (j + 1) rs) ∙ ring ring_ℚ (integer (coefficient r c) ∷ []) (S.plus (S.times nil (v 0)) nil) nil refl
+  total-null j (r ∷ rs) = ap (plus (times (integer (pos 0)) (integer (coefficient r c)))) (total-null (j + 1) rs)
+      ∙ ring ring_ℚ (integer (coefficient r c) ∷ []) (S.plus (S.times nil (v 0)) nil) nil refl
 
   total-add : (j : ℕ) (cols : List Terms) (f g : ℕ → Rational) → total j cols (λ k. plus (f k) (g k)) ≡ plus (total j cols f) (total j cols g)
   total-add j [] f g = ring ring_ℚ [] nil (S.plus nil nil) refl
@@ -46,16 +47,19 @@ module _ (c : ℕ) where
 
   total-past : (i j : ℕ) (x : Rational) (cols : List Terms) → i < j → total j cols (λ k. cond (nat_eq i k) x (integer (pos 0))) ≡ integer (pos 0)
   total-past i j x [] h = refl
-  total-past i j x (r ∷ rs) h = ap₂ (λ b y. plus (times (cond b x (integer (pos 0))) (integer (coefficient r c))) y) (ne_eqb i j (λ e. omega arith)) (total-past i (j + 1) x rs (omega arith))
+  total-past i j x (r ∷ rs) h = ap₂ (λ b y. plus (times (cond b x (integer (pos 0))) (integer (coefficient r c))) y)
+      (ne_eqb i j (λ e. omega arith)) (total-past i (j + 1) x rs (omega arith))
       ∙ ring ring_ℚ (integer (coefficient r c) ∷ []) (S.plus (S.times nil (v 0)) nil) nil refl
 
-  total-one : (i j k : ℕ) (x : Rational) (cols : List Terms) → i < length cols → k ≡ j + i → total j cols (λ n. cond (nat_eq k n) x (integer (pos 0))) ≡ times x (integer (coefficient (get_or cols i []) c))
+  total-one : (i j k : ℕ) (x : Rational) (cols : List Terms) → i < length cols → k ≡ j + i
+      → total j cols (λ n. cond (nat_eq k n) x (integer (pos 0))) ≡ times x (integer (coefficient (get_or cols i []) c))
   total-one i j k x [] h e = absurd (omega arith)
   total-one zero j k x (r ∷ rs) h e =
       ap₂ (λ b y. plus (times (cond b x (integer (pos 0))) (integer (coefficient r c))) y) (eq-eqb k j (omega arith)) (total-past k (j + 1) x rs (omega arith))
       ∙ ring ring_ℚ (x ∷ integer (coefficient r c) ∷ []) (S.plus (S.times (v 0) (v 1)) nil) (S.times (v 0) (v 1)) refl
   total-one (suc i) j k x (r ∷ rs) h e =
-      ap₂ (λ b y. plus (times (cond b x (integer (pos 0))) (integer (coefficient r c))) y) (ne_eqb k j (λ q. omega arith)) (total-one i (j + 1) k x rs (omega arith) (omega arith))
+      ap₂ (λ b y. plus (times (cond b x (integer (pos 0))) (integer (coefficient r c))) y) (ne_eqb k j (λ q. omega arith))
+      (total-one i (j + 1) k x rs (omega arith) (omega arith))
       ∙ ring ring_ℚ (integer (coefficient r c) ∷ times x (integer (coefficient (get_or rs i []) c)) ∷ []) (S.plus (S.times nil (v 0)) (v 1)) (v 1) refl
 
   -- a sum over weights is one over all columns
@@ -70,7 +74,8 @@ module _ (c : ℕ) where
       → total j (columns_by k r ++ cols) f ≡ plus (times (unknown_number k f j) (integer (coefficient r c))) (total (j + column_count k) cols f)
   one_unknown Inequality r j cols f = refl
   one_unknown Equation r j cols f =
-      ap₂ (λ x y. plus (times (f j) (integer (coefficient r c))) (plus (times (f (j + 1)) x) y)) (ap integer (coefficient-negated_terms c r) ∙ whole_minus (coefficient r c)) (ap (λ m. total m cols f) plus_two)
+      ap₂ (λ x y. plus (times (f j) (integer (coefficient r c))) (plus (times (f (j + 1)) x) y))
+      (ap integer (coefficient-negated_terms c r) ∙ whole_minus (coefficient r c)) (ap (λ m. total m cols f) plus_two)
       ∙ ring ring_ℚ (f j ∷ f (j + 1) ∷ integer (coefficient r c) ∷ total (j + 2) cols f ∷ [])
       (S.plus (S.times (v 0) (v 2)) (S.plus (S.times (v 1) (S.minus (v 2))) (v 3))) (S.plus (S.times (S.plus (v 0) (S.minus (v 1))) (v 2)) (v 3)) refl
     where
@@ -81,14 +86,16 @@ module _ (c : ℕ) where
   total_by_unknowns : (us : List Generator) (j : ℕ) (f : ℕ → Rational) → total j (columns us) f ≡ number_sum c (unknown_numbers j us f) us
   unfolding columns numbers_from
   total_by_unknowns [] j f = refl
-  total_by_unknowns (u ∷ us) j f = one_unknown u.kind u.row j (columns us) f ∙ ap (plus (times (unknown_number u.kind f j) (integer (coefficient u.row c)))) (total_by_unknowns us (j + column_count u.kind) f)
+  total_by_unknowns (u ∷ us) j f = one_unknown u.kind u.row j (columns us) f
+      ∙ ap (plus (times (unknown_number u.kind f j) (integer (coefficient u.row c)))) (total_by_unknowns us (j + column_count u.kind) f)
 
 -- at each equation the numbers sum up to the target
 pub numbers_sum_up : (m : ℕ) (us : List Generator) (target : Terms) (ws : List (ℕ × Rational))
     → SumsUp rationals (length (span 1 m)) (length (columns us)) (feasibility_problem (span 1 m) (columns us) target) ws
     → (c : ℕ) → 1 ≤ c → c ≤ m → number_sum c (numbers us ws) us ≡ integer (coefficient target c)
 numbers_sum_up m us target ws s c h l =
-    sym (weights_total c (length (columns us)) 0 (columns us) ws refl s.ordered ∙ total_by_unknowns c us 0 (column_weight ws)) ∙ sums_up (span 1 m) (columns us) target ws s c (in_span m c h l)
+    sym (weights_total c (length (columns us)) 0 (columns us) ws refl s.ordered ∙ total_by_unknowns c us 0 (column_weight ws))
+    ∙ sums_up (span 1 m) (columns us) target ws s c (in_span m c h l)
 
 -- ---- signs
 
@@ -103,7 +110,8 @@ zero_least = ap sign_least (whole_parts (pos 0)).0
 
 weight_least : (n from : ℕ) (ws : List (ℕ × Rational)) → AreWeights rationals n from ws → (j : ℕ) → is_at_least_zero (column_weight ws j) ≡ true
 weight_least n from [] a j = zero_least
-weight_least n from (w ∷ ws) a j = field_ℚ.order.add-least (cond (nat_eq w.0 j) w.1 (integer (pos 0))) (column_weight ws j) (by_test (nat_eq w.0 j)) (weight_least n (suc w.0) ws a.3 j)
+weight_least n from (w ∷ ws) a j = field_ℚ.order.add-least (cond (nat_eq w.0 j) w.1 (integer (pos 0))) (column_weight ws j)
+    (by_test (nat_eq w.0 j)) (weight_least n (suc w.0) ws a.3 j)
   where
     positive : is_at_least_zero w.1 ≡ true
     positive = by_sign (field_ℚ.order.total w.1)

@@ -1,7 +1,7 @@
 -- The numbers of unknowns, by the weights of their columns.
 use Rattle.std.proofs.Common.{ℕ, List}
 use Rattle.it_rational.specs.Rational.{Rational, plus, minus}
-use Rattle.it_space.specs.declared.problems.Kind.{Kind}
+use Rattle.it_problems.specs.declared.problems.Kind.{Kind}
 use Rattle.it_elemental.specs.Generators.{Generator}
 use Rattle.it_columns.specs.Columns.{number_by, numbers_from}
 

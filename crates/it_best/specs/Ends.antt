@@ -3,7 +3,7 @@
 use Rattle.std.specs.Prelude.{◌≡◌, ◌⊎◌, ℕ, ◌+◌, ◌*◌, ◌<◌, ℤ, pos, neg_ℤ, ◌*ℤ◌, List, length, map, take, drop, slice_index_or, All, Option}
 use Rattle.it_number.specs.Limit.{IsWithin}
 use Rattle.it_rational.specs.Rational.{Rational, integer}
-use Rattle.it_space.specs.Problems.{ProblemView}
+use Rattle.it_problems.specs.Problems.{ProblemView}
 use Rattle.it_space.specs.Rows.{Terms, ValueFits, value, point_of, negated_terms}
 use Rattle.it_space.specs.Spaces.{size_of}
 use Rattle.it_polymatroid.specs.Elementals.{span}

@@ -3,8 +3,8 @@ use Rattle.std.specs.Prelude.{ℕ, ◌+◌, ℤ, pos, List, [], ◌∷◌, map, 
 use Rattle.std.specs.List.{AllByRecursion as Every}
 use Rattle.it_rational.specs.Rational.{Rational, integer, plus, times, minus}
 use Rattle.it_fraction.specs.Fits.{IsNarrow, DifferenceFits}
-use Rattle.it_space.specs.declared.problems.Kind.{Kind}
-use Rattle.it_space.specs.declared.problems.Kind.TheVariants.{Inequality, Equation}
+use Rattle.it_problems.specs.declared.problems.Kind.{Kind}
+use Rattle.it_problems.specs.declared.problems.Kind.TheVariants.{Inequality, Equation}
 use Rattle.it_space.specs.Answers.{CertificateView}
 use Rattle.it_space.specs.Sums.{terms_from}
 use Rattle.it_elemental.specs.Generators.{Generator}

@@ -12,8 +12,9 @@ use crate::numbers::{factor_of, numbers, values_of, weights_of};
 use crate::unknowns::Unknown;
 use it_elemental::generator_count;
 use it_fraction::Fraction;
+use it_problems::Problem;
 use it_ratio::types::{Best, BestCause};
-use it_space::{Problem, Row, RowFault};
+use it_space::{Row, RowFault};
 use std::alloc::{AllocError, Global};
 
 /// The answer by the point of the first phase.

@@ -19,9 +19,10 @@ use crate::systems::{
 use crate::unknowns::{Unknown, columns, equations};
 use it_columns::opposite_row;
 use it_fraction::Fraction;
+use it_problems::Problem;
 use it_ratio::types::{Best, BestCause};
 use it_simplex::{Budget, Solved, solve};
-use it_space::{Problem, Row};
+use it_space::Row;
 use std::alloc::{AllocError, Global};
 
 /// The end of the run of a phase with `count` equations.

@@ -15,8 +15,9 @@ use crate::numbers::{certificate, turned_point, whole_point};
 use it_check::{Verdict, check_no, check_yes};
 use it_columns::opposite_row;
 use it_fraction::{Fraction, Wide, signed_product};
+use it_problems::Problem;
 use it_ratio::{RowStop, side_row};
-use it_space::{Certificate, Point, Problem, Row, RowFault, value};
+use it_space::{Certificate, Point, Row, RowFault, value};
 use std::alloc::Global;
 
 /// The numerator of `factor` times `left` less its denominator times `right`. `Wide` if a product or a difference passes the limit.

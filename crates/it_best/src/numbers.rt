@@ -18,7 +18,8 @@ use crate::unknowns::Unknown;
 use it_closure::column_count;
 use it_columns::{common_scale, scaled_values};
 use it_fraction::{Fraction, Wide};
-use it_space::{Certificate, Kind, Point, RowFault, Space, push_some};
+use it_problems::Kind;
+use it_space::{Certificate, Point, RowFault, Space, push_some};
 use std::alloc::{AllocError, Global};
 
 /// The weight of `column`, 0 if it has none.

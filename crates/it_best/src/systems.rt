@@ -11,7 +11,8 @@ ghost use Rattle.it_best.specs.Phases.{coordinate_row, coordinate_terms, counter
 use crate::unknowns::Unknown;
 use it_columns::{generator_row, opposite_row};
 use it_elemental::{generator_count, kind_at};
-use it_space::{Kind, Problem, Row, push_some};
+use it_problems::{Kind, Problem};
+use it_space::{Row, push_some};
 use std::alloc::{AllocError, Global};
 
 /// The weight of generator `index` as an unknown.

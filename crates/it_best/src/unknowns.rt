@@ -5,7 +5,8 @@ ghost use Rattle.it_columns.specs.Columns.{columns};
 ghost use Rattle.it_best.specs.Phases.{unknown_views};
 
 use it_columns::push_row;
-use it_space::{Kind, Row};
+use it_problems::Kind;
+use it_space::Row;
 use std::alloc::{AllocError, Global};
 
 /// An unknown number: its coefficient in each equation, by the number of the equation, and its kind: at least 0 (`Inequality`), or any

@@ -19,5 +19,7 @@ module _ (limits : Limits) (q : BodyView) (k : IsQuestion q) (few_rows : limits.
   pub own_steps : (rays : List (List ℤ)) (steps : Option (List StepView)) → AreMade (frame_in limits.rows s gone) limits.effort (first_rows kept) rays steps
       → AreMade (hull_frame limits.rows q) limits.effort (first_rows (kept_rates q (gone_rates q.verb))) rays steps
   own_steps rays steps a =
-      subst (λ (ks : List ℕ). AreMade (hull_frame limits.rows q) limits.effort (first_rows ks) rays steps) (same_kept limits.rows q k few_rows gone_are s gone kept space asked stay)
-      (subst (λ (f : Frame). AreMade f limits.effort (first_rows kept) rays steps) (same_frame limits.rows q k few_rows gone_are s gone kept space asked stay) a)
+      subst (λ (ks : List ℕ). AreMade (hull_frame limits.rows q) limits.effort (first_rows ks) rays steps)
+      (same_kept limits.rows q k few_rows gone_are s gone kept space asked stay)
+      (subst (λ (f : Frame). AreMade f limits.effort (first_rows kept) rays steps)
+      (same_frame limits.rows q k few_rows gone_are s gone kept space asked stay) a)

@@ -6,7 +6,7 @@ use Rattle.it_number.specs.Gcd.{gcd}
 use Rattle.it_space.specs.Divisors.{content, divided_terms}
 use Rattle.it_space.specs.declared.answers.Certificate.{Certificate}
 use Rattle.it_space.specs.declared.answers.Mark.{Mark}
-use Rattle.it_space.specs.declared.problems.Constraint.{Constraint}
+use Rattle.it_problems.specs.declared.problems.Constraint.{Constraint}
 use Rattle.it_space.specs.Answers.{certificate_view}
 use Rattle.it_space.specs.Rows.{Terms, point_of}
 use Rattle.it_space.proofs.Contents.{lowest_terms_is}
@@ -20,12 +20,15 @@ use Rattle.it_bounds.specs.LineSteps.{count_line, row_lines}
 
 -- ---- the common divisor
 
-pub divisor_more : (kept : List ℕ) (values : List ℤ) (i at common next : ℕ) → i < length kept → at ≡ get_or kept i 0 → next ≡ gcd common (unsigned_abs (point_of values at))
-    → content common (values_at (drop i kept) values) ≡ content 0 (values_at kept values) → content next (values_at (drop (i + 1) kept) values) ≡ content 0 (values_at kept values)
+pub divisor_more : (kept : List ℕ) (values : List ℤ) (i at common next : ℕ) → i < length kept → at ≡ get_or kept i 0
+    → next ≡ gcd common (unsigned_abs (point_of values at))
+    → content common (values_at (drop i kept) values) ≡ content 0 (values_at kept values)
+    → content next (values_at (drop (i + 1) kept) values) ≡ content 0 (values_at kept values)
 divisor_more kept values i at common next l is e now =
     ap (λ g. content g (values_at (drop (i + 1) kept) values)) e ∙ ap (λ cs. content common (values_at cs values)) (sym (drop_item kept i 0 l is)) ∙ now
 
-pub divisor_done : (kept : List ℕ) (values : List ℤ) (i common : ℕ) → length kept ≤ i → content common (values_at (drop i kept) values) ≡ content 0 (values_at kept values) → common ≡ content 0 (values_at kept values)
+pub divisor_done : (kept : List ℕ) (values : List ℤ) (i common : ℕ) → length kept ≤ i
+    → content common (values_at (drop i kept) values) ≡ content 0 (values_at kept values) → common ≡ content 0 (values_at kept values)
 divisor_done kept values i common l now = ap (λ cs. content common (values_at cs values)) (sym (drop_all i kept l)) ∙ now
 
 -- ---- the text of the rates
@@ -59,15 +62,20 @@ module _ (v : NamesView) (kept : List ℕ) (values : List ℤ) (common : ℕ) wh
 pub rays_done : (k : ℕ) (v w : NamesView) (kept own : List ℕ) (rays : List (List ℤ)) (i : ℕ) (out initial : List ℕ) → v ≡ w → kept ≡ own → length rays ≤ i
     → out ++ flat_map (ray_line k v kept) (drop i rays) ≡ initial ++ flat_map (ray_line k v kept) rays → out ≡ initial ++ flat_map (ray_line k w own) rays
 rays_done k v w kept own rays i out initial same is l now =
-    sym (append-nil out) ∙ ap (λ ps. out ++ flat_map (ray_line k v kept) ps) (sym (drop_all i rays l)) ∙ now ∙ ap₂ (λ (x : NamesView) (cs : List ℕ). initial ++ flat_map (ray_line k x cs) rays) same is
+    sym (append-nil out) ∙ ap (λ ps. out ++ flat_map (ray_line k v kept) ps) (sym (drop_all i rays l)) ∙ now
+    ∙ ap₂ (λ (x : NamesView) (cs : List ℕ). initial ++ flat_map (ray_line k x cs) rays) same is
 
 -- ---- the lines of a bound
 
-pub bounds_text : (q : BodyView) (constraints : List Constraint) (k : ℕ) (rows rs : List (Mark × Terms)) (proofs ws : List Certificate) (rays ps : List (List ℤ)) → rs ≡ rows → ws ≡ proofs → ps ≡ rays
+pub bounds_text : (q : BodyView) (constraints : List Constraint) (k : ℕ) (rows rs : List (Mark × Terms)) (proofs ws : List Certificate)
+    (rays ps : List (List ℤ)) → rs ≡ rows → ws ≡ proofs → ps ≡ rays
     → count_line k (length rs) (length ps) ++ row_lines q constraints k rs ws ++ flat_map (ray_line k (problem_names q) (told_rates q)) ps
     ≡ bounds_lines k (problem_names q) (told_rates q) (origins_of constraints) rows (map certificate_view proofs) rays
 unfolding bounds_lines
 bounds_text q constraints k rows rs proofs ws rays ps e f g =
-    ap (λ (xs : List (Mark × Terms)). count_line k (length xs) (length ps) ++ row_lines q constraints k xs ws ++ flat_map (ray_line k (problem_names q) (told_rates q)) ps) e
-    ∙ ap (λ (xs : List Certificate). count_line k (length rows) (length ps) ++ row_lines q constraints k rows xs ++ flat_map (ray_line k (problem_names q) (told_rates q)) ps) f
-    ∙ ap (λ (xs : List (List ℤ)). count_line k (length rows) (length xs) ++ row_lines q constraints k rows proofs ++ flat_map (ray_line k (problem_names q) (told_rates q)) xs) g
+    ap (λ (xs : List (Mark × Terms)). count_line k (length xs) (length ps) ++ row_lines q constraints k xs ws
+    ++ flat_map (ray_line k (problem_names q) (told_rates q)) ps) e
+    ∙ ap (λ (xs : List Certificate). count_line k (length rows) (length ps) ++ row_lines q constraints k rows xs
+    ++ flat_map (ray_line k (problem_names q) (told_rates q)) ps) f
+    ∙ ap (λ (xs : List (List ℤ)). count_line k (length rows) (length xs) ++ row_lines q constraints k rows proofs
+    ++ flat_map (ray_line k (problem_names q) (told_rates q)) xs) g

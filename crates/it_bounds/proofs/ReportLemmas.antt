@@ -19,7 +19,8 @@ module _ (limits : Limits) (q : QuestionView) (text line : List ℕ) (same : tex
   bounds_told Size steps is told = absurd is
   bounds_told Other steps is told = absurd is
 
-  pub misfit_told : (reply : ReplyView) (words : List ℕ) → words ≡ unreported limits (problem_names q.body) reply → line ≡ report_text (OfQuestion text) (misfit_members words) → AreToldSteps true limits q.body reply None
+  pub misfit_told : (reply : ReplyView) (words : List ℕ) → words ≡ unreported limits (problem_names q.body) reply
+      → line ≡ report_text (OfQuestion text) (misfit_members words) → AreToldSteps true limits q.body reply None
       → IsToldReport limits q reply (line ++ codes "\n")
   misfit_told reply words are is told = (None, told, ap (λ (t : List ℕ). t ++ codes "\n") (is ∙ ap₂ (λ (t ws : List ℕ). report_text (OfQuestion t) (misfit_members ws)) same are) ∙ without_steps reply)
     where

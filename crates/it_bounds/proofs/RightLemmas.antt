@@ -5,7 +5,7 @@ use Rattle.std.proofs.lemmas.List.Elements.{All-weaker}
 use Rattle.it_space.specs.declared.answers.Mark.{Mark}
 use Rattle.it_space.specs.declared.spaces.Space.{Space}
 use Rattle.it_space.specs.Answers.{CertificateView}
-use Rattle.it_space.specs.Problems.{ProblemView}
+use Rattle.it_problems.specs.Problems.{ProblemView}
 use Rattle.it_space.specs.Rows.{Terms, IsOver, point_of, value}
 use Rattle.it_space.specs.Spaces.{size_of}
 use Rattle.it_space.proofs.EveryLemmas.{every_of}
@@ -37,22 +37,30 @@ use Rattle.it_bounds.proofs.SearchLemmas.{bounds_over}
 module _ (q : BodyView) (p : ProblemView) (posed : IsProblemOf (under_all_lines q) p) where
   -- ---- the evidence
 
-  certified_by_text : (row : Terms) (w : CertificateView) → IsOver (size_of p.space) row → CertifiesRow p row w → CertifiesForm (under_all_lines q) (value row) w
+  certified_by_text : (row : Terms) (w : CertificateView) → IsOver (size_of p.space) row → CertifiesRow p row w
+      → CertifiesForm (under_all_lines q) (value row) w
   certified_by_text row w over c = at_question q p posed (λ s. Certifies (all_demands s.variables (question_demands (under_all_lines q))) (value row) w)
-      (by_forms (all_demands p.space.variables (question_demands (under_all_lines q))) (generators p) (generators_speak p.space (question_demands (under_all_lines q)) p.constraints posed.constraints.stated)
+      (by_forms (all_demands p.space.variables (question_demands (under_all_lines q))) (generators p)
+      (generators_speak p.space (question_demands (under_all_lines q)) p.constraints posed.constraints.stated)
       (size_of p.space + 1) (value row) (value row) (λ x e. refl) w c (rows_add_up p row w posed.limits over c))
 
-  all_by_text : (rows : List Terms) (ws : List CertificateView) → Every (IsOver (size_of p.space)) rows → AllZip (CertifiesRow p) rows ws → CertifyAll (under_all_lines q) (map value rows) ws
+  all_by_text : (rows : List Terms) (ws : List CertificateView) → Every (IsOver (size_of p.space)) rows → AllZip (CertifiesRow p) rows ws
+      → CertifyAll (under_all_lines q) (map value rows) ws
   all_by_text [] [] u z = tt
   all_by_text [] (w ∷ ws) u z = absurd z
   all_by_text (row ∷ rows) [] u z = absurd z
   all_by_text (row ∷ rows) (w ∷ ws) u z = (certified_by_text row w u.0 z.0, all_by_text rows ws u.1 z.1)
 
   ray_by_text : (values : List ℤ) → IsRay p values → IsTrueRay q values
-  ray_by_text values r = record { complete = at_question q p posed (λ s. length values ≡ size_of s) r.complete; lines_true = meets_true q p posed (point_of values) r.met }
+  ray_by_text values r = record {
+    complete = at_question q p posed (λ s. length values ≡ size_of s) r.complete;
+    lines_true = meets_true q p
+        posed (point_of values) r.met;
+  }
 
   module _ (limits : Limits) (gone : List ℕ) where
-    pub shows_bounds : (rows : List (Mark × Terms)) (ws : List CertificateView) (rays : List (List ℤ)) → All (IsOver (size_of p.space)) (region_rows rows) → AreMarkedBounds limits p gone rows ws rays → ShowsBounds q gone rows ws rays
+    pub shows_bounds : (rows : List (Mark × Terms)) (ws : List CertificateView) (rays : List (List ℤ))
+        → All (IsOver (size_of p.space)) (region_rows rows) → AreMarkedBounds limits p gone rows ws rays → ShowsBounds q gone rows ws rays
     shows_bounds rows ws rays over b = record {
       certified = all_by_text (region_rows rows) ws (every_of (IsOver (size_of p.space)) (region_rows rows) over) b.bounds.certified;
       attained = All-weaker (IsRay p) (IsTrueRay q) (λ values r. ray_by_text values r) rays b.bounds.attained;
@@ -67,14 +75,20 @@ module _ (q : BodyView) (p : ProblemView) (posed : IsProblemOf (under_all_lines 
       pub rates_within : All (λ r. r < p.space.rates) gone
       rates_within = subst (λ (s : Space). All (λ r. r < s.rates) gone) (sym posed.space) (eliminated_rates q gone k asked).within
 
-      rows_over : (rows : List Terms) (ws : List CertificateView) (rays : List (List ℤ)) → SearchEnds (search_without p gone limits) (outers.Bounds rows ws rays) → All (IsOver (size_of p.space)) rows
+      rows_over : (rows : List Terms) (ws : List CertificateView) (rays : List (List ℤ))
+          → SearchEnds (search_without p gone limits) (outers.Bounds rows ws rays) → All (IsOver (size_of p.space)) rows
       rows_over rows ws rays e = (bounds_over p gone limits posed.limits rates_within (eliminated_rates q gone k asked).some few_rows rows ws rays e).0
 
       asks : eliminated_by q.verb ≡ Some gone
       asks = ap eliminated_by asked
 
       due_by_text : (reply : ReplyView) → IsReplyByRows limits p gone reply → IsDue limits q (Some gone) reply
-      due_by_text (Bounded rows ws rays) b = (small_by_problem (under_all_lines q) p posed b.small, ends_by_text (outers.Bounds (region_rows rows) ws rays) b.ends, at_question q p posed (λ s. MarksEnd s limits.effort rows) b.marks)
+      due_by_text (Bounded rows ws rays) b = (
+        small_by_problem (under_all_lines q) p posed b.small,
+        ends_by_text
+            (outers.Bounds (region_rows rows) ws rays) b.ends,
+        at_question q p posed (λ s. MarksEnd s limits.effort rows) b.marks,
+      )
       due_by_text (Undecided cause) u = (small_by_problem (under_all_lines q) p posed u.0, ends_by_text (outers.Undecided cause) u.1)
       due_by_text Size large = λ h. large (small_problem (under_all_lines q) h p posed)
       due_by_text Other x = absurd x
@@ -86,7 +100,11 @@ module _ (q : BodyView) (p : ProblemView) (posed : IsProblemOf (under_all_lines 
       shows_by_text Other x = absurd x
 
       pub right_bound : (reply : ReplyView) → IsReplyByRows limits p gone reply → IsRightReply limits q reply
-      right_bound reply r = record { shows = shows_by_text reply r; due = subst (λ (a : Option (List ℕ)). IsDue limits q a reply) (sym asks) (due_by_text reply r) }
+      right_bound reply r = record {
+        shows = shows_by_text reply r;
+        due = subst (λ (a : Option (List ℕ)). IsDue limits q a reply) (sym asks)
+            (due_by_text reply r);
+      }
 
 -- a question that asks to eliminate no rates has the other reply
 pub other_is_right : (limits : Limits) (q : BodyView) (verb : VerbView) → q.verb ≡ verb → eliminated_by verb ≡ None → IsRightReply limits q Other

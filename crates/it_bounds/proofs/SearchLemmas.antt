@@ -7,7 +7,7 @@ use Rattle.it_space.specs.Answers.{CertificateView}
 use Rattle.it_space.specs.declared.answers.Cause.{Cause}
 use Rattle.it_space.specs.declared.answers.Cause.TheVariants.{Pivots, Width as WideStep, Scale}
 use Rattle.it_space.specs.declared.spaces.Space.{Space}
-use Rattle.it_space.specs.Problems.{IsProblem, ProblemView}
+use Rattle.it_problems.specs.Problems.{IsProblem, ProblemView}
 use Rattle.it_space.specs.Rows.{Terms, IsOver}
 use Rattle.it_space.specs.Spaces.{size_of}
 use Rattle.it_run.specs.Runs.{RunEndView}
@@ -34,7 +34,8 @@ use Rattle.it_bounds.specs.Lines.{IsOfRun}
 
 -- ---- hull by hull
 
-module _ (s : Search) (P : List Terms → Type 0) (first : P (first_rows s.kept)) (more_ray : (rows next : List Terms) (ray : List ℤ) → P rows → NextHull s rows ray (Hull next) → P next) where
+module _ (s : Search) (P : List Terms → Type 0) (first : P (first_rows s.kept))
+    (more_ray : (rows next : List Terms) (ray : List ℤ) → P rows → NextHull s rows ray (Hull next) → P next) where
   -- it holds of the rows of bounds, and of those among which a run has no end
   abbrev HoldsOf : OuterView → Type 0
   HoldsOf (Bounds rows ws rays) = P rows
@@ -52,7 +53,8 @@ module _ (s : Search) (P : List Terms → Type 0) (first : P (first_rows s.kept)
   of_pass zero rows rays end p (Left row cause, v, a) = by_same end (Undecided (Run row cause)) a (rows, p, v)
   of_pass (suc more) rows rays end p (Proved ws, v, a) = by_same end (Bounds rows ws rays) a p
   of_pass (suc more) rows rays end p (Left row cause, v, a) = by_same end (Undecided (Run row cause)) a (rows, p, v)
-  of_pass (suc more) rows rays end p (Refuted values, v, (Hull next, n, later)) = of_pass more next (rays ++ values ∷ []) end (more_ray rows next values p n) later
+  of_pass (suc more) rows rays end p (Refuted values, v, (Hull next, n, later)) = of_pass more next (rays ++ values ∷ []) end
+      (more_ray rows next values p n) later
   of_pass (suc more) rows rays end p (Refuted values, v, (TooMany, n, later)) = by_same end (Undecided Rows) later tt
   of_pass (suc more) rows rays end p (Refuted values, v, (TooWide, n, later)) = by_same end (Undecided Width) later tt
 
@@ -118,7 +120,8 @@ kept_few : (givens : ProblemView) (effort : Effort) (before rows : List Terms) (
     → Reduces givens effort before rows kept dropped → length (kept_rows kept) ≤ length rows
 kept_few givens effort before [] kept dropped (none, gone) = subst (λ (ks : List (Terms × NeedView)). length (kept_rows ks) ≤ 0) (sym none) (omega arith)
 kept_few givens effort before (row ∷ rows) kept dropped (o, k, d, ends, is, gone, rest) =
-    subst (λ (ks : List (Terms × NeedView)). length (kept_rows ks) ≤ suc (length rows)) (sym is) (by_outcome o (kept_few givens effort (before ++ kept_rows (kept_by row o)) rows k d rest))
+    subst (λ (ks : List (Terms × NeedView)). length (kept_rows ks) ≤ suc (length rows)) (sym is)
+    (by_outcome o (kept_few givens effort (before ++ kept_rows (kept_by row o)) rows k d rest))
   where
     by_outcome : (o : ProofView) → length (kept_rows k) ≤ length rows → length (kept_rows (kept_by row o ++ k)) ≤ suc (length rows)
     by_outcome (proofs.Yes w) l = omega (arith, l)
@@ -129,7 +132,8 @@ few_left : (gone : List ℕ) (rate count : ℕ) → length (rates_left gone rate
 few_left gone rate zero = omega arith
 few_left gone rate (suc count) = by_test (list_any (λ r. nat_eq r rate) gone) (few_left gone (rate + 1) count)
   where
-    by_test : (b : Bool) → length (rates_left gone (rate + 1) count) ≤ count → length (if b then rates_left gone (rate + 1) count else rate ∷ rates_left gone (rate + 1) count) ≤ suc count
+    by_test : (b : Bool) → length (rates_left gone (rate + 1) count) ≤ count
+        → length (if b then rates_left gone (rate + 1) count else rate ∷ rates_left gone (rate + 1) count) ≤ suc count
     by_test true l = omega (arith, l)
     by_test false l = omega (arith, l)
 
@@ -167,7 +171,8 @@ module _ (s : Search) (h : IsSearch s) (few_kept : length s.kept ≤ 16) where
   run_over row cause e =
       let f = of_search s AreFew first_few next_few (Undecided (Run row cause)) e in
       let first = f.2 in (
-        All-head (IsOver (size_of s.problem.space)) row first.after (all_back (IsOver (size_of s.problem.space)) first.before (row ∷ first.after) (subst (λ (rs : List Terms). All (IsOver (size_of s.problem.space)) rs) first.rows_are f.1.over)),
+        All-head (IsOver (size_of s.problem.space)) row first.after (all_back (IsOver (size_of s.problem.space)) first.before
+            (row ∷ first.after) (subst (λ (rs : List Terms). All (IsOver (size_of s.problem.space)) rs) first.rows_are f.1.over)),
         cause_of_run s.problem row s.limits.effort cause first.ends,
       )
 
@@ -175,10 +180,15 @@ module _ (s : Search) (h : IsSearch s) (few_kept : length s.kept ≤ 16) where
 few_rates_kept : (s : Space) (gone : List ℕ) → s.rates ≤ 16 → length (kept_coordinates s gone) ≤ 16
 few_rates_kept s gone l = let k = few_left gone 0 s.rates in let e = length-map (rates_left gone 0 s.rates) (λ r. 2 ^ s.variables + r) in omega (arith, k, e, l)
 
-module _ (p : ProblemView) (gone : List ℕ) (limits : Limits) (h : IsProblem p) (within : All (λ r. r < p.space.rates) gone) (some : 1 ≤ length gone) (few_rows : limits.rows ≤ 65535) where
-  pub bounds_over : (rows : List Terms) (ws : List CertificateView) (rays : List (List ℤ)) → SearchEnds (search_without p gone limits) (Bounds rows ws rays) → All (IsOver (size_of p.space)) rows × (length rows ≤ 65535)
+module _ (p : ProblemView) (gone : List ℕ) (limits : Limits) (h : IsProblem p) (within : All (λ r. r < p.space.rates) gone)
+    (some : 1 ≤ length gone) (few_rows : limits.rows ≤ 65535) where
+  pub bounds_over : (rows : List Terms) (ws : List CertificateView) (rays : List (List ℤ))
+      → SearchEnds (search_without p gone limits) (Bounds rows ws rays) → All (IsOver (size_of p.space)) rows × (length rows ≤ 65535)
   bounds_over rows ws rays e =
-      let f = bounds_few (search_without p gone limits) (without_is_search p gone limits h within some few_rows) (few_rates_kept p.space gone h.space.few_rates) rows ws rays e in (f.over, f.few)
+      let f = bounds_few (search_without p gone limits) (without_is_search p gone limits h within some few_rows)
+      (few_rates_kept p.space gone h.space.few_rates) rows ws rays e in (f.over, f.few)
 
-  pub cause_over : (row : Terms) (cause : Cause) → SearchEnds (search_without p gone limits) (Undecided (Run row cause)) → IsOver (size_of p.space) row × IsOfRun cause
-  cause_over row cause e = run_over (search_without p gone limits) (without_is_search p gone limits h within some few_rows) (few_rates_kept p.space gone h.space.few_rates) row cause e
+  pub cause_over : (row : Terms) (cause : Cause) → SearchEnds (search_without p gone limits) (Undecided (Run row cause))
+      → IsOver (size_of p.space) row × IsOfRun cause
+  cause_over row cause e = run_over (search_without p gone limits) (without_is_search p gone limits h within some few_rows)
+      (few_rates_kept p.space gone h.space.few_rates) row cause e

@@ -52,7 +52,8 @@ module _ (f : Frame) (effort : Effort) (defined : effort.quick ≡ false) where
   one_made_step ray (Rows rate) a b e d = e ∙ sym d
   one_made_step ray (Wide rate) a b e d = e ∙ sym d
 
-  one_going : (later : List Terms → Option (List StepView) → Type 0) → ((rows : List Terms) (x y : Option (List StepView)) → later rows x → later rows y → x ≡ y)
+  one_going : (later : List Terms → Option (List StepView) → Type 0) → ((rows : List Terms) (x y : Option (List StepView)) → later rows x
+      → later rows y → x ≡ y)
       → (made : Option MadeStep) (a b : Option (List StepView)) → GoesOnWith later made a → GoesOnWith later made b → a ≡ b
   one_going later one None a b e d = e ∙ sym d
   one_going later one (Some made) a b (x, l, e) (y, m, d) = e ∙ ap (λ rest. option_map (λ more. made.step ∷ more) rest) (one made.rows x y l m) ∙ sym d
@@ -80,4 +81,5 @@ told_of reply steps = record { reply = reply; steps = steps }
 pub one_right_told : OneRightTold
 one_right_told report limits q a b defined h k =
     let same : b.reply ≡ a.reply = one_right_reply limits q b.reply a.reply defined k.reply h.reply in
-    ap₂ told_of (sym same) (one_steps report limits q a.reply a.steps b.steps defined h.steps (subst (λ (r : ReplyView). AreToldSteps report limits q r b.steps) same k.steps))
+    ap₂ told_of (sym same) (one_steps report limits q a.reply a.steps b.steps defined h.steps
+    (subst (λ (r : ReplyView). AreToldSteps report limits q r b.steps) same k.steps))

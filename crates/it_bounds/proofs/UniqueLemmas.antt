@@ -23,10 +23,13 @@ use Rattle.it_bounds.proofs.MarkLemmas.{same_unsettled}
 use Rattle.it_bounds.proofs.SearchLemmas.{search_never_out_of_steps}
 
 -- marks of the same rows are the same
-one_marking : (s : Space) (effort : Effort) (xs ys : List (Mark × Terms)) → effort.quick ≡ false → region_rows xs ≡ region_rows ys → MarksEnd s effort xs → MarksEnd s effort ys → xs ≡ ys
+one_marking : (s : Space) (effort : Effort) (xs ys : List (Mark × Terms)) → effort.quick ≡ false → region_rows xs ≡ region_rows ys
+    → MarksEnd s effort xs → MarksEnd s effort ys → xs ≡ ys
 one_marking s effort xs ys defined same (kept, dropped, red, after) (others, gone, more, other_after) =
-    let one = one_reduction (constants s) effort [] (region_rows xs) kept others dropped gone defined red (subst (λ (rs : List Terms). Reduces (constants s) effort [] rs others gone) (sym same) more) in
-    by_dropped dropped after (subst (λ (ds : List (Terms × CertificateView)). MarkedAfter ys kept ds) (sym one.1) (subst (λ (ks : List (Terms × NeedView)). MarkedAfter ys ks gone) (sym one.0) other_after))
+    let one = one_reduction (constants s) effort [] (region_rows xs) kept others dropped gone defined red
+    (subst (λ (rs : List Terms). Reduces (constants s) effort [] rs others gone) (sym same) more) in
+    by_dropped dropped after (subst (λ (ds : List (Terms × CertificateView)). MarkedAfter ys kept ds) (sym one.1)
+    (subst (λ (ks : List (Terms × NeedView)). MarkedAfter ys ks gone) (sym one.0) other_after))
   where
     by_dropped : (ds : List (Terms × CertificateView)) → MarkedAfter xs kept ds → MarkedAfter ys kept ds → xs ≡ ys
     by_dropped [] a b = a ∙ sym b
@@ -37,10 +40,12 @@ module _ (limits : Limits) (q : BodyView) (gone : List ℕ) (defined : limits.ef
   one_end x y e f = one_search_end (search_without (problem_of (under_all_lines q)) gone limits) x y defined e f
 
   -- what bounds are of the same end
-  same_rows : (rows others : List Terms) (ws vs : List CertificateView) (ps qs : List (List ℤ)) → outers.Bounds rows ws ps ≡ outers.Bounds others vs qs → (rows ≡ others) × (ws ≡ vs) × (ps ≡ qs)
+  same_rows : (rows others : List Terms) (ws vs : List CertificateView) (ps qs : List (List ℤ))
+      → outers.Bounds rows ws ps ≡ outers.Bounds others vs qs → (rows ≡ others) × (ws ≡ vs) × (ps ≡ qs)
   same_rows rows others ws vs ps qs e = ((let k : rows ≡ others = cc in k), (let k : ws ≡ vs = cc in k), (let k : ps ≡ qs = cc in k))
 
-  not_undecided : (rows : List Terms) (ws : List CertificateView) (ps : List (List ℤ)) (cause : CauseView) → outers.Bounds rows ws ps ≡ outers.Undecided cause → ⊥
+  not_undecided : (rows : List Terms) (ws : List CertificateView) (ps : List (List ℤ)) (cause : CauseView)
+      → outers.Bounds rows ws ps ≡ outers.Undecided cause → ⊥
   not_undecided rows ws ps cause e = cc
 
   same_cause : (x y : CauseView) → outers.Undecided x ≡ outers.Undecided y → x ≡ y
@@ -50,7 +55,9 @@ module _ (limits : Limits) (q : BodyView) (gone : List ℕ) (defined : limits.ef
   one_bound (Bounded xs ws ps) (Bounded ys vs qs) (small, e, m) (other_small, f, n) =
       let same = same_rows (region_rows xs) (region_rows ys) ws vs ps qs (one_end _ _ e f) in
       let marked : xs ≡ ys = one_marking _ limits.effort xs ys defined same.0 m n in
-      subst (λ (z : List (Mark × Terms)). Bounded xs ws ps ≡ Bounded z vs qs) marked (subst (λ (z : List CertificateView). Bounded xs ws ps ≡ Bounded xs z qs) same.1 (ap (λ (z : List (List ℤ)). Bounded xs ws z) same.2))
+      subst (λ (z : List (Mark × Terms)). Bounded xs ws ps ≡ Bounded z vs qs) marked
+      (subst (λ (z : List CertificateView). Bounded xs ws ps ≡ Bounded xs z qs) same.1
+      (ap (λ (z : List (List ℤ)). Bounded xs ws z) same.2))
   one_bound (Bounded xs ws ps) (Undecided cause) (small, e, m) (other_small, f) = absurd (not_undecided (region_rows xs) ws ps cause (one_end _ _ e f))
   one_bound (Bounded xs ws ps) Size (small, e, m) large = absurd (large small)
   one_bound (Bounded xs ws ps) Other a b = absurd b
@@ -70,7 +77,8 @@ none_asked limits q (Undecided cause) d = absurd d
 none_asked limits q Size d = absurd d
 none_asked limits q Other d = refl
 
-one_due : (limits : Limits) (q : BodyView) (asked : Option (List ℕ)) (a b : ReplyView) → limits.effort.quick ≡ false → IsDue limits q asked a → IsDue limits q asked b → a ≡ b
+one_due : (limits : Limits) (q : BodyView) (asked : Option (List ℕ)) (a b : ReplyView) → limits.effort.quick ≡ false
+    → IsDue limits q asked a → IsDue limits q asked b → a ≡ b
 one_due limits q (Some gone) a b defined d e = one_bound limits q gone defined a b d e
 one_due limits q None a b defined d e = none_asked limits q a d ∙ sym (none_asked limits q b e)
 

@@ -3,7 +3,7 @@ use Rattle.std.specs.Prelude.{ℕ, List, ◌<◌, ◌+◌, ◌++◌, All, length
 use Rattle.it_space.specs.Answers.{certificate_view}
 use Rattle.it_space.specs.declared.answers.Certificate.{Certificate}
 use Rattle.it_space.specs.declared.answers.Mark.{Mark}
-use Rattle.it_space.specs.declared.problems.Constraint.{Constraint}
+use Rattle.it_problems.specs.declared.problems.Constraint.{Constraint}
 use Rattle.it_space.specs.Rows.{Terms}
 use Rattle.it_polymatroid.specs.Elementals.{elementals}
 use Rattle.it_question.specs.Questions.{BodyView}

@@ -5,8 +5,8 @@ use Rattle.it_space.specs.Answers.{CertificateView, mark_word}
 use Rattle.it_space.specs.declared.answers.Cause.{Cause}
 use Rattle.it_space.specs.declared.answers.Cause.TheVariants.{Pivots, Width as WideStep, Scale, Rows as RowsOfRate, WideRate}
 use Rattle.it_space.specs.declared.answers.Mark.{Mark}
-use Rattle.it_space.specs.declared.problems.Kind.TheVariants.{Inequality}
-use Rattle.it_space.specs.declared.problems.Origin.{Origin}
+use Rattle.it_problems.specs.declared.problems.Kind.TheVariants.{Inequality}
+use Rattle.it_problems.specs.declared.problems.Origin.{Origin}
 use Rattle.it_space.specs.Divisors.{lowest_terms}
 use Rattle.it_space.specs.Rows.{Terms, point_of}
 use Rattle.it_space.specs.Spaces.{size_of}

@@ -1,6 +1,6 @@
 //! The lines of mode `outer`.
 ghost use Rattle.std.specs.Prelude.{◌≡◌, ◌≤◌, ◌++◌, All, IfOk, OnOk, codes, decimal, flat_map, length};
-ghost use Rattle.it_space.specs.Spaces.{size_of};
+ghost use Rattle.it_space.specs.Spaces.{size_of, most_variables, most_rates};
 ghost use Rattle.it_demand.specs.QuestionSpaces.{space_of};
 ghost use Rattle.it_syntax.specs.NamesViews.{NamesView};
 ghost use Rattle.it_question.specs.Limits.{IsQuestion};
@@ -20,9 +20,10 @@ use it_canon::problem_names;
 use it_hull::kept_coordinates;
 use it_outer::{Limits, OuterCause};
 use it_print::{row_text, sum_text, values_text, write_number, write_signed};
+use it_problems::{Constraint, Kind};
 use it_question::types::Question;
 use it_rates::gone_rates;
-use it_space::{Cause, Certificate, Constraint, Kind, Mark, Point, Row};
+use it_space::{Cause, Certificate, Mark, Point, Row};
 use it_syntax::Names;
 use std::alloc::{AllocError, Global};
 
@@ -202,8 +203,8 @@ fn write_ray(
     kept: &[u32],
     ray: &Point,
 ) -> Result<(), AllocError>
-    requires variables { length names.now.variables ≤ 10 }
-    requires rates { length names.now.rates ≤ 16 }
+    requires variables { length names.now.variables ≤ most_variables }
+    requires rates { length names.now.rates ≤ most_rates }
     requires kept { ArePlaces (size_of (space_of names.now)) kept.now }
     requires ray { length ray.now ≡ size_of (space_of names.now) }
     ensures { OnOk result (out.new.items ≡ out.old.items ++ ray_line k names.now kept.now ray.now) }

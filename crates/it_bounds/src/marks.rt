@@ -1,15 +1,16 @@
 //! The marks of rows: whether a row follows from the others.
 ghost use Rattle.std.specs.Prelude.{◌≡◌, ◌≤◌, All, IfOk, length, map};
 ghost use Rattle.it_space.specs.declared.answers.Mark.TheVariants.{Unsettled};
-ghost use Rattle.it_space.specs.Rows.{IsOver};
+ghost use Rattle.it_space.specs.Rows.{IsOver, most_system_rows};
 ghost use Rattle.it_space.specs.Spaces.{IsSpace, size_of};
 ghost use Rattle.it_bounds.specs.RowReplies.{AreMarked};
 
 use it_answer::marked_rows;
 use it_hull::constants;
+use it_problems::System;
 use it_prove::Effort;
 use it_redundant::reduce;
-use it_space::{Mark, Row, Space, System};
+use it_space::{Mark, Row, Space};
 use std::alloc::{AllocError, Global};
 
 /// The rows in order, each with its mark before it, by a reduction where all variables are constant, so that rates alone count. If the
@@ -22,7 +23,7 @@ pub fn with_marks(
 ) -> Result<Vec<(Mark, Row)>, AllocError>
     requires space { IsSpace space }
     requires rows { All (IsOver (size_of space)) rows.now }
-    requires few { length rows.now ≤ 65535 }
+    requires few { length rows.now ≤ most_system_rows }
     ensures { IfOk result (λ v. AreMarked space effort rows.now v.items) }
 {
     let constants = constants(alloc, space)?;

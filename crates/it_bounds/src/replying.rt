@@ -1,6 +1,6 @@
 //! The replies to questions.
 ghost use Rattle.std.specs.Prelude.{◌≡◌, ◌<◌, ◌≤◌, All, IfOk, length};
-ghost use Rattle.it_space.specs.Rows.{IsOver};
+ghost use Rattle.it_space.specs.Rows.{IsOver, most_system_rows};
 ghost use Rattle.it_space.specs.Spaces.{IsSpace, size_of};
 ghost use Rattle.it_question.specs.Limits.{IsQuestion};
 ghost use Rattle.it_question.specs.Questions.{question_body};
@@ -18,11 +18,12 @@ use crate::marks::with_marks;
 use crate::types::{RepliedProblem, Reply};
 use it_closure::size;
 use it_outer::{Bounds, Limits, Outer, outer};
+use it_problems::Problem;
 use it_prove::Effort;
 use it_question::readers::MOST_ENTRIES;
 use it_question::types::{Question, Verb};
 use it_rates::problem_of_lines;
-use it_space::{Problem, Space};
+use it_space::Space;
 use std::alloc::{AllocError, Global};
 
 /// The right reply to a question, and the problem that all its lines pose, `row` lines too: to one that asks to eliminate rates its outer
@@ -34,7 +35,7 @@ pub fn reply(
     limits: Limits,
 ) -> Result<RepliedProblem, AllocError>
     requires question { IsQuestion (question_body question.now) }
-    requires few_rows { limits.rows ≤ 65535 }
+    requires few_rows { limits.rows ≤ most_system_rows }
     ensures space { IfOk result (λ a. a.problem.space ≡ space_of (question_body question.now).names) }
     ensures problem { IfOk result (λ a. AreStated a.problem.space (question_origins (under_all_lines (question_body question.now))) (question_demands (under_all_lines (question_body question.now))) a.problem.constraints) }
     ensures right { IfOk result (λ a. IsRightReply limits (question_body question.now) (reply_view a.reply)) }
@@ -55,7 +56,7 @@ fn reply_under(
 ) -> Result<Reply, AllocError>
     requires question { IsQuestion (question_body question.now) }
     requires problem { IsProblemOf (under_all_lines (question_body question.now)) problem.now }
-    requires few_rows { limits.rows ≤ 65535 }
+    requires few_rows { limits.rows ≤ most_system_rows }
     ensures right { IfOk result (λ r. IsRightReply limits (question_body question.now) (reply_view r)) }
     ensures printable { IfOk result (IsPrintable (question_body question.now) (length problem.now.constraints)) }
     ensures told { IfOk result (IsToldReply (question_body question.now)) }
@@ -74,7 +75,7 @@ fn reply_under(
 fn bound(alloc: Global, problem: &Problem, gone: &[u8], limits: Limits) -> Result<Reply, AllocError>
     requires gone { All (λ r. r < problem.now.space.rates) gone.now }
     requires some { 1 ≤ length gone.now }
-    requires few_rows { limits.rows ≤ 65535 }
+    requires few_rows { limits.rows ≤ most_system_rows }
     ensures { IfOk result (λ r. IsReplyByRows limits problem.now gone.now (reply_view r)) }
 {
     problem.facts();
@@ -93,7 +94,7 @@ fn bound(alloc: Global, problem: &Problem, gone: &[u8], limits: Limits) -> Resul
 fn marked(alloc: Global, space: Space, bounds: Bounds, effort: Effort) -> Result<Reply, AllocError>
     requires space { IsSpace space }
     requires rows { All (IsOver (size_of space)) bounds.hull.rows.items }
-    requires few { length bounds.hull.rows.items ≤ 65535 }
+    requires few { length bounds.hull.rows.items ≤ most_system_rows }
     ensures { IfOk result (λ r. TellsBounds space effort bounds (reply_view r)) }
 {
     let rows = with_marks(alloc, space, bounds.hull.rows.as_slice(), effort)?;

@@ -14,6 +14,7 @@ ghost use Rattle.it_bounds.specs.HullSteps.{AreMade};
 ghost use Rattle.it_bounds.specs.Replies.{reply_view};
 ghost use Rattle.it_bounds.specs.Reports.{AreToldSteps, IsToldReply, IsToldReport, unreported};
 ghost use Rattle.it_bounds.specs.ReportViews.{IsBounded, IsBoundsReport, IsToldCause};
+ghost use Rattle.it_space.specs.Rows.{most_system_rows};
 
 use crate::lines::write_cause;
 use crate::steps::hull_steps;
@@ -39,7 +40,7 @@ pub fn reply_report(
     reply: &Reply,
 ) -> Result<Vec<u8>, AllocError>
     requires question { IsQuestion (question_body question.now) }
-    requires few_rows { limits.rows ≤ 65535 }
+    requires few_rows { limits.rows ≤ most_system_rows }
     requires reply { IsToldReply (question_body question.now) reply.now }
     ensures { IfOk result (λ line. IsToldReport limits (question_view question.now) (reply_view reply.now) line.items) }
 {
@@ -56,7 +57,7 @@ fn told_line(
     reply: &Reply,
 ) -> Result<Vec<u8>, AllocError>
     requires question { IsQuestion (question_body question.now) }
-    requires few_rows { limits.rows ≤ 65535 }
+    requires few_rows { limits.rows ≤ most_system_rows }
     requires reply { IsToldReply (question_body question.now) reply.now }
     ensures { IfOk result (λ line. IsToldReport limits (question_view question.now) (reply_view reply.now) (line.items ++ codes "\n")) }
 {
@@ -83,7 +84,7 @@ fn told_steps(
     reply: &Reply,
 ) -> Result<Option<Vec<Step>>, AllocError>
     requires question { IsQuestion (question_body question.now) }
-    requires few_rows { limits.rows ≤ 65535 }
+    requires few_rows { limits.rows ≤ most_system_rows }
     requires reply { IsToldReply (question_body question.now) reply.now }
     ensures { IfOk result (λ s. AreToldSteps true limits (question_body question.now) (reply_view reply.now) (option_map (λ v. step_views v.items) s)) }
 {
@@ -106,7 +107,7 @@ fn steps_of(
     rays: &[Point],
 ) -> Result<Option<Vec<Step>>, AllocError>
     requires question { IsQuestion (question_body question.now) }
-    requires few_rows { limits.rows ≤ 65535 }
+    requires few_rows { limits.rows ≤ most_system_rows }
     requires asked { 1 ≤ length (gone_rates (question_body question.now).verb) }
     requires rays { All (λ ray. length ray ≡ size_of (space_of (question_body question.now).names)) rays.now }
     ensures { IfOk result (λ s. AreMade (hull_frame limits.rows (question_body question.now)) limits.effort (first_rows (kept_rates (question_body question.now) (gone_rates (question_body question.now).verb))) rays.now (option_map (λ v. step_views v.items) s)) }

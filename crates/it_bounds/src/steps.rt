@@ -11,12 +11,14 @@ ghost use Rattle.it_spans.specs.Spans.{step_views};
 ghost use Rattle.it_spans.specs.Theorems.{AreKept, IsFrame};
 ghost use Rattle.it_bounds.specs.HullSteps.{AreMade, numbered_drops};
 ghost use Rattle.it_bounds.specs.StepViews.{IsMadeStep, IsReducedStep, goes_first};
+ghost use Rattle.it_space.specs.Rows.{most_system_rows};
 
 use it_eliminate::Eliminated;
 use it_hull::{constants, first_rows, with_ray};
+use it_problems::{Problem, System};
 use it_prove::Effort;
 use it_redundant::{kept_system, reduce};
-use it_space::{Certificate, Point, Problem, Row, Space, System};
+use it_space::{Certificate, Point, Row, Space};
 use it_spans::{Frame, RowDrop, Step};
 use std::alloc::{AllocError, Global};
 
@@ -74,7 +76,7 @@ fn reduced_step(
     ray: &Point,
 ) -> Result<Made, AllocError>
     requires left { IsSystemUnder givens.now left.now }
-    requires few_rows { length left.now.rows.items ≤ 65535 }
+    requires few_rows { length left.now.rows.items ≤ most_system_rows }
     requires ray { length ray.now ≡ size_of left.now.space }
     ensures { IfOk result (IsReducedStep givens.now effort left.now.rows.items ray.now) }
 {

@@ -1,6 +1,7 @@
 //! Replies with their problems.
 use it_outer::OuterCause;
-use it_space::{Certificate, Mark, Point, Problem, Row};
+use it_problems::Problem;
+use it_space::{Certificate, Mark, Point, Row};
 
 /// A reply to a question in mode `outer`.
 #[derive(Drop)]

@@ -1,8 +1,8 @@
 -- The problem that a question poses is the one that states its demands; and rows are as many as their forms.
 use Rattle.std.proofs.Common.{◌≡◌, suc, List, [], ◌∷◌, map, zip, length, refl, ap, ap₂, subst}
-use Rattle.it_space.specs.declared.problems.Constraint.{Constraint}
+use Rattle.it_problems.specs.declared.problems.Constraint.{Constraint}
 use Rattle.it_space.specs.declared.spaces.Space.{Space}
-use Rattle.it_space.specs.Problems.{ProblemView}
+use Rattle.it_problems.specs.Problems.{ProblemView}
 use Rattle.it_space.specs.Rows.{Terms}
 use Rattle.it_polymatroid.specs.Certificates.{Form}
 use Rattle.it_demand.specs.Origins.{AreStated}
@@ -19,7 +19,8 @@ one_problem q p k =
     let s = space_of (problem_names q) in
     let ds = question_demands q in
     let places = question_origins q in
-    let same : p.constraints ≡ map (constraint_of s) (zip places ds) = stated_are s places ds p.constraints (subst (λ (t : Space). AreStated t places ds p.constraints) k.space k.constraints) in
+    let same : p.constraints ≡ map (constraint_of s) (zip places ds) = stated_are s places ds p.constraints
+    (subst (λ (t : Space). AreStated t places ds p.constraints) k.space k.constraints) in
     ap₂ (λ (t : Space) (cs : List Constraint). let r : ProblemView = record { space = t; constraints = cs } in r) k.space same
 
 -- there is one for each form

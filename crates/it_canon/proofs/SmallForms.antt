@@ -71,7 +71,8 @@ form_same size a b f g l e x = record { terms = x.terms; same = λ p. x.same p �
 value_linear : (size : ℕ) (ts : Terms) → Every (λ (t : ℕ × ℤ). t.0 ≤ size) ts → IsLinear (size + 1) (value ts)
 value_linear size [] e = linear_zero (size + 1)
 value_linear size (t ∷ ts) e =
-    linear-add (size + 1) (λ p. t.1 *ℤ p t.0) (value ts) (linear-scale (size + 1) t.1 (λ p. p t.0) (linear_at (size + 1) t.0 (omega (arith, e.0)))) (value_linear size ts e.1)
+    linear-add (size + 1) (λ p. t.1 *ℤ p t.0) (value ts) (linear-scale (size + 1) t.1 (λ p. p t.0)
+    (linear_at (size + 1) t.0 (omega (arith, e.0)))) (value_linear size ts e.1)
 
 -- a coefficient is no greater than all together
 value-small : (ts : Terms) (c : ℕ) → unsigned_abs (value ts (one_at c)) ≤ row_mass ts
@@ -122,7 +123,8 @@ module _ (s : Space) (bound : ℕ) (within : bound < 2 ^ 127) (form : Form) (x :
       ∙ ap (λ (n : ℕ). dot n coefficient_at p) e ∙ sym ((value_linear (size_of s) x.terms x.coordinates).sum p z) ∙ x.same p
 
   pub row_coordinates : IsOver (size_of s) row
-  row_coordinates = let e : length coefficients - 1 ≡ size_of s = omega (arith, length-map-span coefficient_at 0 (suc (size_of s))) in subst (λ (n : ℕ). IsOver n row) e (row_up_to coefficients row refl)
+  row_coordinates = let e : length coefficients - 1 ≡ size_of s = omega (arith, length-map-span coefficient_at 0 (suc (size_of s)))
+      in subst (λ (n : ℕ). IsOver n row) e (row_up_to coefficients row refl)
 
   pub row_is_canonical : IsCanonical row
   row_is_canonical = row_canonical coefficients row refl (omega (arith, all_small, within))
@@ -147,7 +149,8 @@ module _ (s : Space) (k : IsSpace s) (form : Form) (x : IsFormUpTo (size_of s) (
       let small = all_small s (2 ^ 106) within form x in
       record {
         few = omega (arith, fit.few, length-map-span (coefficient_at s (2 ^ 106) within form x) 0 (suc (size_of s)), size_few);
-        each = All-weaker (λ (t : ℕ × ℤ). unsigned_abs t.1 ≤ largest coefficients) (λ (t : ℕ × ℤ). unsigned_abs t.1 ≤ 2 ^ 106) (λ t h. omega (arith, h, small)) own_row fit.each;
+        each = All-weaker (λ (t : ℕ × ℤ). unsigned_abs t.1 ≤ largest coefficients) (λ (t : ℕ × ℤ). unsigned_abs t.1 ≤ 2 ^ 106)
+            (λ t h. omega (arith, h, small)) own_row fit.each;
       }
 
   -- the form has its canonical row

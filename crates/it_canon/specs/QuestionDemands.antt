@@ -1,12 +1,12 @@
 -- The demands of a question in generator order, the problem that it poses, and the terms of forms over its coordinates.
 use Rattle.std.specs.Prelude.{◌≡◌, List}
-use Rattle.it_space.specs.Problems.{ProblemView, IsProblem}
+use Rattle.it_problems.specs.Problems.{ProblemView, IsProblem}
 use Rattle.it_space.specs.Rows.{Terms}
 use Rattle.it_space.specs.Spaces.{size_of}
 use Rattle.it_polymatroid.specs.Certificates.{Form}
 use Rattle.it_demand.specs.QuestionSpaces.{space_of}
 use Rattle.it_demand.specs.RowsOfForms.{terms_of_form}
-use Rattle.it_space.specs.declared.problems.Origin.{Origin}
+use Rattle.it_problems.specs.declared.problems.Origin.{Origin}
 use Rattle.it_question.specs.LineOrigins.{line_origins}
 use Rattle.it_question.specs.LineDemands.{line_demands}
 use Rattle.it_question.specs.ProblemLines.{problem_names, problem_lines}

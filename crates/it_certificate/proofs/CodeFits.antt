@@ -69,8 +69,12 @@ code_made field symbols variables times = record { code = record { field = field
 code_fits : (n : ℕ) (d : Data) (c : ReportedCodeView) → code_in n d ≡ Some c → HasCodeShape n c
 unfolding code_in
 code_fits n d c is =
-    let f = and_then_some (field_at d) (λ field. option_and_then (λ symbols. option_and_then (λ variables. option_map (λ times. code_made field symbols variables times) (times_at d)) (variables_at (size field) symbols n d)) (symbols_at field d)) c is in
-    let k = and_then_some (symbols_at f.0 d) (λ symbols. option_and_then (λ variables. option_map (λ times. code_made f.0 symbols variables times) (times_at d)) (variables_at (size f.0) symbols n d)) c f.1.1 in
+    let f = and_then_some (field_at d) (λ field. option_and_then (λ symbols. option_and_then
+    (λ variables. option_map (λ times. code_made field symbols variables times) (times_at d)) (variables_at (size field) symbols n d))
+    (symbols_at field d)) c is in
+    let k = and_then_some (symbols_at f.0 d) (λ symbols. option_and_then
+    (λ variables. option_map (λ times. code_made f.0 symbols variables times) (times_at d)) (variables_at (size f.0) symbols n d)) c
+    f.1.1 in
     let v = and_then_some (variables_at (size f.0) k.0 n d) (λ variables. option_map (λ times. code_made f.0 k.0 variables times) (times_at d)) c k.1.1 in
     let t = map_some (times_at d) (λ times. code_made f.0 k.0 v.0 times) c v.1.1 in
     subst (HasCodeShape n) {x = code_made f.0 k.0 v.0 t.0} t.1.1 (record {
@@ -90,7 +94,8 @@ names_fit v d c is =
 no_is : (v : NamesView) (r : RelationView) (d : Data) (a : AnswerView) → no_at (size_of (space_of v)) r.sign d ≡ Ok a → IsNo a
 unfolding no_at
 no_is v r d a is =
-    let h = then_ok (ok_or (point_at (size_of (space_of v)) d) keys.Point) (λ values. and_then (ok_or (back_at (is_equation (kind_of r.sign)) d) keys.Side) (λ back. Ok (No back values))) a is in
+    let h = then_ok (ok_or (point_at (size_of (space_of v)) d) keys.Point)
+    (λ values. and_then (ok_or (back_at (is_equation (kind_of r.sign)) d) keys.Side) (λ back. Ok (No back values))) a is in
     let k = then_ok (ok_or (back_at (is_equation (kind_of r.sign)) d) keys.Side) (λ back. Ok (No back h.0)) a h.1.1 in
     subst IsNo (ok_same (No k.0 h.0) a k.1.1) tt
 
@@ -99,7 +104,8 @@ answers_no v (Prove r) d a is = no_is v r d a is
 answers_no v (Eliminate rates) d a is = absurd (cc)
 answers_no v (Contain first second tries) d a is = absurd (cc)
 
-pub coded_fits : (q : QuestionView) (d : Data) (a : AnswerView) (c : ReportedCodeView) → verb_answer q.body.names q.body.verb kinds.No d ≡ Ok a → names_code q.body.names d ≡ Ok c → HasCodedShape q.body a c
+pub coded_fits : (q : QuestionView) (d : Data) (a : AnswerView) (c : ReportedCodeView)
+    → verb_answer q.body.names q.body.verb kinds.No d ≡ Ok a → names_code q.body.names d ≡ Ok c → HasCodedShape q.body a c
 coded_fits q d a c answered coded = record {
   answered = answer_fits q kinds.No d a answered;
   no = answers_no q.body.names q.body.verb d a answered;

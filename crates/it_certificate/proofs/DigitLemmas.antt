@@ -12,7 +12,8 @@ pub too_large : (n : ℕ) (ds : List ℕ) → 2 ^ 127 ≤ n → option_and_then 
 too_large n [] le = not_within n le
 too_large n (d ∷ ds) le = by_test (is_ascii_digit d) (too_large (10 * n + (d - 48)) ds (omega arith))
   where
-    by_test : (b : Bool) → option_and_then (below (2 ^ 127)) (value_from (10 * n + (d - 48)) ds) ≡ None → option_and_then (below (2 ^ 127)) (cond b (value_from (10 * n + (d - 48)) ds) None) ≡ None
+    by_test : (b : Bool) → option_and_then (below (2 ^ 127)) (value_from (10 * n + (d - 48)) ds) ≡ None
+        → option_and_then (below (2 ^ 127)) (cond b (value_from (10 * n + (d - 48)) ds) None) ≡ None
     by_test true none = none
     by_test false none = refl
 

@@ -50,7 +50,8 @@ both_fit [] w all is = absurd (cc)
 both_fit (x ∷ []) w all is = absurd (cc)
 both_fit (x ∷ y ∷ []) w all is =
     let e : (x, y) ≡ w = cc in
-    subst (λ (p : CertificateView × CertificateView). IsNumbered p.0 × IsNumbered p.1) e (All-head IsNumbered x (y ∷ []) all, All-head IsNumbered y [] (All-tail IsNumbered x (y ∷ []) all))
+    subst (λ (p : CertificateView × CertificateView). IsNumbered p.0 × IsNumbered p.1) e
+    (All-head IsNumbered x (y ∷ []) all, All-head IsNumbered y [] (All-tail IsNumbered x (y ∷ []) all))
 both_fit (x ∷ y ∷ z ∷ ws) w all is = absurd (cc)
 
 proof_fits : (d : Data) (w : CertificateView) → option_and_then one_of (certificates_at d) ≡ Some w → IsNumbered w
@@ -79,8 +80,10 @@ cause_fits words.Size steps phase h k = tt
 least_fits : (size : ℕ) (d : Data) (best : BestView) → least_at size d ≡ Ok best → HasBestShape size best
 unfolding least_at
 least_fits size d best is =
-    let f = then_ok (ok_or (factor_at d) keys.Factor) (λ factor. and_then (ok_or (option_and_then one_of (certificates_at d)) keys.Proofs) (λ proof. and_then (ok_or (point_at size d) keys.Point) (λ values. Ok (Least factor.0 factor.1 proof values)))) best is in
-    let w = then_ok (ok_or (option_and_then one_of (certificates_at d)) keys.Proofs) (λ proof. and_then (ok_or (point_at size d) keys.Point) (λ values. Ok (Least f.0.0 f.0.1 proof values))) best f.1.1 in
+    let f = then_ok (ok_or (factor_at d) keys.Factor) (λ factor. and_then (ok_or (option_and_then one_of (certificates_at d)) keys.Proofs)
+    (λ proof. and_then (ok_or (point_at size d) keys.Point) (λ values. Ok (Least factor.0 factor.1 proof values)))) best is in
+    let w = then_ok (ok_or (option_and_then one_of (certificates_at d)) keys.Proofs)
+    (λ proof. and_then (ok_or (point_at size d) keys.Point) (λ values. Ok (Least f.0.0 f.0.1 proof values))) best f.1.1 in
     let v = then_ok (ok_or (point_at size d) keys.Point) (λ values. Ok (Least f.0.0 f.0.1 w.0 values)) best w.1.1 in
     subst (HasBestShape size) {x = Least f.0.0 f.0.1 w.0 v.0} (ok_same (Least f.0.0 f.0.1 w.0 v.0) best v.1.1) (
       factor_fits d f.0 (key_ok keys.Factor (factor_at d) f.0 f.1.0),
@@ -97,17 +100,20 @@ never_fits size d best is =
 unbounded_fits : (size : ℕ) (d : Data) (best : BestView) → unbounded_at d ≡ Ok best → HasBestShape size best
 unfolding unbounded_at
 unbounded_fits size d best is =
-    let f = then_ok (ok_or (factor_at d) keys.Factor) (λ factor. and_then (ok_or (option_and_then both_of (certificates_at d)) keys.Proofs) (λ proofs. Ok (Unbounded factor.0 factor.1 proofs.0 proofs.1))) best is in
+    let f = then_ok (ok_or (factor_at d) keys.Factor) (λ factor. and_then (ok_or (option_and_then both_of (certificates_at d)) keys.Proofs)
+    (λ proofs. Ok (Unbounded factor.0 factor.1 proofs.0 proofs.1))) best is in
     let w = then_ok (ok_or (option_and_then both_of (certificates_at d)) keys.Proofs) (λ proofs. Ok (Unbounded f.0.0 f.0.1 proofs.0 proofs.1)) best f.1.1 in
     let both = proofs_fit d w.0 (key_ok keys.Proofs (option_and_then both_of (certificates_at d)) w.0 w.1.0) in
-    subst (HasBestShape size) {x = Unbounded f.0.0 f.0.1 w.0.0 w.0.1} (ok_same (Unbounded f.0.0 f.0.1 w.0.0 w.0.1) best w.1.1) (factor_fits d f.0 (key_ok keys.Factor (factor_at d) f.0 f.1.0), both.0, both.1)
+    subst (HasBestShape size) {x = Unbounded f.0.0 f.0.1 w.0.0 w.0.1} (ok_same (Unbounded f.0.0 f.0.1 w.0.0 w.0.1) best w.1.1)
+    (factor_fits d f.0 (key_ok keys.Factor (factor_at d) f.0 f.1.0), both.0, both.1)
 
 undecided_fits : (size : ℕ) (d : Data) (best : BestView) → undecided_factor_at d ≡ Ok best → HasBestShape size best
 unfolding undecided_factor_at
 undecided_fits size d best is =
     let cause = option_and_then factor_cause_of (text_of (get (codes "cause") d)) in
     let c = then_ok (ok_or (option_and_then factor_cause_of (text_of (get (codes "cause") d))) keys.Cause) (λ cause. and_then (ok_or (steps_at d) keys.At) (λ steps. and_then (ok_or (phase_at d) keys.Phase) (λ phase. Ok (Undecided (cause_with cause steps phase))))) best is in
-    let s = then_ok (ok_or (steps_at d) keys.At) (λ steps. and_then (ok_or (phase_at d) keys.Phase) (λ phase. Ok (Undecided (cause_with c.0 steps phase)))) best c.1.1 in
+    let s = then_ok (ok_or (steps_at d) keys.At) (λ steps. and_then (ok_or (phase_at d) keys.Phase)
+    (λ phase. Ok (Undecided (cause_with c.0 steps phase)))) best c.1.1 in
     let p = then_ok (ok_or (phase_at d) keys.Phase) (λ phase. Ok (Undecided (cause_with c.0 s.0 phase))) best s.1.1 in
     subst (HasBestShape size) {x = Undecided (cause_with c.0 s.0 p.0)} (ok_same (Undecided (cause_with c.0 s.0 p.0)) best p.1.1)
     (cause_fits c.0 s.0 p.0 (steps_fit d s.0 (key_ok keys.At (steps_at d) s.0 s.1.0)) (phase_fits d p.0 (key_ok keys.Phase (phase_at d) p.0 p.1.0)))
@@ -118,9 +124,11 @@ by_kind size kinds.Never d best is = never_fits size d best is
 by_kind size kinds.Unbounded d best is = unbounded_fits size d best is
 by_kind size kinds.Undecided d best is = undecided_fits size d best is
 
-pub best_fits : (q : QuestionView) (kind : FactorKind) (d : Data) (best : BestView) → verb_best q.body.names q.body.verb kind d ≡ Ok best → HasFactorShape q.body best
+pub best_fits : (q : QuestionView) (kind : FactorKind) (d : Data) (best : BestView) → verb_best q.body.names q.body.verb kind d ≡ Ok best
+    → HasFactorShape q.body best
 best_fits q kind d best is = by_test (is_some (asked_by q.body.verb)) refl is
   where
-    by_test : (b : Bool) → is_some (asked_by q.body.verb) ≡ b → cond b (best_at (size_of (space_of q.body.names)) kind d) (Err keys.Answer) ≡ Ok best → HasFactorShape q.body best
+    by_test : (b : Bool) → is_some (asked_by q.body.verb) ≡ b → cond b (best_at (size_of (space_of q.body.names)) kind d) (Err keys.Answer)
+        ≡ Ok best → HasFactorShape q.body best
     by_test true asks e = record { asks = asks; shape = by_kind (size_of (space_of q.body.names)) kind d best e }
     by_test false asks e = absurd (cc)

@@ -70,7 +70,8 @@ pair_numbers d t is =
     let k = pair_some (count_at h.0.0) (integer_at h.0.1) t h.1.1 in
     (count_at_below h.0.0 t.0 k.0, integer_at_within h.0.1 t.1 k.1)
 
-pub list_numbers : {A : Type 0} (P : A → Type 0) (f : Data → Option A) → ((d : Data) (a : A) → f d ≡ Some a → P a) → (o : Option Data) (xs : List A) → list_at f o ≡ Some xs → All P xs
+pub list_numbers : {A : Type 0} (P : A → Type 0) (f : Data → Option A) → ((d : Data) (a : A) → f d ≡ Some a → P a)
+    → (o : Option Data) (xs : List A) → list_at f o ≡ Some xs → All P xs
 list_numbers P f each o xs is = let h = and_then_some (option_and_then as_array o) (all_of f) xs is in all_of_holds P f each h.0 xs h.1.1
 
 counted_numbers : {A : Type 0} (P : A → Type 0) (f : Data → Option A) → ((d : Data) (a : A) → f d ≡ Some a → P a) → (n : ℕ) (o : Option Data) (xs : List A)
@@ -102,9 +103,11 @@ origins_fit n d ps is = counted_numbers IsNumbered certificate_at certificate_nu
 
 -- ---- yes, no
 
-yes_fits : (v : NamesView) (r : RelationView) (d : Data) (a : AnswerView) → ok_or (option_map Yes (proofs_at (length (targets (length v.variables) r)) d)) keys.Proofs ≡ Ok a → HasVerbShape v (Prove r) a
+yes_fits : (v : NamesView) (r : RelationView) (d : Data) (a : AnswerView)
+    → ok_or (option_map Yes (proofs_at (length (targets (length v.variables) r)) d)) keys.Proofs ≡ Ok a → HasVerbShape v (Prove r) a
 yes_fits v r d a is =
-    let h = map_some (proofs_at (length (targets (length v.variables) r)) d) Yes a (key_ok keys.Proofs (option_map Yes (proofs_at (length (targets (length v.variables) r)) d)) a is) in
+    let h = map_some (proofs_at (length (targets (length v.variables) r)) d) Yes a
+    (key_ok keys.Proofs (option_map Yes (proofs_at (length (targets (length v.variables) r)) d)) a is) in
     subst (HasVerbShape v (Prove r)) h.1.1 (proofs_fit (length (targets (length v.variables) r)) d h.0 h.1.0)
 
 back_only : (equality back : Bool) (text : List ℕ) → back_of equality text ≡ Some back → back ≡ true → equality ≡ true
@@ -124,11 +127,17 @@ no_fits : (v : NamesView) (r : RelationView) (d : Data) (a : AnswerView) → no_
 unfolding no_at
 no_fits v r d a is =
     let size = size_of (space_of v) in
-    let h = then_ok (ok_or (point_at (size_of (space_of v)) d) keys.Point) (λ values. and_then (ok_or (back_at (is_equation (kind_of r.sign)) d) keys.Side) (λ back. Ok (No back values))) a is in
+    let h = then_ok (ok_or (point_at (size_of (space_of v)) d) keys.Point)
+    (λ values. and_then (ok_or (back_at (is_equation (kind_of r.sign)) d) keys.Side) (λ back. Ok (No back values))) a is in
     let k = then_ok (ok_or (back_at (is_equation (kind_of r.sign)) d) keys.Side) (λ back. Ok (No back h.0)) a h.1.1 in
     let p = key_ok keys.Point (point_at (size_of (space_of v)) d) h.0 h.1.0 in
     let b = key_ok keys.Side (back_at (is_equation (kind_of r.sign)) d) k.0 k.1.0 in
-    subst (HasVerbShape v (Prove r)) (ok_same (No k.0 h.0) a k.1.1) (point_length (size_of (space_of v)) d h.0 p, point_within (size_of (space_of v)) d h.0 p, back_fits (is_equation (kind_of r.sign)) k.0 d b)
+    subst (HasVerbShape v (Prove r)) (ok_same (No k.0 h.0) a k.1.1) (
+      point_length (size_of (space_of v)) d h.0 p,
+      point_within
+          (size_of (space_of v)) d h.0 p,
+      back_fits (is_equation (kind_of r.sign)) k.0 d b,
+    )
 
 -- ---- undecided
 
@@ -146,12 +155,14 @@ found_in v text r is =
     let h = cond_some (nat_lt (position_or_len (bytes_eq text) v.rates) (length v.rates)) (Some (position_or_len (bytes_eq text) v.rates)) r is in
     let e : position_or_len (bytes_eq text) v.rates ≡ r = let s = h.1 in cc in
     let lt : position_or_len (bytes_eq text) v.rates < length v.rates = let t = h.0 in search (rules, t) in
-    subst (λ i. get_or v.rates i [] ≡ text) e (sym ((bytes_eq-Decides text (get_or v.rates (position_or_len (bytes_eq text) v.rates) [])).0 (passes_at_first (bytes_eq text) v.rates [] lt)))
+    subst (λ i. get_or v.rates i [] ≡ text) e (sym ((bytes_eq-Decides text (get_or v.rates (position_or_len (bytes_eq text) v.rates) [])).0
+    (passes_at_first (bytes_eq text) v.rates [] lt)))
 
 found_rate : (v : NamesView) (text : List ℕ) (r : ℕ) → index_of v.rates text ≡ Some r → IsFoundIn v r
 found_rate v text r is = ap (index_of v.rates) (found_in v text r is) ∙ is
 
-width_fits : (v : NamesView) (text : List ℕ) (c : Cause) (o : Option ℕ) → step_of text ≡ o → option_or (option_map Width o) (option_map WideRate (index_of v.rates text)) ≡ Some c → IsCauseFor v c
+width_fits : (v : NamesView) (text : List ℕ) (c : Cause) (o : Option ℕ) → step_of text ≡ o
+    → option_or (option_map Width o) (option_map WideRate (index_of v.rates text)) ≡ Some c → IsCauseFor v c
 width_fits v text c (Some n) at is = subst (IsCauseFor v) (let e : Width n ≡ c = cc in e) (step_below text n at)
 width_fits v text c None at is =
     let h = map_some (index_of v.rates text) WideRate c is in
@@ -208,7 +219,8 @@ row_fits size d r is =
     let k = unmarked_row_is size d r.1 h.1 in
     record { terms = k.0; canonical = row_is_canonical size r.1 k.1 (all_second r.1 k.0); coordinates = up_to 1 size r.1 (omega arith) k.1 }
 
-region_fits : (v : NamesView) (rates : List ℕ) (d : Data) (a : AnswerView) → ok_or (option_map Region (rows_at (size_of (space_of v)) d)) keys.Rows ≡ Ok a → HasVerbShape v (Eliminate rates) a
+region_fits : (v : NamesView) (rates : List ℕ) (d : Data) (a : AnswerView)
+    → ok_or (option_map Region (rows_at (size_of (space_of v)) d)) keys.Rows ≡ Ok a → HasVerbShape v (Eliminate rates) a
 unfolding rows_at
 region_fits v rates d a is =
     let rows = list_at (marked_row_at (size_of (space_of v))) (get (codes "rows") d) in
@@ -247,8 +259,10 @@ bounds_made rows proofs steps = record { rows = rows; proofs = proofs; steps = s
 bounds_sized : (size : ℕ) (d : Data) (b : BoundsView) → bounds_at size d ≡ Ok b → AreSized size b
 unfolding bounds_at
 bounds_sized size d b is =
-    let h = then_ok (ok_or (unmarked_rows_at size d) keys.Rows) (λ rows. and_then (ok_or (proofs_at (length rows) d) keys.Proofs) (λ proofs. and_then (ok_or (steps_at size d) keys.Rays) (λ steps. Ok (bounds_made rows proofs steps)))) b is in
-    let k = then_ok (ok_or (proofs_at (length h.0) d) keys.Proofs) (λ proofs. and_then (ok_or (steps_at size d) keys.Rays) (λ steps. Ok (bounds_made h.0 proofs steps))) b h.1.1 in
+    let h = then_ok (ok_or (unmarked_rows_at size d) keys.Rows) (λ rows. and_then (ok_or (proofs_at (length rows) d) keys.Proofs)
+    (λ proofs. and_then (ok_or (steps_at size d) keys.Rays) (λ steps. Ok (bounds_made rows proofs steps)))) b is in
+    let k = then_ok (ok_or (proofs_at (length h.0) d) keys.Proofs) (λ proofs. and_then (ok_or (steps_at size d) keys.Rays)
+    (λ steps. Ok (bounds_made h.0 proofs steps))) b h.1.1 in
     let m = then_ok (ok_or (steps_at size d) keys.Rays) (λ steps. Ok (bounds_made h.0 k.0 steps)) b k.1.1 in
     subst (AreSized size) {x = bounds_made h.0 k.0 m.0} (ok_same (bounds_made h.0 k.0 m.0) b m.1.1) (
       rows_fit size d h.0 (key_ok keys.Rows (unmarked_rows_at size d) h.0 h.1.0),
@@ -283,14 +297,19 @@ parts_fit : (count n : ℕ) (d : Data) (ss : List ℕ) → parts_at count n d �
 unfolding parts_at
 parts_fit count n d ss is = counted_numbers (IsSetIn n) (set_at n) (set_fits n) count (get (codes "parts") d) ss is
 
-contained_fits : (v : NamesView) (first second : RegionView) (tries : List (List ℕ)) (d : Data) (a : AnswerView) → contained_at second.auxiliaries (length first.names.variables) (obligation_count second) d ≡ Ok a → HasVerbShape v (Contain first second tries) a
+contained_fits : (v : NamesView) (first second : RegionView) (tries : List (List ℕ)) (d : Data) (a : AnswerView)
+    → contained_at second.auxiliaries (length first.names.variables) (obligation_count second) d ≡ Ok a
+    → HasVerbShape v (Contain first second tries) a
 unfolding contained_at
 contained_fits v first second tries d a is =
-    let h = then_ok (ok_or (parts_at second.auxiliaries (length first.names.variables) d) keys.Parts) (λ parts. and_then (ok_or (proofs_at (obligation_count second) d) keys.Proofs) (λ proofs. Ok (Contained parts proofs))) a is in
+    let h = then_ok (ok_or (parts_at second.auxiliaries (length first.names.variables) d) keys.Parts)
+    (λ parts. and_then (ok_or (proofs_at (obligation_count second) d) keys.Proofs) (λ proofs. Ok (Contained parts proofs))) a is in
     let k = then_ok (ok_or (proofs_at (obligation_count second) d) keys.Proofs) (λ proofs. Ok (Contained h.0 proofs)) a h.1.1 in
-    let p = parts_fit second.auxiliaries (length first.names.variables) d h.0 (key_ok keys.Parts (parts_at second.auxiliaries (length first.names.variables) d) h.0 h.1.0) in
+    let p = parts_fit second.auxiliaries (length first.names.variables) d h.0
+    (key_ok keys.Parts (parts_at second.auxiliaries (length first.names.variables) d) h.0 h.1.0) in
     let w = proofs_fit (obligation_count second) d k.0 (key_ok keys.Proofs (proofs_at (obligation_count second) d) k.0 k.1.0) in
-    subst (HasVerbShape v (Contain first second tries)) (ok_same (Contained h.0 k.0) a k.1.1) (record { each = p.0; sets = p.1; obligations = w.0; numbers = w.1 })
+    subst (HasVerbShape v (Contain first second tries)) (ok_same (Contained h.0 k.0) a k.1.1)
+    (record { each = p.0; sets = p.1; obligations = w.0; numbers = w.1 })
 
 open_fits : (v : NamesView) (first second : RegionView) (tries : List (List ℕ)) (d : Data) (a : AnswerView) → ok_or (option_map Open (option_and_then count_at (get (codes "tried") d))) keys.Tried ≡ Ok a → HasVerbShape v (Contain first second tries) a
 open_fits v first second tries d a is =
@@ -301,7 +320,8 @@ open_fits v first second tries d a is =
 
 -- ---- by the verb
 
-prove_fits : (v : NamesView) (r : RelationView) (kind : AnswerKind) (d : Data) (a : AnswerView) → verb_answer v (Prove r) kind d ≡ Ok a → HasVerbShape v (Prove r) a
+prove_fits : (v : NamesView) (r : RelationView) (kind : AnswerKind) (d : Data) (a : AnswerView) → verb_answer v (Prove r) kind d ≡ Ok a
+    → HasVerbShape v (Prove r) a
 prove_fits v r kinds.Yes d a is = yes_fits v r d a is
 prove_fits v r kinds.No d a is = no_fits v r d a is
 prove_fits v r kinds.Undecided d a is = let h = undecided_fits v d a is in subst (HasVerbShape v (Prove r)) h.1.0 h.1.1
@@ -309,7 +329,8 @@ prove_fits v r kinds.Region d a is = absurd (cc)
 prove_fits v r kinds.Contained d a is = absurd (cc)
 prove_fits v r kinds.Open d a is = absurd (cc)
 
-eliminate_fits : (v : NamesView) (rates : List ℕ) (kind : AnswerKind) (d : Data) (a : AnswerView) → verb_answer v (Eliminate rates) kind d ≡ Ok a → HasVerbShape v (Eliminate rates) a
+eliminate_fits : (v : NamesView) (rates : List ℕ) (kind : AnswerKind) (d : Data) (a : AnswerView)
+    → verb_answer v (Eliminate rates) kind d ≡ Ok a → HasVerbShape v (Eliminate rates) a
 eliminate_fits v rates kinds.Yes d a is = absurd (cc)
 eliminate_fits v rates kinds.No d a is = absurd (cc)
 eliminate_fits v rates kinds.Undecided d a is = let h = undecided_fits v d a is in subst (HasVerbShape v (Eliminate rates)) h.1.0 h.1.1
@@ -317,7 +338,8 @@ eliminate_fits v rates kinds.Region d a is = region_fits v rates d a is
 eliminate_fits v rates kinds.Contained d a is = absurd (cc)
 eliminate_fits v rates kinds.Open d a is = absurd (cc)
 
-contain_fits : (v : NamesView) (first second : RegionView) (tries : List (List ℕ)) (kind : AnswerKind) (d : Data) (a : AnswerView) → verb_answer v (Contain first second tries) kind d ≡ Ok a → HasVerbShape v (Contain first second tries) a
+contain_fits : (v : NamesView) (first second : RegionView) (tries : List (List ℕ)) (kind : AnswerKind) (d : Data) (a : AnswerView)
+    → verb_answer v (Contain first second tries) kind d ≡ Ok a → HasVerbShape v (Contain first second tries) a
 contain_fits v first second tries kinds.Yes d a is = absurd (cc)
 contain_fits v first second tries kinds.No d a is = absurd (cc)
 contain_fits v first second tries kinds.Undecided d a is = absurd (cc)
@@ -325,7 +347,8 @@ contain_fits v first second tries kinds.Region d a is = absurd (cc)
 contain_fits v first second tries kinds.Contained d a is = contained_fits v first second tries d a is
 contain_fits v first second tries kinds.Open d a is = open_fits v first second tries d a is
 
-pub answer_fits : (q : QuestionView) (kind : AnswerKind) (d : Data) (a : AnswerView) → verb_answer q.body.names q.body.verb kind d ≡ Ok a → HasQuestionShape q.body a
+pub answer_fits : (q : QuestionView) (kind : AnswerKind) (d : Data) (a : AnswerView) → verb_answer q.body.names q.body.verb kind d ≡ Ok a
+    → HasQuestionShape q.body a
 unfolding HasQuestionShape
 answer_fits q kind d a is = by_verb q.body.verb is
   where

@@ -19,7 +19,8 @@ prepend_one xs a (Some ys) = ap Some (append_assoc xs (a ∷ []) ys)
 
 module _ {A : Type 0} (f : Data → Option A) (vs : List Value) (i : ℕ) (v : Value) (there : i < length vs) (at : v ≡ get_or vs i v) where
   -- the items from this one on, by its reading
-  from_item : (xs : List A) (o : Option A) → o ≡ f (view v) → prepend xs (all_of f (items_view (drop i vs))) ≡ prepend xs (option_and_then (with_first (all_of f (items_view (drop (i + 1) vs)))) o)
+  from_item : (xs : List A) (o : Option A) → o ≡ f (view v) → prepend xs (all_of f (items_view (drop i vs)))
+      ≡ prepend xs (option_and_then (with_first (all_of f (items_view (drop (i + 1) vs)))) o)
   from_item xs o is =
       ap (λ zs. prepend xs (all_of f (items_view zs))) (drop_item vs i v there at)
       ∙ ap (λ p. prepend xs (option_and_then (with_first (all_of f (items_view (drop (i + 1) vs)))) p)) (sym is)

@@ -1,8 +1,8 @@
 -- How many forms lines say to be at least 0, line by line.
 use Rattle.std.proofs.Math.Path.{fun_ext}
 use Rattle.std.proofs.Common.{◌≡◌, ℕ, ◌+◌, ◌*◌, ◌-◌, ◌<◌, List, [], ◌∷◌, ◌++◌, length, map, drop, get_or, refl, ap, sym, ◌∙◌, arith}
-use Rattle.it_space.specs.declared.problems.Kind.{Kind}
-use Rattle.it_space.specs.declared.problems.Kind.TheVariants.{Inequality, Equation}
+use Rattle.it_problems.specs.declared.problems.Kind.{Kind}
+use Rattle.it_problems.specs.declared.problems.Kind.TheVariants.{Inequality, Equation}
 use Rattle.it_polymatroid.specs.Certificates.{Form}
 use Rattle.it_syntax.specs.declared.types.Given.{Given}
 use Rattle.std.specs.List.{fold, sum_by, flat_map}
@@ -79,12 +79,14 @@ region_forms r =
     ∙ ap (λ k. k + total relation_form_count 0 r.lines.rows) (of_givens n 0 r.lines.givens))
     ∙ ap (λ f. sum_by f (line_demands n r.lines)) (fun_ext (λ d. sym (forms_counted d.kind d.form)))
 
-pub count_is : (r : RegionView) (a b : ℕ) → a ≡ sum_by given_form_count r.lines.givens → b ≡ sum_by relation_form_count r.lines.rows → a + b ≡ obligation_count r
+pub count_is : (r : RegionView) (a b : ℕ) → a ≡ sum_by given_form_count r.lines.givens → b ≡ sum_by relation_form_count r.lines.rows
+    → a + b ≡ obligation_count r
 count_is r a b p q = ap (λ x. x + b) p ∙ ap (λ y. sum_by given_form_count r.lines.givens + y) q ∙ region_forms r
 
 -- one more given
 pub given_more : (gs : List Given) (i a k whole : ℕ) (g : Given) → i < length gs → g ≡ get_or gs i g → k ≡ given_form_count (given_view g)
-    → fold (λ s x. s + given_form_count x) a (map given_view (drop i gs)) ≡ whole → fold (λ s x. s + given_form_count x) (a + k) (map given_view (drop (i + 1) gs)) ≡ whole
+    → fold (λ s x. s + given_form_count x) a (map given_view (drop i gs)) ≡ whole
+    → fold (λ s x. s + given_form_count x) (a + k) (map given_view (drop (i + 1) gs)) ≡ whole
 given_more gs i a k whole g lt at forms rest =
     ap (λ n. fold (λ s x. s + given_form_count x) (a + n) (map given_view (drop (i + 1) gs))) forms
     ∙ sym (ap (λ zs. fold (λ s x. s + given_form_count x) a (map given_view zs)) (drop_item gs i g lt at))

@@ -31,7 +31,8 @@ each_has_one : (a : AnswerView) (d : Data) (ws : List CertificateView) → answe
 unfolding answer_origins
 each_has_one a d ws is = origins_fit (length (rows_of a)) d ws (key_ok keys.Origins (origins_at (length (rows_of a)) d) ws is)
 
-pub derived_fits : (q : QuestionView) (d : Data) (a : AnswerView) (ws : List CertificateView) → verb_answer q.body.names q.body.verb kinds.Region d ≡ Ok a → answer_origins a d ≡ Ok ws → HasDerivedShape q.body a ws
+pub derived_fits : (q : QuestionView) (d : Data) (a : AnswerView) (ws : List CertificateView)
+    → verb_answer q.body.names q.body.verb kinds.Region d ≡ Ok a → answer_origins a d ≡ Ok ws → HasDerivedShape q.body a ws
 derived_fits q d a ws answered told =
     let h = each_has_one a d ws told in
     record {

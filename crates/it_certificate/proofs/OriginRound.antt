@@ -66,7 +66,8 @@ module _ (text : List ℕ) (v : NamesView) (rows : List (Mark × Terms)) (ws : L
   region_back (Eliminate rates) fits = rows_back (size_of (space_of v)) fits
   region_back (Contain first second tries) fits = absurd fits
 
-  origins_back : length ws ≡ length (map (λ r. r.1) rows) → All IsNumbered ws → answer_origins (Region rows) (derived_value text v rows ws) ≡ Ok (map without_zeros ws)
+  origins_back : length ws ≡ length (map (λ r. r.1) rows) → All IsNumbered ws
+      → answer_origins (Region rows) (derived_value text v rows ws) ≡ Ok (map without_zeros ws)
   unfolding answer_origins origins_at derived_value answer_members
   origins_back each numbers = ap (λ o. ok_or o keys.Origins) (certificates_back (length (map (λ r. r.1) rows)) ws each numbers)
 
@@ -83,11 +84,14 @@ origins_read_back q rows ws short file fits =
     record {
       own = Some (Text q);
       source = record { no_sharing = others.0; no_copies = others.1; text = q.text; there = text_back q.text v rows ws; short = short; reads = file };
-      is = ap (λ b. cond b (Ok Misfit) (cond (tells_outer d) (bounded_of (Some (Text q)) d) (reading_by (Some (Text q)) (factor_kind_at d) d))) (no_misfit q.text v rows ws)
+      is = ap (λ b. cond b (Ok Misfit) (cond (tells_outer d) (bounded_of (Some (Text q)) d)
+          (reading_by (Some (Text q)) (factor_kind_at d) d))) (no_misfit q.text v rows ws)
           ∙ ap (λ b. cond b (bounded_of (Some (Text q)) d) (reading_by (Some (Text q)) (factor_kind_at d) d)) (no_bounds q.text v rows ws)
           ∙ ap (λ k. reading_by (Some (Text q)) k d) (no_factor q.text v rows ws)
-          ∙ ap (λ b. cond b (coded_of (Some (Text q)) d) (cond (tells_origins d) (derived_of (Some (Text q)) d) (answer_of (Some (Text q)) d))) (no_code q.text v rows ws)
+          ∙ ap (λ b. cond b (coded_of (Some (Text q)) d) (cond (tells_origins d) (derived_of (Some (Text q)) d)
+          (answer_of (Some (Text q)) d))) (no_code q.text v rows ws)
           ∙ ap (λ b. cond b (derived_of (Some (Text q)) d) (answer_of (Some (Text q)) d)) (has_origins q.text v rows ws)
-          ∙ ap (λ r. and_then r (λ a. and_then (answer_origins a d) (λ origins. Ok (Derived (Text q) a origins)))) (region_back q.text v rows ws q.body.verb (shape_of q rows fits.answered))
+          ∙ ap (λ r. and_then r (λ a. and_then (answer_origins a d) (λ origins. Ok (Derived (Text q) a origins))))
+          (region_back q.text v rows ws q.body.verb (shape_of q rows fits.answered))
           ∙ ap (λ r. and_then r (λ origins. Ok (Derived (Text q) (Region rows) origins))) (origins_back q.text v rows ws fits.each fits.numbers);
     }

@@ -9,13 +9,16 @@ use Rattle.it_question.specs.declared.types.FileFault.TheVariants.{Fault}
 use Rattle.it_question.specs.declared.types.Question.{Question}
 use Rattle.it_question.proofs.FileLemmas.{file_is_one, file_or_fault}
 
-pub none_only : (text : List ℕ) (qs : List Question) → IsFile text (map question_view qs) → (length qs ≡ 1 → ⊥) → (q : QuestionView) → length text ≤ 1048577 → IsFile text (q ∷ []) → ⊥
+pub none_only : (text : List ℕ) (qs : List Question) → IsFile text (map question_view qs) → (length qs ≡ 1 → ⊥) → (q : QuestionView)
+    → length text ≤ 1048577 → IsFile text (q ∷ []) → ⊥
 none_only text qs file not q fits other =
     let same = ap length (file_is_one text (map question_view qs) (q ∷ []) file other) in
     not (sym (length-map qs question_view) ∙ same)
 
-pub fault_only : (text : List ℕ) (line column : ℕ) (code : Code) → FileFaultAt text line column code → (q : QuestionView) → length text ≤ 1048577 → IsFile text (q ∷ []) → ⊥
+pub fault_only : (text : List ℕ) (line column : ℕ) (code : Code) → FileFaultAt text line column code → (q : QuestionView)
+    → length text ≤ 1048577 → IsFile text (q ∷ []) → ⊥
 fault_only text line column code fault q fits file = file_or_fault text (q ∷ []) line column code file fault
 
-pub fault_here : (text : List ℕ) (line column : ℕ) (code : Code) (f : FileFault) → f ≡ Fault line column code → IsFirstFileFault text f → FileFaultAt text line column code
+pub fault_here : (text : List ℕ) (line column : ℕ) (code : Code) (f : FileFault) → f ≡ Fault line column code → IsFirstFileFault text f
+    → FileFaultAt text line column code
 fault_here text line column code f is h = subst (IsFirstFileFault text) is h

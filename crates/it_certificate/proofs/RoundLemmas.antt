@@ -76,8 +76,11 @@ same_back P f v each xs all = all_back P f v (λ x. x) each xs all ∙ ap Some (
 certificate_back : (c : CertificateView) → IsNumbered c → certificate_at (proof_value c) ≡ Some (without_zeros c)
 unfolding certificate_at proof_value
 certificate_back c p =
-    ap (λ s. option_map certificate_of (option_zip s (all_of pair_at (items_of (map pair_value (filter is_nonzero_weight c.weights)))))) (number_back c.scale p.scale)
-    ∙ ap (λ ws. option_map certificate_of (option_zip (Some c.scale) ws)) (same_back IsNumberedAmount pair_at pair_value pair_back (filter is_nonzero_weight c.weights) (All-filter is_nonzero_weight IsNumberedAmount c.weights p.weights))
+    ap (λ s. option_map certificate_of (option_zip s (all_of pair_at (items_of (map pair_value (filter is_nonzero_weight c.weights))))))
+    (number_back c.scale p.scale)
+    ∙ ap (λ ws. option_map certificate_of (option_zip (Some c.scale) ws))
+    (same_back IsNumberedAmount pair_at pair_value pair_back (filter is_nonzero_weight c.weights)
+    (All-filter is_nonzero_weight IsNumberedAmount c.weights p.weights))
   where
     certificate_of : ℤ × List (ℕ × ℤ) → CertificateView
     certificate_of p = record { scale = p.0; weights = p.1 }
@@ -93,23 +96,29 @@ certificates_back n ws is all =
 
 -- ---- yes and no
 
-yes_back : (text : List ℕ) (v : NamesView) (r : RelationView) (ws : List CertificateView) → HasVerbShape v (Prove r) (Yes ws) → ok_or (option_map Yes (proofs_at (length (targets (length v.variables) r)) (answer_value text v (Yes ws)))) keys.Proofs ≡ Ok (Yes (map without_zeros ws))
+yes_back : (text : List ℕ) (v : NamesView) (r : RelationView) (ws : List CertificateView) → HasVerbShape v (Prove r) (Yes ws)
+    → ok_or (option_map Yes (proofs_at (length (targets (length v.variables) r)) (answer_value text v (Yes ws)))) keys.Proofs
+    ≡ Ok (Yes (map without_zeros ws))
 unfolding proofs_at answer_value answer_members
 yes_back text v r ws fits = ap (λ o. ok_or (option_map Yes o) keys.Proofs) (certificates_back (length (targets (length v.variables) r)) ws fits.0 fits.1)
 
-point_back : (text : List ℕ) (v : NamesView) (n : ℕ) (back : Bool) (vs : List ℤ) → length vs ≡ n → All IsWithin vs → point_at n (answer_value text v (No back vs)) ≡ Some vs
+point_back : (text : List ℕ) (v : NamesView) (n : ℕ) (back : Bool) (vs : List ℤ) → length vs ≡ n → All IsWithin vs
+    → point_at n (answer_value text v (No back vs)) ≡ Some vs
 unfolding point_at answer_value answer_members
 point_back text v n back vs is all = ap (option_and_then (of_length n)) (same_back IsWithin integer_at integer_value number_back vs all) ∙ of_length_is n vs is
 
-side_back : (text : List ℕ) (v : NamesView) (equality back : Bool) (vs : List ℤ) → (back ≡ true → equality ≡ true) → back_at equality (answer_value text v (No back vs)) ≡ Some back
+side_back : (text : List ℕ) (v : NamesView) (equality back : Bool) (vs : List ℤ) → (back ≡ true → equality ≡ true)
+    → back_at equality (answer_value text v (No back vs)) ≡ Some back
 unfolding back_at answer_value answer_members
 side_back text v equality true vs is = ap (λ b. cond b (Some true) None) (is refl)
 side_back text v equality false vs is = refl
 
-no_back : (text : List ℕ) (v : NamesView) (r : RelationView) (back : Bool) (vs : List ℤ) → HasVerbShape v (Prove r) (No back vs) → no_at (size_of (space_of v)) r.sign (answer_value text v (No back vs)) ≡ Ok (No back vs)
+no_back : (text : List ℕ) (v : NamesView) (r : RelationView) (back : Bool) (vs : List ℤ) → HasVerbShape v (Prove r) (No back vs)
+    → no_at (size_of (space_of v)) r.sign (answer_value text v (No back vs)) ≡ Ok (No back vs)
 unfolding no_at
 no_back text v r back vs fits =
-    ap (λ o. and_then (ok_or o keys.Point) (λ values. and_then (ok_or (back_at (is_equation (kind_of r.sign)) (answer_value text v (No back vs))) keys.Side) (λ b. Ok (No b values))))
+    ap (λ o. and_then (ok_or o keys.Point) (λ values. and_then (ok_or
+    (back_at (is_equation (kind_of r.sign)) (answer_value text v (No back vs))) keys.Side) (λ b. Ok (No b values))))
     (point_back text v (size_of (space_of v)) back vs fits.0 fits.1)
     ∙ ap (λ o. and_then (ok_or o keys.Side) (λ b. Ok (No b vs))) (side_back text v (is_equation (kind_of r.sign)) back vs fits.2)
 
@@ -135,7 +144,8 @@ step_or_rate_back v (Pivots steps) fits = ap (option_map Pivots) (step_back step
 step_or_rate_back v (Width step) fits = ap (λ o. option_or (option_map Width o) (option_map WideRate (index_of v.rates (decimal step)))) (step_back step fits)
 step_or_rate_back v Scale fits = refl
 step_or_rate_back v (Rows r) fits = ap (option_map Rows) fits
-step_or_rate_back v (WideRate r) fits = ap (λ o. option_or (option_map Width o) (option_map WideRate (index_of v.rates (get_or v.rates r [])))) fits.1 ∙ ap (option_map WideRate) fits.0
+step_or_rate_back v (WideRate r) fits = ap (λ o. option_or (option_map Width o)
+    (option_map WideRate (index_of v.rates (get_or v.rates r [])))) fits.1 ∙ ap (option_map WideRate) fits.0
 
 cause_back : (text : List ℕ) (v : NamesView) (c : Cause) → IsCauseFor v c → cause_at v.rates (kind_of_cause c) (answer_value text v (Undecided c)) ≡ Some c
 unfolding cause_at answer_value answer_members
@@ -144,7 +154,8 @@ cause_back text v c fits = step_or_rate_back v c fits
 undecided_back : (text : List ℕ) (v : NamesView) (c : Cause) → IsCauseFor v c → undecided_at v.rates (answer_value text v (Undecided c)) ≡ Ok (Undecided c)
 unfolding undecided_at
 undecided_back text v c fits =
-    ap (λ o. and_then (ok_or o keys.Cause) (λ kind. and_then (ok_or (cause_at v.rates kind (answer_value text v (Undecided c))) keys.At) (λ cause. Ok (Undecided cause)))) (kind_back text v c)
+    ap (λ o. and_then (ok_or o keys.Cause) (λ kind. and_then (ok_or (cause_at v.rates kind (answer_value text v (Undecided c))) keys.At)
+    (λ cause. Ok (Undecided cause)))) (kind_back text v c)
     ∙ ap (λ o. and_then (ok_or o keys.At) (λ cause. Ok (Undecided cause))) (cause_back text v c fits)
 
 -- ---- regions
@@ -159,7 +170,8 @@ row_test from low size (t ∷ ts) le asc up =
     let there : nat_le from t.0 ≡ true = let e : from ≤ t.0 = omega (arith, le, asc.0) in search (rules, e) in
     let last : nat_le t.0 size ≡ true = let e = h.1 in search (rules, e) in
     true_both (nat_le from t.0 && (nat_le t.0 size && not (unsigned_abs t.1 == 0))) (is_row_between (t.0 + 1) size ts)
-    (true_both (nat_le from t.0) (nat_le t.0 size && not (unsigned_abs t.1 == 0)) there (true_both (nat_le t.0 size) (not (unsigned_abs t.1 == 0)) last (nonzero_passes t.1 asc.1)))
+    (true_both (nat_le from t.0) (nat_le t.0 size && not (unsigned_abs t.1 == 0)) there
+    (true_both (nat_le t.0 size) (not (unsigned_abs t.1 == 0)) last (nonzero_passes t.1 asc.1)))
     (row_test (t.0 + 1) (t.0 + 1) size ts (omega arith) asc.3 (All-tail (λ t. (1 ≤ t.0) × (t.0 ≤ size)) t ts up))
 
 from_one : (size : ℕ) (ts : Terms) → Ascends 0 ts → IsOver size ts → Ascends 1 ts
@@ -186,23 +198,31 @@ row_back size r fits =
     ∙ ap (λ o. option_zip (Some r.0) (option_and_then (row_of size) o)) (terms_back r fits.terms)
     ∙ ap (λ o. option_zip (Some r.0) o) (row_kept size r.1 fits.canonical fits.coordinates)
 
-region_back : (text : List ℕ) (v : NamesView) (rows : List (Mark × Terms)) (size : ℕ) → All (IsRowIn size) rows → ok_or (option_map Region (rows_at size (answer_value text v (Region rows)))) keys.Rows ≡ Ok (Region rows)
+region_back : (text : List ℕ) (v : NamesView) (rows : List (Mark × Terms)) (size : ℕ) → All (IsRowIn size) rows
+    → ok_or (option_map Region (rows_at size (answer_value text v (Region rows)))) keys.Rows ≡ Ok (Region rows)
 unfolding rows_at answer_value answer_members
-region_back text v rows size all = ap (λ o. ok_or (option_map Region o) keys.Rows) (same_back (IsRowIn size) (marked_row_at size) row_value (row_back size) rows all)
+region_back text v rows size all = ap (λ o. ok_or (option_map Region o) keys.Rows)
+    (same_back (IsRowIn size) (marked_row_at size) row_value (row_back size) rows all)
 
 -- ---- containments
 
 set_back : (n s : ℕ) → (s < 2 ^ 32) × (s < 2 ^ n) → set_at n (count_value s) ≡ Some s
 unfolding set_at
-set_back n s h = ap (option_and_then (below (2 ^ n))) (count_read s h.0) ∙ (let lt = h.1 in let e : nat_lt s (2 ^ n) ≡ true = search (rules, lt) in ap (λ b. cond b (Some s) None) e)
+set_back n s h = ap (option_and_then (below (2 ^ n))) (count_read s h.0)
+    ∙ (let lt = h.1 in let e : nat_lt s (2 ^ n) ≡ true = search (rules, lt) in ap (λ b. cond b (Some s) None) e)
 
-contained_back : (text : List ℕ) (v : NamesView) (first second : RegionView) (parts : List ℕ) (ws : List CertificateView) → HasContainmentShape first second parts ws
-    → contained_at second.auxiliaries (length first.names.variables) (obligation_count second) (answer_value text v (Contained parts ws)) ≡ Ok (Contained parts (map without_zeros ws))
+contained_back : (text : List ℕ) (v : NamesView) (first second : RegionView) (parts : List ℕ) (ws : List CertificateView)
+    → HasContainmentShape first second parts ws
+    → contained_at second.auxiliaries (length first.names.variables) (obligation_count second) (answer_value text v (Contained parts ws))
+    ≡ Ok (Contained parts (map without_zeros ws))
 unfolding contained_at parts_at proofs_at answer_value answer_members
 contained_back text v first second parts ws fits =
     let n = length first.names.variables in
-    ap (λ o. and_then (ok_or o keys.Parts) (λ ss. and_then (ok_or (option_and_then (of_length (obligation_count second)) (all_of certificate_at (items_of (map proof_value ws)))) keys.Proofs) (λ ps. Ok (Contained ss ps))))
-    (ap (option_and_then (of_length second.auxiliaries)) (same_back (λ s. (s < 2 ^ 32) × (s < 2 ^ length first.names.variables)) (set_at (length first.names.variables)) count_value (set_back (length first.names.variables)) parts fits.sets)
+    ap (λ o. and_then (ok_or o keys.Parts) (λ ss. and_then (ok_or
+    (option_and_then (of_length (obligation_count second)) (all_of certificate_at (items_of (map proof_value ws)))) keys.Proofs)
+    (λ ps. Ok (Contained ss ps))))
+    (ap (option_and_then (of_length second.auxiliaries)) (same_back (λ s. (s < 2 ^ 32) × (s < 2 ^ length first.names.variables))
+    (set_at (length first.names.variables)) count_value (set_back (length first.names.variables)) parts fits.sets)
     ∙ of_length_is second.auxiliaries parts fits.each)
     ∙ ap (λ o. and_then (ok_or o keys.Proofs) (λ ps. Ok (Contained parts ps))) (certificates_back (obligation_count second) ws fits.obligations fits.numbers)
 
@@ -238,7 +258,8 @@ text_back text v (Region rows) = refl
 text_back text v (Contained parts proofs) = refl
 text_back text v (Open tried) = refl
 
-prove_back : (text : List ℕ) (v : NamesView) (r : RelationView) (a : AnswerView) → HasVerbShape v (Prove r) a → verb_answer v (Prove r) (kind_of_answer a) (answer_value text v a) ≡ Ok (written_answer a)
+prove_back : (text : List ℕ) (v : NamesView) (r : RelationView) (a : AnswerView) → HasVerbShape v (Prove r) a
+    → verb_answer v (Prove r) (kind_of_answer a) (answer_value text v a) ≡ Ok (written_answer a)
 prove_back text v r (Yes proofs) fits = yes_back text v r proofs fits
 prove_back text v r (No back values) fits = no_back text v r back values fits
 prove_back text v r (Undecided cause) fits = undecided_back text v cause fits
@@ -246,7 +267,8 @@ prove_back text v r (Region rows) fits = absurd fits
 prove_back text v r (Contained parts proofs) fits = absurd fits
 prove_back text v r (Open tried) fits = absurd fits
 
-eliminate_back : (text : List ℕ) (v : NamesView) (rates : List ℕ) (a : AnswerView) → HasVerbShape v (Eliminate rates) a → verb_answer v (Eliminate rates) (kind_of_answer a) (answer_value text v a) ≡ Ok (written_answer a)
+eliminate_back : (text : List ℕ) (v : NamesView) (rates : List ℕ) (a : AnswerView) → HasVerbShape v (Eliminate rates) a
+    → verb_answer v (Eliminate rates) (kind_of_answer a) (answer_value text v a) ≡ Ok (written_answer a)
 eliminate_back text v rates (Yes proofs) fits = absurd fits
 eliminate_back text v rates (No back values) fits = absurd fits
 eliminate_back text v rates (Undecided cause) fits = undecided_back text v cause fits
@@ -254,7 +276,9 @@ eliminate_back text v rates (Region rows) fits = region_back text v rows (size_o
 eliminate_back text v rates (Contained parts proofs) fits = absurd fits
 eliminate_back text v rates (Open tried) fits = absurd fits
 
-contain_back : (text : List ℕ) (v : NamesView) (first second : RegionView) (tries : List (List ℕ)) (a : AnswerView) → HasVerbShape v (Contain first second tries) a → verb_answer v (Contain first second tries) (kind_of_answer a) (answer_value text v a) ≡ Ok (written_answer a)
+contain_back : (text : List ℕ) (v : NamesView) (first second : RegionView) (tries : List (List ℕ)) (a : AnswerView)
+    → HasVerbShape v (Contain first second tries) a → verb_answer v (Contain first second tries) (kind_of_answer a) (answer_value text v a)
+    ≡ Ok (written_answer a)
 contain_back text v first second tries (Yes proofs) fits = absurd fits
 contain_back text v first second tries (No back values) fits = absurd fits
 contain_back text v first second tries (Undecided cause) fits = absurd fits
@@ -262,12 +286,14 @@ contain_back text v first second tries (Region rows) fits = absurd fits
 contain_back text v first second tries (Contained parts proofs) fits = contained_back text v first second parts proofs fits
 contain_back text v first second tries (Open tried) fits = open_back text v tried fits
 
-verb_back : (text : List ℕ) (v : NamesView) (verb : VerbView) (a : AnswerView) → HasVerbShape v verb a → verb_answer v verb (kind_of_answer a) (answer_value text v a) ≡ Ok (written_answer a)
+verb_back : (text : List ℕ) (v : NamesView) (verb : VerbView) (a : AnswerView) → HasVerbShape v verb a
+    → verb_answer v verb (kind_of_answer a) (answer_value text v a) ≡ Ok (written_answer a)
 verb_back text v (Prove r) a fits = prove_back text v r a fits
 verb_back text v (Eliminate rates) a fits = eliminate_back text v rates a fits
 verb_back text v (Contain first second tries) a fits = contain_back text v first second tries a fits
 
-answer_back : (q : QuestionView) (a : AnswerView) → HasQuestionShape q.body a → verb_answer q.body.names q.body.verb (kind_of_answer a) (answer_value q.text q.body.names a) ≡ Ok (written_answer a)
+answer_back : (q : QuestionView) (a : AnswerView) → HasQuestionShape q.body a
+    → verb_answer q.body.names q.body.verb (kind_of_answer a) (answer_value q.text q.body.names a) ≡ Ok (written_answer a)
 unfolding HasQuestionShape
 answer_back q a fits = verb_back q.text q.body.names q.body.verb a fits
 
@@ -337,11 +363,14 @@ reads_back q a short file fits =
     record {
       own = Some (Text q);
       source = record { no_sharing = others.0; no_copies = others.1; text = q.text; there = text_back q.text q.body.names a; short = short; reads = file };
-      is = ap (λ b. cond b (Ok Misfit) (cond (tells_outer d) (bounded_of (Some (Text q)) d) (reading_by (Some (Text q)) (factor_kind_at d) d))) (no_misfit q.text q.body.names a)
+      is = ap (λ b. cond b (Ok Misfit) (cond (tells_outer d) (bounded_of (Some (Text q)) d)
+          (reading_by (Some (Text q)) (factor_kind_at d) d))) (no_misfit q.text q.body.names a)
           ∙ ap (λ b. cond b (bounded_of (Some (Text q)) d) (reading_by (Some (Text q)) (factor_kind_at d) d)) (no_bounds q.text q.body.names a)
           ∙ ap (λ k. reading_by (Some (Text q)) k d) (no_factor q.text q.body.names a)
-          ∙ ap (λ b. cond b (coded_of (Some (Text q)) d) (cond (tells_origins d) (derived_of (Some (Text q)) d) (answer_of (Some (Text q)) d))) (no_code q.text q.body.names a)
+          ∙ ap (λ b. cond b (coded_of (Some (Text q)) d) (cond (tells_origins d) (derived_of (Some (Text q)) d)
+          (answer_of (Some (Text q)) d))) (no_code q.text q.body.names a)
           ∙ ap (λ b. cond b (derived_of (Some (Text q)) d) (answer_of (Some (Text q)) d)) (no_origins q.text q.body.names a)
-          ∙ ap (λ k. and_then (ok_or k keys.Answer) (λ kind. and_then (verb_answer q.body.names q.body.verb kind d) (λ b. Ok (Answered (Text q) b)))) (answer_kind_back q.text q.body.names a)
+          ∙ ap (λ k. and_then (ok_or k keys.Answer) (λ kind. and_then (verb_answer q.body.names q.body.verb kind d)
+          (λ b. Ok (Answered (Text q) b)))) (answer_kind_back q.text q.body.names a)
           ∙ ap (λ r. and_then r (λ b. Ok (Answered (Text q) b))) (answer_back q a fits);
     }

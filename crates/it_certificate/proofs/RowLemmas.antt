@@ -23,8 +23,13 @@ row_ascends from low size (t ∷ ts) le is all =
     let h = both_true (nat_le from t.0 && (nat_le t.0 size && not (unsigned_abs t.1 == 0))) (is_row_between (t.0 + 1) size ts) is in
     let k = both_true (nat_le from t.0) (nat_le t.0 size && not (unsigned_abs t.1 == 0)) h.0 in
     let m = both_true (nat_le t.0 size) (not (unsigned_abs t.1 == 0)) k.1 in
-    let there : from ≤ t.0 = let e = k.0 in search (rules, e) in
-    (omega (arith, there, le), not_zero t.1 m.1, All-head (λ t. IsWithin t.1) t ts all, row_ascends (t.0 + 1) (t.0 + 1) size ts (omega arith) h.1 (All-tail (λ t. IsWithin t.1) t ts all))
+    let there : from ≤ t.0 = let e = k.0 in search (rules, e) in (
+      omega (arith, there, le),
+      not_zero t.1 m.1,
+      All-head (λ t. IsWithin t.1) t ts all,
+      row_ascends (t.0 + 1) (t.0 + 1) size ts
+          (omega arith) h.1 (All-tail (λ t. IsWithin t.1) t ts all),
+    )
 
 pub row_is_canonical : (size : ℕ) (ts : Terms) → is_row_between 1 size ts ≡ true → All (λ t. IsWithin t.1) ts → IsCanonical ts
 row_is_canonical size ts is all = row_ascends 1 0 size ts (omega arith) is all

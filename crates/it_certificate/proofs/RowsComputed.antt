@@ -17,7 +17,9 @@ use Rattle.it_certificate.specs.Rows.{NumbersReadAsSaid, TextsReadAsSaid, KindsR
 
 -- what unfolds to read a literal report
 unfoldable report_on_literals : ⊤
-unfolding serde_json_on_literals magnitude_of integer_of step_of integer_at count_at pair_at certificate_at answer_kind_at proofs_at point_at back_at cause_kind_at cause_at unmarked_row_at marked_row_at rows_at set_at parts_at no_at undecided_at contained_at obligation_count factor_kind_at tells_code tells_origins tells_misfit tells_outer source_key report_of
+unfolding serde_json_on_literals magnitude_of integer_of step_of integer_at count_at pair_at certificate_at answer_kind_at proofs_at
+    point_at back_at cause_kind_at cause_at unmarked_row_at marked_row_at rows_at set_at parts_at no_at undecided_at contained_at
+    obligation_count factor_kind_at tells_code tells_origins tells_misfit tells_outer source_key report_of
 report_on_literals = tt
 
 pub numbers_read_as_said : NumbersReadAsSaid

@@ -57,7 +57,9 @@ first_question a b e = cc
 
 -- ---- nothing
 
-nothing_is : (d : Data) → ((q : QuestionView) → IsQuestionText d q → ⊥) → ((q : QuestionView) (copies : List CopyView) → IsTextWithCopies d q copies → ⊥) → ((x : SharingView) → IsSharingText d x → ⊥) → IsSourceAt d None
+nothing_is : (d : Data) → ((q : QuestionView) → IsQuestionText d q → ⊥)
+    → ((q : QuestionView) (copies : List CopyView) → IsTextWithCopies d q copies → ⊥) → ((x : SharingView) → IsSharingText d x → ⊥)
+    → IsSourceAt d None
 nothing_is d t c s (Text q) h = t q h
 nothing_is d t c s (Copies q copies) h = c q copies h
 nothing_is d t c s (Sharing x) h = s x h
@@ -114,7 +116,8 @@ module _ (d : Data) (no_sharing : is_some (get (codes "sharing") d) ≡ false) (
 
     here_asks : (q : QuestionView) (copies : List CopyView) → IsTextWithCopies d q copies → AsksOnly (head ++ text) q copies
     here_asks q copies h =
-        subst (λ (t : List ℕ). AsksOnly t q copies) (ap₂ (λ (a b : List ℕ). a ++ b) (some_same h.head head (sym h.head_there ∙ sym head_is)) (some_same h.text text (sym h.text_there ∙ sym text_is))) h.asks
+        subst (λ (t : List ℕ). AsksOnly t q copies) (ap₂ (λ (a b : List ℕ). a ++ b) (some_same h.head head (sym h.head_there ∙ sym head_is))
+        (some_same h.text text (sym h.text_there ∙ sym text_is))) h.asks
 
     none_asked : ((q : QuestionView) (copies : List CopyView) → AsksOnly (head ++ text) q copies → ⊥) → IsSourceAt d None
     none_asked none = unless_copied (λ q copies h. none q copies (here_asks q copies h))
@@ -163,8 +166,10 @@ abbrev SourceThere : Data → Type 0
 SourceThere d = (o : Option Source) × IsSourceAt d o
 
 -- a question can have copies or it can't
-by_size : (q : BodyView) (copies : List CopyView) → IsProof q.verb → first_unplaced 1 q.names copies ≡ None → (length (extended q copies).lines.givens ≤ most_lines)
-    → (most_entries < table_size (problem_of_lines (problem_names (extended q copies)) (problem_lines (extended q copies)))) ⊎ (table_size (problem_of_lines (problem_names (extended q copies)) (problem_lines (extended q copies))) ≤ most_entries)
+by_size : (q : BodyView) (copies : List CopyView) → IsProof q.verb → first_unplaced 1 q.names copies ≡ None
+    → (length (extended q copies).lines.givens ≤ most_lines)
+    → (most_entries < table_size (problem_of_lines (problem_names (extended q copies)) (problem_lines (extended q copies))))
+    ⊎ (table_size (problem_of_lines (problem_names (extended q copies)) (problem_lines (extended q copies))) ≤ most_entries)
     → IsExtension q copies (extended q copies) ⊎ (IsExtension q copies (extended q copies) → ⊥)
 by_size q copies proof placed few (inl large) = inr (λ x. let small = x.small in omega (arith, large, small))
 by_size q copies proof placed few (inr small) = inl (record { made = record { proof = proof; placed = placed }; few = few; small = small; is = refl })
@@ -172,12 +177,15 @@ by_size q copies proof placed few (inr small) = inl (record { made = record { pr
 extension_or_not : (q : BodyView) (copies : List CopyView) → IsExtension q copies (extended q copies) ⊎ (IsExtension q copies (extended q copies) → ⊥)
 extension_or_not q copies = by_verb q.verb refl
   where
-    by_count : IsProof q.verb → first_unplaced 1 q.names copies ≡ None → (most_lines < length (extended q copies).lines.givens) ⊎ (length (extended q copies).lines.givens ≤ most_lines)
+    by_count : IsProof q.verb → first_unplaced 1 q.names copies ≡ None → (most_lines < length (extended q copies).lines.givens)
+        ⊎ (length (extended q copies).lines.givens ≤ most_lines)
         → IsExtension q copies (extended q copies) ⊎ (IsExtension q copies (extended q copies) → ⊥)
     by_count proof placed (inl many) = inr (λ x. let few = x.few in omega (arith, many, few))
-    by_count proof placed (inr few) = by_size q copies proof placed few (cases_lt most_entries (table_size (problem_of_lines (problem_names (extended q copies)) (problem_lines (extended q copies)))))
+    by_count proof placed (inr few) = by_size q copies proof placed few (cases_lt most_entries
+        (table_size (problem_of_lines (problem_names (extended q copies)) (problem_lines (extended q copies)))))
 
-    by_place : IsProof q.verb → (o : Option ℕ) → first_unplaced 1 q.names copies ≡ o → IsExtension q copies (extended q copies) ⊎ (IsExtension q copies (extended q copies) → ⊥)
+    by_place : IsProof q.verb → (o : Option ℕ) → first_unplaced 1 q.names copies ≡ o
+        → IsExtension q copies (extended q copies) ⊎ (IsExtension q copies (extended q copies) → ⊥)
     by_place proof None placed = by_count proof placed (cases_lt most_lines (length (extended q copies).lines.givens))
     by_place proof (Some k) unplaced = inr (λ x. let placed = x.made.placed in let e : Some k ≡ None = sym unplaced ∙ placed in cc)
 
@@ -187,11 +195,13 @@ extension_or_not q copies = by_verb q.verb refl
     by_verb (Contain first second tries) about = inr (λ x. subst IsProof about x.made.proof)
 
 -- bytes are a sharing file that makes a question, or they aren't
-by_sharing : (bytes : List ℕ) → length bytes ≤ 1048576 → ((x : SharingView) × IsSharingFile bytes x) ⊎ ((line : ℕ) × (column : ℕ) × (c : Code) × SharingFaultAt bytes line column c)
+by_sharing : (bytes : List ℕ) → length bytes ≤ 1048576 → ((x : SharingView) × IsSharingFile bytes x)
+    ⊎ ((line : ℕ) × (column : ℕ) × (c : Code) × SharingFaultAt bytes line column c)
     → ((x : SharingView) × IsMakeable bytes x) ⊎ ((x : SharingView) → IsMakeable bytes x → ⊥)
 by_sharing bytes short (inl h) = by_count (cases_lt most_lines (minimal_count h.0 + maximal_count h.0))
   where
-    by_count : (most_lines < minimal_count h.0 + maximal_count h.0) ⊎ (minimal_count h.0 + maximal_count h.0 ≤ most_lines) → ((x : SharingView) × IsMakeable bytes x) ⊎ ((x : SharingView) → IsMakeable bytes x → ⊥)
+    by_count : (most_lines < minimal_count h.0 + maximal_count h.0) ⊎ (minimal_count h.0 + maximal_count h.0 ≤ most_lines)
+        → ((x : SharingView) × IsMakeable bytes x) ⊎ ((x : SharingView) → IsMakeable bytes x → ⊥)
     by_count (inl many) = inr (λ x m.
         let few = subst (λ (y : SharingView). minimal_count y + maximal_count y ≤ most_lines) (sharing_is_one bytes x h.0 m.reads h.1) m.few in
         omega (arith, many, few))
@@ -199,7 +209,8 @@ by_sharing bytes short (inl h) = by_count (cases_lt most_lines (minimal_count h.
 by_sharing bytes short (inr h) = inr (λ x m. sharing_or_fault bytes x h.0 h.1 h.2 m.reads h.3)
 
 -- bytes ask for copies in one question, or they don't
-by_copies : (bytes : List ℕ) → length bytes ≤ 1048577 → ((copies : List CopyView) × (qs : List QuestionView) × IsCopyFile bytes copies qs) ⊎ ((line : ℕ) × (column : ℕ) × (c : Code) × CopyFileFaultAt bytes line column c)
+by_copies : (bytes : List ℕ) → length bytes ≤ 1048577 → ((copies : List CopyView) × (qs : List QuestionView) × IsCopyFile bytes copies qs)
+    ⊎ ((line : ℕ) × (column : ℕ) × (c : Code) × CopyFileFaultAt bytes line column c)
     → ((q : QuestionView) × (copies : List CopyView) × AsksOnly bytes q copies) ⊎ ((q : QuestionView) (copies : List CopyView) → AsksOnly bytes q copies → ⊥)
 by_copies bytes short (inl h) = by_questions h.1 refl
   where
@@ -207,25 +218,30 @@ by_copies bytes short (inl h) = by_questions h.1 refl
     other q copies a = copy_file_is_one bytes copies h.0 (q ∷ []) h.1 a.reads h.2
 
     by_extension : (q : QuestionView) → h.1 ≡ q ∷ [] → IsExtension q.body h.0 (extended q.body h.0) ⊎ (IsExtension q.body h.0 (extended q.body h.0) → ⊥)
-        → ((q : QuestionView) × (copies : List CopyView) × AsksOnly bytes q copies) ⊎ ((q : QuestionView) (copies : List CopyView) → AsksOnly bytes q copies → ⊥)
+        → ((q : QuestionView) × (copies : List CopyView) × AsksOnly bytes q copies)
+        ⊎ ((q : QuestionView) (copies : List CopyView) → AsksOnly bytes q copies → ⊥)
     by_extension q e (inl x) = inl (q, h.0, record { short = short; reads = subst (IsCopyFile bytes h.0) e h.2; extension = x })
     by_extension q e (inr none) = inr (λ p copies a.
         let same = other p copies a in
         let first : p ≡ q = first_question p q (same.1 ∙ e) in
-        none (subst (λ (z : QuestionView). IsExtension z.body h.0 (extended z.body h.0)) first (subst (λ (cs : List CopyView). IsExtension p.body cs (extended p.body cs)) same.0 a.extension)))
+        none (subst (λ (z : QuestionView). IsExtension z.body h.0 (extended z.body h.0)) first
+        (subst (λ (cs : List CopyView). IsExtension p.body cs (extended p.body cs)) same.0 a.extension)))
 
-    by_questions : (qs : List QuestionView) → h.1 ≡ qs → ((q : QuestionView) × (copies : List CopyView) × AsksOnly bytes q copies) ⊎ ((q : QuestionView) (copies : List CopyView) → AsksOnly bytes q copies → ⊥)
+    by_questions : (qs : List QuestionView) → h.1 ≡ qs → ((q : QuestionView) × (copies : List CopyView) × AsksOnly bytes q copies)
+        ⊎ ((q : QuestionView) (copies : List CopyView) → AsksOnly bytes q copies → ⊥)
     by_questions [] e = inr (λ q copies a. let same : q ∷ [] ≡ [] = (other q copies a).1 ∙ e in cc)
     by_questions (q ∷ []) e = by_extension q e (extension_or_not q.body h.0)
     by_questions (q ∷ r ∷ qs) e = inr (λ p copies a. let same : p ∷ [] ≡ q ∷ r ∷ qs = (other p copies a).1 ∙ e in cc)
 by_copies bytes short (inr h) = inr (λ q copies a. copy_file_or_fault bytes copies (q ∷ []) h.0 h.1 h.2 a.reads h.3)
 
 -- a text reads as one question, or it doesn't
-by_file : (text : List ℕ) → length text ≤ 1048577 → ((qs : List QuestionView) × IsFile text qs) ⊎ ((line : ℕ) × (column : ℕ) × (c : Code) × FileFaultAt text line column c)
+by_file : (text : List ℕ) → length text ≤ 1048577 → ((qs : List QuestionView) × IsFile text qs)
+    ⊎ ((line : ℕ) × (column : ℕ) × (c : Code) × FileFaultAt text line column c)
     → ((q : QuestionView) × IsFile text (q ∷ [])) ⊎ ((q : QuestionView) → length text ≤ 1048577 → IsFile text (q ∷ []) → ⊥)
 by_file text short (inl h) = by_questions h.0 h.1
   where
-    by_questions : (qs : List QuestionView) → IsFile text qs → ((q : QuestionView) × IsFile text (q ∷ [])) ⊎ ((q : QuestionView) → length text ≤ 1048577 → IsFile text (q ∷ []) → ⊥)
+    by_questions : (qs : List QuestionView) → IsFile text qs → ((q : QuestionView) × IsFile text (q ∷ []))
+        ⊎ ((q : QuestionView) → length text ≤ 1048577 → IsFile text (q ∷ []) → ⊥)
     by_questions [] file = inr (λ q le one. let e = ap length (file_is_one text [] (q ∷ []) file one) in omega (arith, e))
     by_questions (q ∷ []) file = inl (q, file)
     by_questions (q ∷ r ∷ qs) file = inr (λ p le one. let e = ap length (file_is_one text (q ∷ r ∷ qs) (p ∷ []) file one) in omega (arith, e))
@@ -248,7 +264,8 @@ copies_there d no_sharing there None p e f = (None, no_head_given d no_sharing t
 copies_there d no_sharing there (Some head) None e f = (None, no_question_given d no_sharing there (sym f))
 copies_there d no_sharing there (Some head) (Some text) e f = by_length (cases_lt 1048577 (length (head ++ text)))
   where
-    by_reading : ((q : QuestionView) × (copies : List CopyView) × AsksOnly (head ++ text) q copies) ⊎ ((q : QuestionView) (copies : List CopyView) → AsksOnly (head ++ text) q copies → ⊥) → SourceThere d
+    by_reading : ((q : QuestionView) × (copies : List CopyView) × AsksOnly (head ++ text) q copies)
+        ⊎ ((q : QuestionView) (copies : List CopyView) → AsksOnly (head ++ text) q copies → ⊥) → SourceThere d
     by_reading (inl h) = (Some (Copies h.0 h.1), asks_here d no_sharing there head text (sym e) (sym f) h.0 h.1 h.2)
     by_reading (inr none) = (None, none_asked d no_sharing there head text (sym e) (sym f) none)
 
@@ -260,7 +277,8 @@ text_there : (d : Data) → is_some (get (codes "sharing") d) ≡ false → is_s
 text_there d no_sharing no_copies None e = (None, no_text_given d no_sharing no_copies (sym e))
 text_there d no_sharing no_copies (Some text) e = by_length (cases_lt 1048577 (length text))
   where
-    by_reading : length text ≤ 1048577 → ((q : QuestionView) × IsFile text (q ∷ [])) ⊎ ((q : QuestionView) → length text ≤ 1048577 → IsFile text (q ∷ []) → ⊥) → SourceThere d
+    by_reading : length text ≤ 1048577 → ((q : QuestionView) × IsFile text (q ∷ []))
+        ⊎ ((q : QuestionView) → length text ≤ 1048577 → IsFile text (q ∷ []) → ⊥) → SourceThere d
     by_reading short (inl h) = (Some (Text h.0), text_here d no_sharing no_copies text (sym e) h.0 short h.1)
     by_reading short (inr none) = (None, none_in_text d no_sharing no_copies text (sym e) none)
 
@@ -295,7 +313,8 @@ one_source d (Text p) (Sharing x) h k = absurd (text_or_none (get (codes "sharin
 one_source d (Copies p copies) (Text q) h k = absurd (text_or_none (get (codes "copies") d) h.head k.no_copies h.head_there)
 one_source d (Copies p copies) (Copies q others) h k =
     let e : k.head ++ k.text ≡ h.head ++ h.text = ap₂ (λ (a b : List ℕ). a ++ b) (one_text (get (codes "copies") d) h.head k.head h.head_there k.head_there) (one_text (get (codes "question") d) h.text k.text h.text_there k.text_there) in
-    let same = copy_file_is_one (h.head ++ h.text) copies others (p ∷ []) (q ∷ []) h.asks.reads (subst (λ (t : List ℕ). IsCopyFile t others (q ∷ [])) e k.asks.reads) in
+    let same = copy_file_is_one (h.head ++ h.text) copies others (p ∷ []) (q ∷ []) h.asks.reads
+    (subst (λ (t : List ℕ). IsCopyFile t others (q ∷ [])) e k.asks.reads) in
     ap₂ Copies (first_question p q same.1) same.0
 one_source d (Copies p copies) (Sharing x) h k = absurd (text_or_none (get (codes "sharing") d) k.text h.no_sharing k.there)
 one_source d (Sharing x) (Text q) h k = absurd (text_or_none (get (codes "sharing") d) h.text k.no_sharing h.there)
@@ -307,14 +326,16 @@ one_source d (Sharing x) (Sharing y) h k = ap Sharing (sharing_is_one h.text x y
 pub made_long : (bytes : List ℕ) → 1048576 < length bytes → GivesMade bytes (Err refusals.Shape)
 made_long bytes long = λ x h. let short = h.short in omega (arith, short, long)
 
-pub made_by_file : (bytes : List ℕ) (x : SharingView) (r : Result Question Refusal) → length bytes ≤ 1048576 → IsSharingFile bytes x → GivesMadeFrom x r → GivesMade bytes r
+pub made_by_file : (bytes : List ℕ) (x : SharingView) (r : Result Question Refusal) → length bytes ≤ 1048576 → IsSharingFile bytes x
+    → GivesMadeFrom x r → GivesMade bytes r
 made_by_file bytes x (Ok q) short file gives = (x, record { short = short; reads = file; few = gives.0 }, gives.1)
 made_by_file bytes x (Err refusals.Shape) short file many = λ y h.
     let few = subst (λ (z : SharingView). minimal_count z + maximal_count z ≤ most_lines) (sharing_is_one bytes y x h.reads file) h.few in
     omega (arith, many, few)
 made_by_file bytes x (Err refusals.Memory) short file gives = tt
 
-pub made_fault : (bytes : List ℕ) (f : FileFault) (line column : ℕ) (code : Code) → f ≡ Fault line column code → IsFirstSharingFault bytes f → GivesMade bytes (Err refusals.Shape)
+pub made_fault : (bytes : List ℕ) (f : FileFault) (line column : ℕ) (code : Code) → f ≡ Fault line column code → IsFirstSharingFault bytes f
+    → GivesMade bytes (Err refusals.Shape)
 made_fault bytes f line column code e at =
     let here : SharingFaultAt bytes line column code = subst (IsFirstSharingFault bytes) e at in
     λ x h. sharing_or_fault bytes x line column code h.reads here
@@ -322,7 +343,8 @@ made_fault bytes f line column code e at =
 pub copied_long : (bytes : List ℕ) → 1048577 < length bytes → GivesCopied bytes (Err refusals.Shape)
 copied_long bytes long = λ q copies h. let short = h.short in omega (arith, short, long)
 
-pub copied_by_file : (bytes : List ℕ) (copies : List CopyView) (qs : List QuestionView) (r : Result Question Refusal) → length bytes ≤ 1048577 → IsCopyFile bytes copies qs → GivesExtended copies qs r → GivesCopied bytes r
+pub copied_by_file : (bytes : List ℕ) (copies : List CopyView) (qs : List QuestionView) (r : Result Question Refusal)
+    → length bytes ≤ 1048577 → IsCopyFile bytes copies qs → GivesExtended copies qs r → GivesCopied bytes r
 copied_by_file bytes copies qs (Ok e) short file gives =
     (gives.0, copies, record { short = short; reads = subst (IsCopyFile bytes copies) gives.1 file; extension = gives.2 }, gives.3)
 copied_by_file bytes copies qs (Err refusals.Shape) short file none = λ q others h.
@@ -330,7 +352,8 @@ copied_by_file bytes copies qs (Err refusals.Shape) short file none = λ q other
     none q (sym same.1) (subst (λ (cs : List CopyView). IsExtension q.body cs (extended q.body cs)) same.0 h.extension)
 copied_by_file bytes copies qs (Err refusals.Memory) short file gives = tt
 
-pub copied_fault : (bytes : List ℕ) (f : FileFault) (line column : ℕ) (code : Code) → f ≡ Fault line column code → IsFirstCopyFault bytes f → GivesCopied bytes (Err refusals.Shape)
+pub copied_fault : (bytes : List ℕ) (f : FileFault) (line column : ℕ) (code : Code) → f ≡ Fault line column code → IsFirstCopyFault bytes f
+    → GivesCopied bytes (Err refusals.Shape)
 copied_fault bytes f line column code e at =
     let here : CopyFileFaultAt bytes line column code = subst (IsFirstCopyFault bytes) e at in
     λ q copies h. copy_file_or_fault bytes copies (q ∷ []) line column code h.reads here
@@ -345,21 +368,31 @@ module _ (copies : List CopyView) (qs : List Question) where
   pub not_one : (length qs ≡ 1 → ⊥) → GivesExtended copies (map question_view qs) (Err refusals.Shape)
   not_one other = λ q e x. other (sym (length-map qs question_view) ∙ ap length e)
 
-  pub extended_only : (q e : Question) → length qs ≡ 1 → q ≡ get_or qs 0 q → IsExtension (question_body q) copies (question_body e) → (question_view e).text ≡ [] → GivesExtended copies (map question_view qs) (Ok e)
-  extended_only q e one is x text =
-      (question_view q, only_one qs q one is, subst (IsExtension (question_body q) copies) x.is x, ap₂ (λ (body : BodyView) (text : List ℕ). record { body = body; text = text }) (sym x.is) (sym text))
+  pub extended_only : (q e : Question) → length qs ≡ 1 → q ≡ get_or qs 0 q → IsExtension (question_body q) copies (question_body e)
+      → (question_view e).text ≡ [] → GivesExtended copies (map question_view qs) (Ok e)
+  extended_only q e one is x text = (
+    question_view q,
+    only_one qs q one is,
+    subst (IsExtension (question_body q) copies) x.is x,
+    ap₂
+        (λ (body : BodyView) (text : List ℕ). record { body = body; text = text }) (sym x.is) (sym text),
+  )
 
-  none_only : (q : Question) (f : CopyFault) → length qs ≡ 1 → q ≡ get_or qs 0 q → (f ≡ copy_faults.Memory → ⊥) → IsMisfit (question_body q) copies f → GivesExtended copies (map question_view qs) (Err refusals.Shape)
+  none_only : (q : Question) (f : CopyFault) → length qs ≡ 1 → q ≡ get_or qs 0 q → (f ≡ copy_faults.Memory → ⊥)
+      → IsMisfit (question_body q) copies f → GivesExtended copies (map question_view qs) (Err refusals.Shape)
   none_only q f one is told misfit = λ p e x.
       let same : p ≡ question_view q = first_question p (question_view q) (sym e ∙ only_one qs q one is) in
-      extension_or_misfit (question_body q) (extended (question_body q) copies) copies f told (subst (λ (z : QuestionView). IsExtension z.body copies (extended z.body copies)) same x) misfit
+      extension_or_misfit (question_body q) (extended (question_body q) copies) copies f told
+      (subst (λ (z : QuestionView). IsExtension z.body copies (extended z.body copies)) same x) misfit
 
-  by_fault : (q : Question) (f : CopyFault) → length qs ≡ 1 → q ≡ get_or qs 0 q → IsMisfit (question_body q) copies f → GivesExtended copies (map question_view qs) (Err (refusal_by f))
+  by_fault : (q : Question) (f : CopyFault) → length qs ≡ 1 → q ≡ get_or qs 0 q → IsMisfit (question_body q) copies f
+      → GivesExtended copies (map question_view qs) (Err (refusal_by f))
   by_fault q copy_faults.Memory one is misfit = tt
   by_fault q copy_faults.Verb one is misfit = none_only q copy_faults.Verb one is (λ e. cc) misfit
   by_fault q (copy_faults.Copy k) one is misfit = none_only q (copy_faults.Copy k) one is (λ e. cc) misfit
   by_fault q copy_faults.Many one is misfit = none_only q copy_faults.Many one is (λ e. cc) misfit
   by_fault q copy_faults.Large one is misfit = none_only q copy_faults.Large one is (λ e. cc) misfit
 
-  pub misfit_only : (q : Question) (f : CopyFault) (r : Refusal) → length qs ≡ 1 → q ≡ get_or qs 0 q → r ≡ refusal_by f → IsMisfit (question_body q) copies f → GivesExtended copies (map question_view qs) (Err r)
+  pub misfit_only : (q : Question) (f : CopyFault) (r : Refusal) → length qs ≡ 1 → q ≡ get_or qs 0 q → r ≡ refusal_by f
+      → IsMisfit (question_body q) copies f → GivesExtended copies (map question_view qs) (Err r)
   misfit_only q f r one is e misfit = subst (λ (s : Refusal). GivesExtended copies (map question_view qs) (Err s)) (sym e) (by_fault q f one is misfit)

@@ -47,13 +47,17 @@ use Rattle.it_certificate.specs.Sources.{IsSourceOf, Source, Text, Copies, Shari
 
 copy_file_small : Always copy_file (λ p y. AreSmall p → Every QuestionHasSmallNumbers y.1)
 unfolding copy_file Always
-copy_file_small = always_any (more_copies []) _ (λ p copies. always_weaker file _ _ (λ q ys h small. h (front_small q [] (rest_small p (q ++ []) small))) file_small)
+copy_file_small = always_any (more_copies []) _ (λ p copies. always_weaker file _ _
+    (λ q ys h small. h (front_small q [] (rest_small p (q ++ []) small))) file_small)
 
-pub copied_questions_have_small_numbers : (bytes : List ℕ) (copies : List CopyView) (qs : List QuestionView) → IsCopyFile bytes copies qs → Every (λ (q : QuestionView). QuestionHasSmallNumbers q.body) qs
+pub copied_questions_have_small_numbers : (bytes : List ℕ) (copies : List CopyView) (qs : List QuestionView) → IsCopyFile bytes copies qs
+    → Every (λ (q : QuestionView). QuestionHasSmallNumbers q.body) qs
 copied_questions_have_small_numbers bytes copies qs asked =
     let small = lines_small 1 (split_lines bytes) asked.lines asked.cut in
-    let all = always_said copy_file _ copy_file_has (λ p y. AreSmall p → Every QuestionHasSmallNumbers y.1) copy_file_small (letters_of_lines asked.lines) asked.tree.0 (said copy_file copies_with_questions bytes (copies, qs) asked) small in
-    subst (λ (w : List CopyView × List QuestionView). Every (λ (q : QuestionView). QuestionHasSmallNumbers q.body) w.1) asked.says (texts_apart (drop (length asked.tree.0.0) asked.lines) asked.tree.0.1 all)
+    let all = always_said copy_file _ copy_file_has (λ p y. AreSmall p → Every QuestionHasSmallNumbers y.1) copy_file_small
+    (letters_of_lines asked.lines) asked.tree.0 (said copy_file copies_with_questions bytes (copies, qs) asked) small in
+    subst (λ (w : List CopyView × List QuestionView). Every (λ (q : QuestionView). QuestionHasSmallNumbers q.body) w.1) asked.says
+    (texts_apart (drop (length asked.tree.0.0) asked.lines) asked.tree.0.1 all)
 
 -- ---- with copies
 
@@ -67,7 +71,8 @@ apart_small n over = ((lit< tt, tt), (lit< tt, tt))
 
 copy_small : (n a over : ℕ) → Every GivenHasSmallNumbers (copy_equations n a over)
 unfolding copy_equations
-copy_small n a over = every-append GivenHasSmallNumbers (inside_equations n a over (span 0 (over + 1))) (apart_equation n over ∷ []) (inside_small n a (filter (λ s. is_inside s over) (span 0 (over + 1)))) (apart_small n over, tt)
+copy_small n a over = every-append GivenHasSmallNumbers (inside_equations n a over (span 0 (over + 1))) (apart_equation n over ∷ [])
+    (inside_small n a (filter (λ s. is_inside s over) (span 0 (over + 1)))) (apart_small n over, tt)
 
 placed_small : (v : NamesView) (o : Option (ℕ × ℕ)) → Every GivenHasSmallNumbers (option_map_or (λ (x : ℕ × ℕ). equations_at v x) o [])
 placed_small v None = tt
@@ -75,17 +80,26 @@ placed_small v (Some x) = copy_small (length v.variables) x.0 x.1
 
 equations_small : (v : NamesView) (cs : List CopyView) → Every GivenHasSmallNumbers (equations_of v cs)
 equations_small v [] = tt
-equations_small v (c ∷ cs) = every-append GivenHasSmallNumbers (option_map_or (λ (x : ℕ × ℕ). equations_at v x) (placed v c) []) (equations_of (with_copy v c) cs) (placed_small v (placed v c)) (equations_small (with_copy v c) cs)
+equations_small v (c ∷ cs) = every-append GivenHasSmallNumbers (option_map_or (λ (x : ℕ × ℕ). equations_at v x) (placed v c) [])
+    (equations_of (with_copy v c) cs) (placed_small v (placed v c)) (equations_small (with_copy v c) cs)
 
 pub extended_has_small_numbers : (q : BodyView) (cs : List CopyView) → QuestionHasSmallNumbers q → QuestionHasSmallNumbers (extended q cs)
-extended_has_small_numbers q cs small = ((every-append GivenHasSmallNumbers q.lines.givens (equations_of q.names cs) small.0.0 (equations_small q.names cs), small.0.1), small.1)
+extended_has_small_numbers q cs small = (
+  (
+    every-append GivenHasSmallNumbers q.lines.givens (equations_of q.names cs) small.0.0
+        (equations_small q.names cs),
+    small.0.1,
+  ),
+  small.1,
+)
 
 -- ---- the relation of a file
 
 bound_small : (s : Scope) → Always (bound s) (λ p r. AreSmall p → HasSmallNumbers r)
 unfolding bound Always
 bound_small s = always_weaker (sum most_terms 1 s) _ _
-    (λ p left hl l e u. always_weaker (sum (most_terms - length left) (multiple_from 1 left) s) _ _ (λ q right hr small. (hl (front_small p _ small), hr (front_small q _ (rest_small (l ∷ []) _ (rest_small p _ small)))))
+    (λ p left hl l e u. always_weaker (sum (most_terms - length left) (multiple_from 1 left) s) _ _
+    (λ q right hr small. (hl (front_small p _ small), hr (front_small q _ (rest_small (l ∷ []) _ (rest_small p _ small)))))
     (sum_small (most_terms - length left) (multiple_from 1 left) s)) (sum_small most_terms 1 s)
 
 bound_line_small : (v : NamesView) → Always (to_end (bound (scope_of v true))) (λ p r. AreSmall p → HasSmallNumbers r)
@@ -95,8 +109,12 @@ bound_line_small v = always_weaker (bound (scope_of v true)) _ _ (λ p r h l e u
 aim_small : (v : NamesView) → Always (aim v) (λ p x. AreSmall p → HasSmallNumbers x.1)
 unfolding aim Always
 aim_small v = (
-  λ l e u. always_weaker (to_end (relation (scope_of v true))) (λ p r. AreSmall p → HasSmallNumbers r) (λ p r. AreSmall ((l ∷ []) ++ (p ++ [])) → HasSmallNumbers r) (λ p r h small. h (front_small p [] (rest_small (l ∷ []) (p ++ []) small))) (relation_line_small v),
-  λ l e u. always_weaker (to_end (bound (scope_of v true))) (λ p r. AreSmall p → HasSmallNumbers r) (λ p r. AreSmall ((l ∷ []) ++ (p ++ [])) → HasSmallNumbers r) (λ p r h small. h (front_small p [] (rest_small (l ∷ []) (p ++ []) small))) (bound_line_small v),
+  λ l e u. always_weaker (to_end (relation (scope_of v true))) (λ p r. AreSmall p → HasSmallNumbers r)
+      (λ p r. AreSmall ((l ∷ []) ++ (p ++ [])) → HasSmallNumbers r) (λ p r h small. h
+      (front_small p [] (rest_small (l ∷ []) (p ++ []) small))) (relation_line_small v),
+  λ l e u. always_weaker (to_end (bound (scope_of v true))) (λ p r. AreSmall p → HasSmallNumbers r)
+      (λ p r. AreSmall ((l ∷ []) ++ (p ++ [])) → HasSmallNumbers r) (λ p r h small. h
+      (front_small p [] (rest_small (l ∷ []) (p ++ []) small))) (bound_line_small v),
 )
 
 -- a fact of a form after another one, whatever that one read
@@ -105,7 +123,8 @@ unfolding Always
 then_any f g P each = always_any f (λ p a. Always (g a) (λ q y. P (p ++ q) y)) each
 
 -- a fact of a form after another one that always has a fact
-then_by : {A B : Type 0} (f : Form A) (g : A → Form B) (F : Fact A) (P : Fact B) → Always f F → ((p : List Letter) (a : A) → F p a → Always (g a) (λ q y. P (p ++ q) y)) → Always (Then f g) P
+then_by : {A B : Type 0} (f : Form A) (g : A → Form B) (F : Fact A) (P : Fact B) → Always f F
+    → ((p : List Letter) (a : A) → F p a → Always (g a) (λ q y. P (p ++ q) y)) → Always (Then f g) P
 unfolding Always
 then_by f g F P h each = always_weaker f F (λ p a. Always (g a) (λ q y. P (p ++ q) y)) each h
 
@@ -120,13 +139,15 @@ sharing_small =
     then_any (Take (word (codes "parties"))) _ _ (λ l u. then_any (party_names secret) _ _ (λ q all.
     then_any (Take (word (codes "qualified"))) _ _ (λ m u. then_any (to_end (names (party_env all))) _ _ (λ r first.
     then_any (more_lists (party_env all) (first ∷ [])) _ _ (λ s lists. then_by (aim all) _ _ _ (aim_small all) (λ t asked h. then_any file_end _ _ (λ n u.
-    give_is _ _ (λ small. h (front_small t _ (rest_small s _ (rest_small r _ (rest_small m _ (rest_small q _ (rest_small l _ (rest_small p _ (rest_small k _ small))))))))))))))))))
+    give_is _ _ (λ small. h (front_small t _ (rest_small s _ (rest_small r _
+    (rest_small m _ (rest_small q _ (rest_small l _ (rest_small p _ (rest_small k _ small))))))))))))))))))
 
 relation_of_file : (bytes : List ℕ) (x : SharingView) → IsSharingFile bytes x → HasSmallNumbers x.relation
 relation_of_file bytes x asked =
     let small = lines_small 1 (split_lines bytes) asked.lines asked.cut in
     subst (λ (y : SharingView). HasSmallNumbers y.relation) asked.says
-    (always_said sharing _ sharing_has (λ p y. AreSmall p → HasSmallNumbers y.relation) sharing_small (letters_of_lines asked.lines) asked.tree.0 (said sharing (λ lines y. y) bytes x asked) small)
+    (always_said sharing _ sharing_has (λ p y. AreSmall p → HasSmallNumbers y.relation) sharing_small
+    (letters_of_lines asked.lines) asked.tree.0 (said sharing (λ lines y. y) bytes x asked) small)
 
 -- ---- the question that is made
 
@@ -140,7 +161,8 @@ hidden_small (s ∷ sets) = (((lit< tt, tt), (lit< tt, tt)), hidden_small sets)
 
 givens_small : (n : ℕ) (listed : List ℕ) → Every GivenHasSmallNumbers (made_givens n listed)
 unfolding made_givens
-givens_small n listed = every-append GivenHasSmallNumbers (map knows (minimal_sets listed)) (map knows_nothing (maximal_sets n listed)) (known_small (minimal_sets listed)) (hidden_small (maximal_sets n listed))
+givens_small n listed = every-append GivenHasSmallNumbers (map knows (minimal_sets listed)) (map knows_nothing (maximal_sets n listed))
+    (known_small (minimal_sets listed)) (hidden_small (maximal_sets n listed))
 
 pub made_question_has_small_numbers : (bytes : List ℕ) (x : SharingView) → IsSharingFile bytes x → QuestionHasSmallNumbers (made_question x).body
 unfolding made_question
@@ -154,11 +176,13 @@ first_of P q h = h.0
 pub source_limits : (d : Data) (source : Source) → IsSourceOf d source → IsQuestion (asked source).body
 source_limits d (Text q) h = All-head (λ (q : QuestionView). IsQuestion q.body) q [] (file_limits h.text (q ∷ []) h.reads)
 source_limits d (Copies q copies) h =
-    extended_is_question q.body copies (All-head (λ (q : QuestionView). IsQuestion q.body) q [] (copied_questions_are_within (h.head ++ h.text) copies (q ∷ []) h.asks.reads)) h.asks.extension.made h.asks.extension.few
+    extended_is_question q.body copies (All-head (λ (q : QuestionView). IsQuestion q.body) q []
+    (copied_questions_are_within (h.head ++ h.text) copies (q ∷ []) h.asks.reads)) h.asks.extension.made h.asks.extension.few
 source_limits d (Sharing x) h = question_limited x (sharing_is_within h.text x h.makes.reads).0 h.makes.few
 
 pub source_numbers : (d : Data) (source : Source) → IsSourceOf d source → QuestionHasSmallNumbers (asked source).body
 source_numbers d (Text q) h = first_of (λ (q : QuestionView). QuestionHasSmallNumbers q.body) q (file_has_small_numbers h.text (q ∷ []) h.reads)
 source_numbers d (Copies q copies) h =
-    extended_has_small_numbers q.body copies (first_of (λ (q : QuestionView). QuestionHasSmallNumbers q.body) q (copied_questions_have_small_numbers (h.head ++ h.text) copies (q ∷ []) h.asks.reads))
+    extended_has_small_numbers q.body copies (first_of (λ (q : QuestionView). QuestionHasSmallNumbers q.body) q
+    (copied_questions_have_small_numbers (h.head ++ h.text) copies (q ∷ []) h.asks.reads))
 source_numbers d (Sharing x) h = made_question_has_small_numbers h.text x h.makes.reads

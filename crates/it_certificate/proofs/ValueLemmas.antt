@@ -63,12 +63,14 @@ answer_no_float v (Yes proofs) = or_none _ false (items_no_float proof_value pro
 answer_no_float v (No back values) = or_none _ false (items_no_float integer_value (λ z. refl) values) refl
 answer_no_float v (Undecided cause) = refl
 answer_no_float v (Region rows) = or_none _ false (items_no_float row_value row_no_float rows) refl
-answer_no_float v (Contained parts proofs) = or_none _ _ (items_no_float count_value (λ n. refl) parts) (or_none _ false (items_no_float proof_value proof_no_float proofs) refl)
+answer_no_float v (Contained parts proofs) = or_none _ _ (items_no_float count_value (λ n. refl) parts)
+    (or_none _ false (items_no_float proof_value proof_no_float proofs) refl)
 answer_no_float v (Open tried) = refl
 
 pub best_no_float : (best : BestView) → members_have_float (best_members best) ≡ false
 unfolding best_members ratio_value
-best_no_float (Least num den proof values) = or_none _ _ (items_no_float integer_value (λ z. refl) values) (or_none _ false (items_no_float proof_value proof_no_float (proof ∷ [])) refl)
+best_no_float (Least num den proof values) = or_none _ _ (items_no_float integer_value (λ z. refl) values)
+    (or_none _ false (items_no_float proof_value proof_no_float (proof ∷ [])) refl)
 best_no_float (Never values) = or_none _ false (items_no_float integer_value (λ z. refl) values) refl
 best_no_float (Unbounded num den proof below) = or_none _ false (items_no_float proof_value proof_no_float (proof ∷ below ∷ [])) refl
 best_no_float (bests.Undecided cause) = refl
@@ -84,7 +86,8 @@ rest_none true b e = let f : true ≡ false = e in absurd cc
 
 put_no_float : (key : List ℕ) (d : Data) (ms : Members) → has_float d ≡ false → members_have_float ms ≡ false → members_have_float (put key d ms) ≡ false
 put_no_float key d no_members own none = or_none (has_float d) false own refl
-put_no_float key d (member l e ms) own none = by_order (slice_cmp nat_cmp key l) (put_no_float key d ms own (rest_none (has_float e) (members_have_float ms) none))
+put_no_float key d (member l e ms) own none = by_order (slice_cmp nat_cmp key l)
+    (put_no_float key d ms own (rest_none (has_float e) (members_have_float ms) none))
   where
     by_order : (o : Ordering) → members_have_float (put key d ms) ≡ false
         → members_have_float (match_ordering o (member key d (member l e ms)) (member l d ms) (member l e (put key d ms))) ≡ false
@@ -144,28 +147,33 @@ derived_shallow text v rows ws =
     let e = items_shallow proof_value 3 proof_shallow ws in
     let f = items_shallow row_value 3 row_shallow rows in omega (arith, e, f)
 
-pub line_is : (source : SourceTexts) (ms : Members) (d : Data) (text : List ℕ) → members_have_float ms ≡ false → d ≡ object (with_source source ms) → (has_float d ≡ false → text ≡ compact_text d) → text ≡ report_text source ms
+pub line_is : (source : SourceTexts) (ms : Members) (d : Data) (text : List ℕ) → members_have_float ms ≡ false
+    → d ≡ object (with_source source ms) → (has_float d ≡ false → text ≡ compact_text d) → text ≡ report_text source ms
 unfolding report_text
 line_is source ms d text none is h = h (ap has_float is ∙ source_no_float source ms none) ∙ ap compact_text is
 
-pub text_is : {E : Type 0} {S : Type 0} (bytes : S → List ℕ) (text : List ℕ) (v : NamesView) (a : AnswerView) (d : Data) (out : Result S E) → d ≡ answer_value text v a
+pub text_is : {E : Type 0} {S : Type 0} (bytes : S → List ℕ) (text : List ℕ) (v : NamesView) (a : AnswerView) (d : Data) (out : Result S E)
+    → d ≡ answer_value text v a
     → IfOk out (λ s. has_float d ≡ false → bytes s ≡ compact_text d) → IfOk out (λ s. bytes s ≡ answer_text text v a)
 unfolding answer_text
 text_is bytes text v a d (Ok s) is h = h (ap has_float is ∙ no_float text v a) ∙ ap compact_text is
 text_is bytes text v a d (Err e) is h = tt
 
-pub back_is : {E : Type 0} {S : Type 0} (bytes : S → List ℕ) (text : List ℕ) (v : NamesView) (a : AnswerView) (d : Data) (out : Result S E) → d ≡ answer_value text v a
+pub back_is : {E : Type 0} {S : Type 0} (bytes : S → List ℕ) (text : List ℕ) (v : NamesView) (a : AnswerView) (d : Data) (out : Result S E)
+    → d ≡ answer_value text v a
     → IfOk out (λ s. depth d ≤ 127 → read (bytes s) ≡ Some d) → IfOk out (λ s. read (bytes s) ≡ Some (answer_value text v a))
 back_is bytes text v a d (Ok s) is h = h (subst (λ (e : Data). depth e ≤ 127) (sym is) (answer_shallow text v a)) ∙ ap Some is
 back_is bytes text v a d (Err e) is h = tt
 
-pub derived_text_is : {E : Type 0} {S : Type 0} (bytes : S → List ℕ) (text : List ℕ) (v : NamesView) (rows : List (Mark × Terms)) (ws : List CertificateView) (d : Data) (out : Result S E) → d ≡ derived_value text v rows ws
+pub derived_text_is : {E : Type 0} {S : Type 0} (bytes : S → List ℕ) (text : List ℕ) (v : NamesView) (rows : List (Mark × Terms))
+    (ws : List CertificateView) (d : Data) (out : Result S E) → d ≡ derived_value text v rows ws
     → IfOk out (λ s. has_float d ≡ false → bytes s ≡ compact_text d) → IfOk out (λ s. bytes s ≡ derived_text text v rows ws)
 unfolding derived_text
 derived_text_is bytes text v rows ws d (Ok s) is h = h (ap has_float is ∙ derived_no_float text v rows ws) ∙ ap compact_text is
 derived_text_is bytes text v rows ws d (Err e) is h = tt
 
-pub derived_back_is : {E : Type 0} {S : Type 0} (bytes : S → List ℕ) (text : List ℕ) (v : NamesView) (rows : List (Mark × Terms)) (ws : List CertificateView) (d : Data) (out : Result S E) → d ≡ derived_value text v rows ws
+pub derived_back_is : {E : Type 0} {S : Type 0} (bytes : S → List ℕ) (text : List ℕ) (v : NamesView) (rows : List (Mark × Terms))
+    (ws : List CertificateView) (d : Data) (out : Result S E) → d ≡ derived_value text v rows ws
     → IfOk out (λ s. depth d ≤ 127 → read (bytes s) ≡ Some d) → IfOk out (λ s. read (bytes s) ≡ Some (derived_value text v rows ws))
 derived_back_is bytes text v rows ws d (Ok s) is h = h (subst (λ (e : Data). depth e ≤ 127) (sym is) (derived_shallow text v rows ws)) ∙ ap Some is
 derived_back_is bytes text v rows ws d (Err e) is h = tt

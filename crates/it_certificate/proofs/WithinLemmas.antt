@@ -22,7 +22,8 @@ pub cond_some : {A : Type 0} (t : Bool) (o : Option A) (a : A) → cond t o None
 cond_some true o a is = (refl, is)
 cond_some false o a is = absurd (cc)
 
-pub all_of_holds : {A : Type 0} (P : A → Type 0) (f : Data → Option A) → ((d : Data) (a : A) → f d ≡ Some a → P a) → (ds : Items) (xs : List A) → all_of f ds ≡ Some xs → All P xs
+pub all_of_holds : {A : Type 0} (P : A → Type 0) (f : Data → Option A) → ((d : Data) (a : A) → f d ≡ Some a → P a)
+    → (ds : Items) (xs : List A) → all_of f ds ≡ Some xs → All P xs
 all_of_holds P f each no_items xs is = let e : xs ≡ [] = cc in subst (λ zs. All P zs) (sym e) (All-nil P)
 all_of_holds P f each (item d ds) xs is =
     let h = and_then_some (f d) (λ a. option_map (λ rest. a ∷ rest) (all_of f ds)) xs is in

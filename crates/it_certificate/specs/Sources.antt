@@ -3,7 +3,7 @@ use Rattle.std.specs.Prelude.{◌≡◌, ℕ, ◌+◌, ◌≤◌, List, [], ◌�
 use Rattle.serde_json.specs.Data.{Data}
 use Rattle.serde_json.specs.Find.{get}
 use Rattle.it_question.specs.Files.{IsFile}
-use Rattle.it_question.specs.QuestionLimits.{most_lines}
+use Rattle.it_question.specs.QuestionLimits.{most_lines, most_file_bytes}
 use Rattle.it_question.specs.Questions.{QuestionView}
 use Rattle.it_copy.specs.CopyLines.{CopyView}
 use Rattle.it_copy.specs.Extensions.{IsExtension, extended}
@@ -34,7 +34,7 @@ pub record AsksOnly (bytes : List ℕ) (q : QuestionView) (copies : List CopyVie
 
 -- at most 1048576 bytes that are this sharing file, whose minimal and maximal sets aren't too many
 pub record IsMakeable (bytes : List ℕ) (x : SharingView) : Type 0 where
-  pub short : length bytes ≤ 1048576
+  pub short : length bytes ≤ most_file_bytes
   pub reads : IsSharingFile bytes x
   pub few : minimal_count x + maximal_count x ≤ most_lines
 

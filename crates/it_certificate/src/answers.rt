@@ -4,7 +4,7 @@ ghost use Rattle.serde_json.specs.View.{view};
 ghost use Rattle.serde_json.specs.Find.{get};
 ghost use Rattle.it_space.specs.Answers.{answer_view};
 ghost use Rattle.it_space.specs.Answers.AnswerView.{Yes, Region, Open};
-ghost use Rattle.it_space.specs.Spaces.{IsSpace, size_of};
+ghost use Rattle.it_space.specs.Spaces.{IsSpace, size_of, most_variables};
 ghost use Rattle.it_elemental.specs.Generators.{is_equation};
 ghost use Rattle.it_demand.specs.Demands.{kind_of};
 ghost use Rattle.it_certificate.specs.AnswerReading.{contained_at, no_at, undecided_at};
@@ -103,7 +103,7 @@ pub fn contained_at(
     variables: u8,
     obligations: usize,
 ) -> Result<Answer, ReportFault>
-    requires { variables ≤ 10 }
+    requires { variables ≤ most_variables }
     ensures { GivesKeyed answer_view result (contained_at auxiliaries variables obligations (view value.now)) }
 {
     let parts = match parts_at(alloc, value, auxiliaries, variables) {

@@ -3,6 +3,7 @@ ghost use Rattle.std.specs.Prelude.{◌≡◌, ◌≤◌, ◌^◌, nat_lt, if◌
 ghost use Rattle.serde_json.specs.View.{view, items_view};
 ghost use Rattle.it_certificate.specs.Parts.{all_of, parts_at, set_at};
 ghost use Rattle.it_certificate.specs.Steps.{Yields};
+ghost use Rattle.it_space.specs.Spaces.{most_variables};
 
 use crate::keys::Refusal;
 use crate::lists::array_of;
@@ -13,7 +14,7 @@ use std::alloc::Global;
 
 /// The set of this number, if it is one of `variables` variables.
 fn set_of_number(variables: u8, number: u32) -> Option<VarSet>
-    requires { variables ≤ 10 }
+    requires { variables ≤ most_variables }
     ensures { result ≡ (if nat_lt number (2 ^ variables) then Some number else None) }
 {
     if number < 1u32 << variables {
@@ -26,7 +27,7 @@ fn set_of_number(variables: u8, number: u32) -> Option<VarSet>
 /// A set of `variables` variables.
 #[tactic(auto, unfolding(crate::specs::Parts::set_at))]
 fn set_at(variables: u8, value: &Value) -> Option<VarSet>
-    requires { variables ≤ 10 }
+    requires { variables ≤ most_variables }
     ensures { result ≡ set_at variables (view value.now) }
 {
     set_of_number(variables, count_at(value)?)
@@ -34,7 +35,7 @@ fn set_at(variables: u8, value: &Value) -> Option<VarSet>
 
 /// Sets in order.
 fn sets(alloc: Global, variables: u8, values: &[Value]) -> Result<Vec<VarSet>, Refusal>
-    requires { variables ≤ 10 }
+    requires { variables ≤ most_variables }
     ensures { Yields (λ v. v.items) result (all_of (set_at variables) (items_view values.now)) }
 {
     let mut out = Vec::new(alloc);
@@ -55,7 +56,7 @@ pub fn parts_at(
     count: u8,
     variables: u8,
 ) -> Result<Vec<VarSet>, Refusal>
-    requires { variables ≤ 10 }
+    requires { variables ≤ most_variables }
     ensures { Yields (λ v. v.items) result (parts_at count variables (view value.now)) }
 {
     let Some(values) = array_of(value.get("parts")) else {

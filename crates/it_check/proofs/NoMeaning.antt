@@ -6,10 +6,10 @@ use Rattle.std.specs.Int.Signed.{lt_z}
 use Rattle.std.specs.Ordering.{int_eq}
 use Rattle.std.proofs.lemmas.Int.{ints}
 use Rattle.std.proofs.lemmas.Bool.Decides.{Decides-int_eq}
-use Rattle.it_space.specs.declared.problems.Kind.{Kind}
-use Rattle.it_space.specs.declared.problems.Kind.TheVariants.{Inequality, Equation}
-use Rattle.it_space.specs.declared.problems.Constraint.{Constraint}
-use Rattle.it_space.specs.Problems.{Meets, AreMet, IsMet}
+use Rattle.it_problems.specs.declared.problems.Kind.{Kind}
+use Rattle.it_problems.specs.declared.problems.Kind.TheVariants.{Inequality, Equation}
+use Rattle.it_problems.specs.declared.problems.Constraint.{Constraint}
+use Rattle.it_problems.specs.Problems.{Meets, AreMet, IsMet}
 use Rattle.it_space.specs.Rows.{Terms, ValueFits, value}
 use Rattle.it_polymatroid.specs.Polymatroid.{IsPolymatroid}
 use Rattle.it_polymatroid.specs.Elementals.{elementals, elemental_value}
@@ -68,7 +68,11 @@ generator_none count i g p q = by_option (sum_within (pos 0) g.row p) (λ x e. s
   where
     by_option : (o : Option ℤ) → ((x : ℤ) → o ≡ Some x → ValueFits g.row p × (x ≡ pos 0 +ℤ value g.row p)) → of_value count i g.kind o ≡ None → IsRight p g
     by_option None f q = absurd (cc)
-    by_option (Some x) f q = ((f x refl).0, subst (Meets g.kind) ((f x refl).1 ∙ +ℤ_idl (value g.row p)) (meets_unless_violated g.kind x (test_is_false (violates g.kind x) q)))
+    by_option (Some x) f q = (
+      (f x refl).0,
+      subst (Meets g.kind) ((f x refl).1 ∙ +ℤ_idl (value g.row p))
+          (meets_unless_violated g.kind x (test_is_false (violates g.kind x) q)),
+    )
       where
         test_is_false : (b : Bool) → cond b (Some (violation count i x)) None ≡ None → b ≡ false
         test_is_false true q = absurd (cc)
@@ -83,17 +87,20 @@ none_generator count i g p h = ap (of_value count i g.kind) (sum_fits (pos 0) g.
 generators_clean : (count i : ℕ) (gs : List Generator) (p : ℕ → ℤ) → of_generators count i gs p ≡ Some Valid → ⊥
 unfolding of_generators
 generators_clean count i [] p q = cc
-generators_clean count i (g ∷ gs) p q = clean_or (of_value count i g.kind (sum_within (pos 0) g.row p)) (of_generators count (i + 1) gs p) (value_clean count i g.kind (sum_within (pos 0) g.row p)) (generators_clean count (i + 1) gs p) q
+generators_clean count i (g ∷ gs) p q = clean_or (of_value count i g.kind (sum_within (pos 0) g.row p)) (of_generators count (i + 1) gs p)
+    (value_clean count i g.kind (sum_within (pos 0) g.row p)) (generators_clean count (i + 1) gs p) q
 
 generators_none : (count i : ℕ) (gs : List Generator) (p : ℕ → ℤ) → of_generators count i gs p ≡ None → Every (IsRight p) gs
 unfolding of_generators
 generators_none count i [] p q = tt
-generators_none count i (g ∷ gs) p q = let both = none_both (of_value count i g.kind (sum_within (pos 0) g.row p)) (of_generators count (i + 1) gs p) q in (generator_none count i g p both.0, generators_none count (i + 1) gs p both.1)
+generators_none count i (g ∷ gs) p q = let both = none_both (of_value count i g.kind (sum_within (pos 0) g.row p))
+    (of_generators count (i + 1) gs p) q in (generator_none count i g p both.0, generators_none count (i + 1) gs p both.1)
 
 none_generators : (count i : ℕ) (gs : List Generator) (p : ℕ → ℤ) → Every (IsRight p) gs → of_generators count i gs p ≡ None
 unfolding of_generators
 none_generators count i [] p h = refl
-none_generators count i (g ∷ gs) p h = ap (λ o. option_or o (of_generators count (i + 1) gs p)) (none_generator count i g p h.0) ∙ none_generators count (i + 1) gs p h.1
+none_generators count i (g ∷ gs) p h = ap (λ o. option_or o (of_generators count (i + 1) gs p)) (none_generator count i g p h.0)
+    ∙ none_generators count (i + 1) gs p h.1
 
 -- ---- the target
 
@@ -114,9 +121,14 @@ is_below x e = grind (arith, ints)
 target_none : (place : ℕ) (row : Terms) (p : ℕ → ℤ) → of_target place (sum_within (pos 0) row p) ≡ None → ValueFits row p × (value row p ≤ℤ neg_ℤ (pos 1))
 target_none place row p q = by_option (sum_within (pos 0) row p) (λ x e. sum_told (pos 0) row p x e) q
   where
-    by_option : (o : Option ℤ) → ((x : ℤ) → o ≡ Some x → ValueFits row p × (x ≡ pos 0 +ℤ value row p)) → of_target place o ≡ None → ValueFits row p × (value row p ≤ℤ neg_ℤ (pos 1))
+    by_option : (o : Option ℤ) → ((x : ℤ) → o ≡ Some x → ValueFits row p × (x ≡ pos 0 +ℤ value row p)) → of_target place o ≡ None
+        → ValueFits row p × (value row p ≤ℤ neg_ℤ (pos 1))
     by_option None f q = absurd (cc)
-    by_option (Some x) f q = ((f x refl).0, subst (λ (y : ℤ). y ≤ℤ neg_ℤ (pos 1)) ((f x refl).1 ∙ +ℤ_idl (value row p)) (at_most_minus_one x (test_is_true (lt_z x (pos 0)) q)))
+    by_option (Some x) f q = (
+      (f x refl).0,
+      subst (λ (y : ℤ). y ≤ℤ neg_ℤ (pos 1)) ((f x refl).1 ∙ +ℤ_idl (value row p))
+          (at_most_minus_one x (test_is_true (lt_z x (pos 0)) q)),
+    )
       where
         test_is_true : (b : Bool) → cond b None (Some (NotViolated x)) ≡ None → b ≡ true
         test_is_true true q = refl
@@ -154,19 +166,25 @@ module _ (count : ℕ) (gs : List Generator) (p : ℕ → ℤ) where
 
 -- ---- what is met: the axioms and the constraints
 
-pub met_listed : (n : ℕ) (cs : List Constraint) (p : ℕ → ℤ) → p 0 ≡ pos 0 → IsPolymatroid n p → AreMet p cs → Every (λ g. Meets g.kind (value g.row p)) (generator_list n cs)
+pub met_listed : (n : ℕ) (cs : List Constraint) (p : ℕ → ℤ) → p 0 ≡ pos 0 → IsPolymatroid n p → AreMet p cs
+    → Every (λ g. Meets g.kind (value g.row p)) (generator_list n cs)
 unfolding generator_list
 met_listed n cs p z h m = every-append (λ (g : Generator). Meets g.kind (value g.row p)) (map (of_elemental n) (elementals n)) (map of_constraint cs)
     (every-map (λ (g : Generator). Meets g.kind (value g.row p)) (of_elemental n) (elementals n)
-    (every-same (λ e. pos 0 ≤ℤ elemental_value n p e) (λ e. pos 0 ≤ℤ value (elemental_row n e) p) (elementals n) (λ e k. subst (λ (x : ℤ). pos 0 ≤ℤ x) (sym (value-row n e p z)) k)
+    (every-same (λ e. pos 0 ≤ℤ elemental_value n p e) (λ e. pos 0 ≤ℤ value (elemental_row n e) p) (elementals n)
+    (λ e k. subst (λ (x : ℤ). pos 0 ≤ℤ x) (sym (value-row n e p z)) k)
     (every_of (λ e. pos 0 ≤ℤ elemental_value n p e) (elementals n) ((elementals_generate n p z).1 h))))
     (every-map (λ (g : Generator). Meets g.kind (value g.row p)) of_constraint cs (every_of (IsMet p) cs m))
 
-pub listed_met : (n : ℕ) (cs : List Constraint) (p : ℕ → ℤ) → p 0 ≡ pos 0 → Every (λ g. Meets g.kind (value g.row p)) (generator_list n cs) → IsPolymatroid n p × AreMet p cs
+pub listed_met : (n : ℕ) (cs : List Constraint) (p : ℕ → ℤ) → p 0 ≡ pos 0 → Every (λ g. Meets g.kind (value g.row p)) (generator_list n cs)
+    → IsPolymatroid n p × AreMet p cs
 unfolding generator_list
 listed_met n cs p z h = (
   (elementals_generate n p z).0 (all_of (λ e. pos 0 ≤ℤ elemental_value n p e) (elementals n)
-      (every-same (λ e. pos 0 ≤ℤ value (elemental_row n e) p) (λ e. pos 0 ≤ℤ elemental_value n p e) (elementals n) (λ e k. subst (λ (x : ℤ). pos 0 ≤ℤ x) (value-row n e p z) k)
-      (every_mapped (λ (g : Generator). Meets g.kind (value g.row p)) (of_elemental n) (elementals n) (every_front (λ (g : Generator). Meets g.kind (value g.row p)) (map (of_elemental n) (elementals n)) (map of_constraint cs) h)))),
-  all_of (IsMet p) cs (every_mapped (λ (g : Generator). Meets g.kind (value g.row p)) of_constraint cs (every_back (λ (g : Generator). Meets g.kind (value g.row p)) (map (of_elemental n) (elementals n)) (map of_constraint cs) h)),
+      (every-same (λ e. pos 0 ≤ℤ value (elemental_row n e) p) (λ e. pos 0 ≤ℤ elemental_value n p e) (elementals n)
+      (λ e k. subst (λ (x : ℤ). pos 0 ≤ℤ x) (value-row n e p z) k)
+      (every_mapped (λ (g : Generator). Meets g.kind (value g.row p)) (of_elemental n) (elementals n)
+      (every_front (λ (g : Generator). Meets g.kind (value g.row p)) (map (of_elemental n) (elementals n)) (map of_constraint cs) h)))),
+  all_of (IsMet p) cs (every_mapped (λ (g : Generator). Meets g.kind (value g.row p)) of_constraint cs
+      (every_back (λ (g : Generator). Meets g.kind (value g.row p)) (map (of_elemental n) (elementals n)) (map of_constraint cs) h)),
 )

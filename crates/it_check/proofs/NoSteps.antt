@@ -6,7 +6,7 @@ use Rattle.std.specs.Int.Signed.{lt_z}
 use Rattle.std.proofs.lemmas.Int.{ints}
 use Rattle.std.proofs.lemmas.List.{drop_more, at_drop_all}
 use Rattle.it_fraction.specs.declared.fraction.Wide.{Wide}
-use Rattle.it_space.specs.declared.problems.Kind.{Kind}
+use Rattle.it_problems.specs.declared.problems.Kind.{Kind}
 use Rattle.it_space.specs.Rows.{Terms, ValueFits, value}
 use Rattle.it_elemental.specs.Generators.{Generator, generator_at}
 use Rattle.it_check.specs.Sums.{sum_within}
@@ -26,7 +26,8 @@ module _ (count i : ℕ) (g : Generator) (p : ℕ → ℤ) (r : Result ℤ Wide)
 
   module _ (x : ℤ) (q : r ≡ Ok x) (k : Kind) (same : k ≡ g.kind) where
     tested_generator : of_value count i g.kind (sum_within (pos 0) g.row p) ≡ cond (violates k x) (Some (violation count i x)) None
-    tested_generator = generator_is ∙ ap (λ x. of_value count i g.kind (result_ok x)) q ∙ ap (λ k. cond (violates k x) (Some (violation count i x)) None) (sym same)
+    tested_generator = generator_is ∙ ap (λ x. of_value count i g.kind (result_ok x)) q
+        ∙ ap (λ k. cond (violates k x) (Some (violation count i x)) None) (sym same)
 
     pub generator_unmet : (v : Verdict) → true ≡ violates k x → v ≡ violation count i x → Some v ≡ of_value count i g.kind (sum_within (pos 0) g.row p)
     generator_unmet v b e = ap Some e ∙ ap (λ b. cond b (Some (violation count i x)) None) b ∙ sym tested_generator
@@ -37,15 +38,19 @@ module _ (count i : ℕ) (g : Generator) (p : ℕ → ℤ) (r : Result ℤ Wide)
 -- ---- all generators
 
 generators-step : (count : ℕ) (gs : List Generator) (p : ℕ → ℤ) (i : ℕ) → i < length gs
-    → of_generators count i (drop i gs) p ≡ option_or (of_value count i (generator_at gs i).kind (sum_within (pos 0) (generator_at gs i).row p)) (of_generators count (i + 1) (drop (i + 1) gs) p)
+    → of_generators count i (drop i gs) p ≡ option_or (of_value count i (generator_at gs i).kind
+    (sum_within (pos 0) (generator_at gs i).row p)) (of_generators count (i + 1) (drop (i + 1) gs) p)
 unfolding of_generators
 generators-step count gs p i h = ap (λ xs. of_generators count i xs p) (drop_more gs i _ h)
 
 module _ (count : ℕ) (gs : List Generator) (p : ℕ → ℤ) (i : ℕ) (inv : of_generators count i (drop i gs) p ≡ of_generators count 0 gs p) where
-  pub generators_found : (v : Verdict) → i < length gs → Some v ≡ of_value count i (generator_at gs i).kind (sum_within (pos 0) (generator_at gs i).row p) → Some v ≡ of_generators count 0 gs p
+  pub generators_found : (v : Verdict) → i < length gs
+      → Some v ≡ of_value count i (generator_at gs i).kind (sum_within (pos 0) (generator_at gs i).row p)
+      → Some v ≡ of_generators count 0 gs p
   generators_found v h e = ap (λ o. option_or o (of_generators count (i + 1) (drop (i + 1) gs) p)) e ∙ sym (generators-step count gs p i h) ∙ inv
 
-  pub generators_more : i < length gs → None ≡ of_value count i (generator_at gs i).kind (sum_within (pos 0) (generator_at gs i).row p) → of_generators count (i + 1) (drop (i + 1) gs) p ≡ of_generators count 0 gs p
+  pub generators_more : i < length gs → None ≡ of_value count i (generator_at gs i).kind (sum_within (pos 0) (generator_at gs i).row p)
+      → of_generators count (i + 1) (drop (i + 1) gs) p ≡ of_generators count 0 gs p
   generators_more h e = ap (λ o. option_or o (of_generators count (i + 1) (drop (i + 1) gs) p)) e ∙ sym (generators-step count gs p i h) ∙ inv
 
   pub generators_done : length gs ≤ i → None ≡ of_generators count 0 gs p
@@ -77,6 +82,7 @@ module _ (count : ℕ) (gs : List Generator) (target : Terms) (p : ℕ → ℤ) 
   unfolding no_verdict
   by_generators v e = ap (λ o. valid_unless (option_or o (of_target (length gs) (sum_within (pos 0) target p)))) e
 
-  pub by_target : (o : Option Verdict) → None ≡ of_generators count 0 gs p → o ≡ of_target (length gs) (sum_within (pos 0) target p) → valid_unless o ≡ no_verdict count gs target p
+  pub by_target : (o : Option Verdict) → None ≡ of_generators count 0 gs p → o ≡ of_target (length gs) (sum_within (pos 0) target p)
+      → valid_unless o ≡ no_verdict count gs target p
   unfolding no_verdict
   by_target o e f = ap valid_unless f ∙ ap (λ o. valid_unless (option_or o (of_target (length gs) (sum_within (pos 0) target p)))) e

@@ -20,7 +20,8 @@ decides_within z = Decides-ltb (unsigned_abs z) (2 ^ 127)
 pub product_is : (r : Result ℤ Wide) (a b : ℤ) → OkIff r (IsWithin (a *ℤ b)) (a *ℤ b) → product_within a b ≡ result_ok r
 product_is r a b o = by_result r (is_within (a *ℤ b)) (decides_within (a *ℤ b)) o
   where
-    by_result : (r : Result ℤ Wide) (t : Bool) → Decides t (IsWithin (a *ℤ b)) → OkIff r (IsWithin (a *ℤ b)) (a *ℤ b) → cond t (Some (a *ℤ b)) None ≡ result_ok r
+    by_result : (r : Result ℤ Wide) (t : Bool) → Decides t (IsWithin (a *ℤ b)) → OkIff r (IsWithin (a *ℤ b)) (a *ℤ b)
+        → cond t (Some (a *ℤ b)) None ≡ result_ok r
     by_result (Ok x) true d o = ap Some (sym o.1)
     by_result (Ok x) false d o = absurd (false≢true (d.1 o.0))
     by_result (Err e) true d o = absurd (o (d.0 refl))
@@ -50,9 +51,11 @@ sum_told sum [] p x e = (tt, sum_plus_zero sum x e)
   where
     sum_plus_zero : (sum x : ℤ) → Some sum ≡ Some x → x ≡ sum +ℤ pos 0
     sum_plus_zero sum x e = let q : sum ≡ x = cc in omega (arith, ints, q)
-sum_told sum (t ∷ ts) p x e = by_test (is_within (t.1 *ℤ p t.0)) (is_within (sum +ℤ t.1 *ℤ p t.0)) (decides_within (t.1 *ℤ p t.0)) (decides_within (sum +ℤ t.1 *ℤ p t.0)) e (sum_told (sum +ℤ t.1 *ℤ p t.0) ts p x)
+sum_told sum (t ∷ ts) p x e = by_test (is_within (t.1 *ℤ p t.0)) (is_within (sum +ℤ t.1 *ℤ p t.0)) (decides_within (t.1 *ℤ p t.0))
+    (decides_within (sum +ℤ t.1 *ℤ p t.0)) e (sum_told (sum +ℤ t.1 *ℤ p t.0) ts p x)
   where
-    by_test : (a b : Bool) → Decides a (IsWithin (t.1 *ℤ p t.0)) → Decides b (IsWithin (sum +ℤ t.1 *ℤ p t.0)) → cond (a && b) (sum_within (sum +ℤ t.1 *ℤ p t.0) ts p) None ≡ Some x
+    by_test : (a b : Bool) → Decides a (IsWithin (t.1 *ℤ p t.0)) → Decides b (IsWithin (sum +ℤ t.1 *ℤ p t.0))
+        → cond (a && b) (sum_within (sum +ℤ t.1 *ℤ p t.0) ts p) None ≡ Some x
         → (sum_within (sum +ℤ t.1 *ℤ p t.0) ts p ≡ Some x → FitsOnTop (sum +ℤ t.1 *ℤ p t.0) ts p × (x ≡ (sum +ℤ t.1 *ℤ p t.0) +ℤ value ts p))
         → FitsOnTop sum (t ∷ ts) p × (x ≡ sum +ℤ value (t ∷ ts) p)
     by_test true true d f e back = let r = back e in ((d.0 refl, f.0 refl, r.0), omega (arith, ints, r.1))

@@ -63,9 +63,11 @@ module _ (gs : List Generator) where
       by_test false b q = cc
 
   weight_none : (w : ℕ × ℤ) → of_weight gs w ≡ None → IsAllowed (forms_of gs) w
-  weight_none w q = by_test (ltb w.0 (length gs)) (lt_z w.1 (pos 0)) (is_equation (generator_at gs w.0).kind) (Decides-ltb w.0 (length gs)) (λ f. least_by_test w.1 f) q
+  weight_none w q = by_test (ltb w.0 (length gs)) (lt_z w.1 (pos 0)) (is_equation (generator_at gs w.0).kind) (Decides-ltb w.0 (length gs))
+      (λ f. least_by_test w.1 f) q
     where
-      by_test : (a b e : Bool) → Decides a (w.0 < length gs) → (b ≡ false → pos 0 ≤ℤ w.1) → finding_by_tests w a b e ≡ None → (w.0 < length gs) × (e ≡ false → pos 0 ≤ℤ w.1)
+      by_test : (a b e : Bool) → Decides a (w.0 < length gs) → (b ≡ false → pos 0 ≤ℤ w.1) → finding_by_tests w a b e ≡ None
+          → (w.0 < length gs) × (e ≡ false → pos 0 ≤ℤ w.1)
       by_test true true true d f q = (d.0 refl, λ r. absurd (cc))
       by_test true true false d f q = absurd (cc)
       by_test true false e d f q = (d.0 refl, λ r. f refl)
@@ -117,7 +119,8 @@ module _ (gs : List Generator) (target : Terms) (w : CertificateView) where
       by_test false q = cc
 
   coordinate_none : (c : ℕ) → of_coordinate gs target w c ≡ None → Agrees gs target w c
-  coordinate_none c q = by_option (product_within w.scale (coefficient target c)) (sum_within (pos 0) w.weights (column gs c)) (λ x e. product_told w.scale (coefficient target c) x e) (λ y e. sum_told (pos 0) w.weights (column gs c) y e) q
+  coordinate_none c q = by_option (product_within w.scale (coefficient target c)) (sum_within (pos 0) w.weights (column gs c))
+      (λ x e. product_told w.scale (coefficient target c) x e) (λ y e. sum_told (pos 0) w.weights (column gs c) y e) q
     where
       numbers_agree : (x y : ℤ) (b : Bool) → Decides b (x ≡ y) → cond b None (Some (Mismatch c x y)) ≡ None → x ≡ y
       numbers_agree x y true d q = d.0 refl
@@ -127,13 +130,15 @@ module _ (gs : List Generator) (target : Terms) (w : CertificateView) where
       sides_are_equal x y v u p q r = omega (arith, ints, p, q, r)
 
       by_option : (l r : Option ℤ) → ((x : ℤ) → l ≡ Some x → IsWithin (w.scale *ℤ coefficient target c) × (x ≡ w.scale *ℤ coefficient target c))
-          → ((y : ℤ) → r ≡ Some y → ValueFits w.weights (column gs c) × (y ≡ pos 0 +ℤ value w.weights (column gs c))) → of_numbers c l r ≡ None → Agrees gs target w c
+          → ((y : ℤ) → r ≡ Some y → ValueFits w.weights (column gs c) × (y ≡ pos 0 +ℤ value w.weights (column gs c)))
+          → of_numbers c l r ≡ None → Agrees gs target w c
       by_option None r f g q = absurd (cc)
       by_option (Some x) None f g q = absurd (cc)
       by_option (Some x) (Some y) f g q = record {
         left = (f x refl).0;
         right = (g y refl).0;
-        same = sides_are_equal x y (value w.weights (column gs c)) (w.scale *ℤ coefficient target c) (f x refl).1 (g y refl).1 (numbers_agree x y (int_eq x y) (Decides-int_eq x y) q);
+        same = sides_are_equal x y (value w.weights (column gs c)) (w.scale *ℤ coefficient target c) (f x refl).1 (g y refl).1
+            (numbers_agree x y (int_eq x y) (Decides-int_eq x y) q);
       }
 
   none_coordinate : (c : ℕ) → Agrees gs target w c → of_coordinate gs target w c ≡ None
@@ -183,7 +188,8 @@ to_certificate gs size target w s a f = record {
 
 pub by_coefficients : (gs : List Generator) (size : ℕ) (target : Terms) (w : CertificateView) → IsCertificate (size + 1) (forms_of gs) (value target) w
     → (c : ℕ) → 1 ≤ c → c ≤ size → w.scale *ℤ coefficient target c ≡ value w.weights (column gs c)
-by_coefficients gs size target w k c h l = sym (ap (λ x. w.scale *ℤ x) (value-one_at target c)) ∙ k.adds_up c (omega arith) (omega arith) ∙ weighted_is gs w.weights c
+by_coefficients gs size target w k c h l = sym (ap (λ x. w.scale *ℤ x) (value-one_at target c)) ∙ k.adds_up c (omega arith) (omega arith)
+    ∙ weighted_is gs w.weights c
 
 -- ---- all of it
 
@@ -197,7 +203,8 @@ module _ (gs : List Generator) (size : ℕ) (target : Terms) (w : CertificateVie
       let one = first_part (of_scale w.scale) (option_or (of_weights gs w.weights) (of_coordinates gs target w 1 size)) (scale_clean w.scale) e in
       let two = first_part (of_weights gs w.weights) (of_coordinates gs target w 1 size) (weights_clean gs w.weights) one.1 in
       let three = last_part (of_coordinates gs target w 1 size) (coordinates_clean gs target w 1 size) two.1 in (
-        to_certificate gs size target w (scale_none w.scale one.0) (all_of (IsAllowed (forms_of gs)) w.weights (weights_none gs w.weights two.0)) (λ c h l. (coordinates_none gs target w 1 size three c h (omega arith)).same),
+        to_certificate gs size target w (scale_none w.scale one.0) (all_of (IsAllowed (forms_of gs)) w.weights
+            (weights_none gs w.weights two.0)) (λ c h l. (coordinates_none gs target w 1 size three c h (omega arith)).same),
         λ c h l. let a = coordinates_none gs target w 1 size three c h (omega arith) in (a.left, a.right),
       )
 
@@ -205,5 +212,7 @@ module _ (gs : List Generator) (size : ℕ) (target : Terms) (w : CertificateVie
   unfolding yes_verdict
   yes_valid k f =
       ap (λ o. valid_unless (option_or o (option_or (of_weights gs w.weights) (of_coordinates gs target w 1 size)))) (none_scale w.scale k.scale_from_one)
-      ∙ ap (λ o. valid_unless (option_or o (of_coordinates gs target w 1 size))) (none_weights gs w.weights (every_of (IsAllowed (forms_of gs)) w.weights k.allowed))
-      ∙ ap valid_unless (none_coordinates gs target w 1 size (λ c h l. let b = f c h (omega arith) in record { left = b.0; right = b.1; same = by_coefficients gs size target w k c h (omega arith) }))
+      ∙ ap (λ o. valid_unless (option_or o (of_coordinates gs target w 1 size)))
+      (none_weights gs w.weights (every_of (IsAllowed (forms_of gs)) w.weights k.allowed))
+      ∙ ap valid_unless (none_coordinates gs target w 1 size (λ c h l. let b = f c h (omega arith)
+      in record { left = b.0; right = b.1; same = by_coefficients gs size target w k c h (omega arith) }))

@@ -22,15 +22,18 @@ use Rattle.it_check.proofs.SumLemmas.{product_is, sum_is}
 
 -- ---- weights
 
-weights-step : (gs : List Generator) (ws : List (ℕ × ℤ)) (i : ℕ) (d : ℕ × ℤ) → i < length ws → of_weights gs (drop i ws) ≡ option_or (of_weight gs (get_or ws i d)) (of_weights gs (drop (i + 1) ws))
+weights-step : (gs : List Generator) (ws : List (ℕ × ℤ)) (i : ℕ) (d : ℕ × ℤ) → i < length ws
+    → of_weights gs (drop i ws) ≡ option_or (of_weight gs (get_or ws i d)) (of_weights gs (drop (i + 1) ws))
 unfolding of_weights
 weights-step gs ws i d h = at_drop_more (of_weights gs) ws i d h
 
-pub weights_found : (gs : List Generator) (ws : List (ℕ × ℤ)) (i : ℕ) (d : ℕ × ℤ) (v : Verdict) → i < length ws → Some v ≡ of_weight gs (get_or ws i d) → of_weights gs (drop i ws) ≡ of_weights gs ws
+pub weights_found : (gs : List Generator) (ws : List (ℕ × ℤ)) (i : ℕ) (d : ℕ × ℤ) (v : Verdict) → i < length ws
+    → Some v ≡ of_weight gs (get_or ws i d) → of_weights gs (drop i ws) ≡ of_weights gs ws
     → Some v ≡ of_weights gs ws
 weights_found gs ws i d v h e inv = ap (λ o. option_or o (of_weights gs (drop (i + 1) ws))) e ∙ sym (weights-step gs ws i d h) ∙ inv
 
-pub weights_more : (gs : List Generator) (ws : List (ℕ × ℤ)) (i : ℕ) (d : ℕ × ℤ) → i < length ws → None ≡ of_weight gs (get_or ws i d) → of_weights gs (drop i ws) ≡ of_weights gs ws
+pub weights_more : (gs : List Generator) (ws : List (ℕ × ℤ)) (i : ℕ) (d : ℕ × ℤ) → i < length ws → None ≡ of_weight gs (get_or ws i d)
+    → of_weights gs (drop i ws) ≡ of_weights gs ws
     → of_weights gs (drop (i + 1) ws) ≡ of_weights gs ws
 weights_more gs ws i d h e inv = ap (λ o. option_or o (of_weights gs (drop (i + 1) ws))) e ∙ sym (weights-step gs ws i d h) ∙ inv
 
@@ -49,9 +52,14 @@ each_generator_known gs (w ∷ ws) e = by_test (ltb w.0 (length gs)) (Decides-lt
     second_is_none None b e = e
 
     by_test : (b : Bool) → Decides b (w.0 < length gs) → (of_weights gs ws ≡ None → Every (λ (w : ℕ × ℤ). w.0 < length gs) ws)
-        → option_or (cond b (cond (lt_z w.1 (pos 0) && not (is_equation (generator_at gs w.0).kind)) (Some (NegativeWeight w.0)) None) (Some (UnknownGenerator w.0))) (of_weights gs ws) ≡ None
+        → option_or (cond b (cond (lt_z w.1 (pos 0) && not (is_equation (generator_at gs w.0).kind)) (Some (NegativeWeight w.0)) None)
+        (Some (UnknownGenerator w.0))) (of_weights gs ws) ≡ None
         → (w.0 < length gs) × Every (λ (w : ℕ × ℤ). w.0 < length gs) ws
-    by_test true d back e = (d.0 refl, back (second_is_none (cond (lt_z w.1 (pos 0) && not (is_equation (generator_at gs w.0).kind)) (Some (NegativeWeight w.0)) None) (of_weights gs ws) e))
+    by_test true d back e = (
+      d.0 refl,
+      back (second_is_none (cond (lt_z w.1 (pos 0) && not (is_equation (generator_at gs w.0).kind))
+          (Some (NegativeWeight w.0)) None) (of_weights gs ws) e),
+    )
     by_test false d back e = absurd (cc)
 
 pub all_known : (gs : List Generator) (ws : List (ℕ × ℤ)) → None ≡ of_weights gs ws → All (λ (w : ℕ × ℤ). w.0 < length gs) ws
@@ -59,9 +67,11 @@ all_known gs ws e = all_of (λ (w : ℕ × ℤ). w.0 < length gs) ws (each_gener
 
 -- ---- coordinates
 
-module _ (gs : List Generator) (target : Terms) (w : CertificateView) (c : ℕ) (l r : Result ℤ Wide) (left : OkIff l (IsWithin (w.scale *ℤ coefficient target c)) (w.scale *ℤ coefficient target c)) where
+module _ (gs : List Generator) (target : Terms) (w : CertificateView) (c : ℕ) (l r : Result ℤ Wide)
+    (left : OkIff l (IsWithin (w.scale *ℤ coefficient target c)) (w.scale *ℤ coefficient target c)) where
   pub left_wide : (e : Wide) → l ≡ Err e → Some (Width c) ≡ of_coordinate gs target w c
-  left_wide e is = sym (ap (λ o. of_numbers c o (sum_within (pos 0) w.weights (column gs c))) (product_is l w.scale (coefficient target c) left ∙ ap result_ok is))
+  left_wide e is = sym (ap (λ o. of_numbers c o (sum_within (pos 0) w.weights (column gs c)))
+      (product_is l w.scale (coefficient target c) left ∙ ap result_ok is))
 
   module _ (right : OkIff r (ValueFits w.weights (column gs c)) (value w.weights (column gs c))) where
     coordinate_is : of_coordinate gs target w c ≡ of_numbers c (result_ok l) (result_ok r)
@@ -91,15 +101,20 @@ coordinates-step gs target w c size h =
     let e : size + 1 - c ≡ suc (size + 1 - (c + 1)) = omega arith in
     ap (of_coordinates gs target w c) e
 
-pub coordinates_found : (gs : List Generator) (target : Terms) (w : CertificateView) (c size : ℕ) (v : Verdict) → c ≤ size → Some v ≡ of_coordinate gs target w c
+pub coordinates_found : (gs : List Generator) (target : Terms) (w : CertificateView) (c size : ℕ) (v : Verdict) → c ≤ size
+    → Some v ≡ of_coordinate gs target w c
     → of_coordinates gs target w c (size + 1 - c) ≡ of_coordinates gs target w 1 size → Some v ≡ of_coordinates gs target w 1 size
-coordinates_found gs target w c size v h e inv = ap (λ o. option_or o (of_coordinates gs target w (c + 1) (size + 1 - (c + 1)))) e ∙ sym (coordinates-step gs target w c size h) ∙ inv
+coordinates_found gs target w c size v h e inv = ap (λ o. option_or o (of_coordinates gs target w (c + 1) (size + 1 - (c + 1)))) e
+    ∙ sym (coordinates-step gs target w c size h) ∙ inv
 
 pub coordinates_more : (gs : List Generator) (target : Terms) (w : CertificateView) (c size : ℕ) → c ≤ size → None ≡ of_coordinate gs target w c
-    → of_coordinates gs target w c (size + 1 - c) ≡ of_coordinates gs target w 1 size → of_coordinates gs target w (c + 1) (size + 1 - (c + 1)) ≡ of_coordinates gs target w 1 size
-coordinates_more gs target w c size h e inv = ap (λ o. option_or o (of_coordinates gs target w (c + 1) (size + 1 - (c + 1)))) e ∙ sym (coordinates-step gs target w c size h) ∙ inv
+    → of_coordinates gs target w c (size + 1 - c) ≡ of_coordinates gs target w 1 size
+    → of_coordinates gs target w (c + 1) (size + 1 - (c + 1)) ≡ of_coordinates gs target w 1 size
+coordinates_more gs target w c size h e inv = ap (λ o. option_or o (of_coordinates gs target w (c + 1) (size + 1 - (c + 1)))) e
+    ∙ sym (coordinates-step gs target w c size h) ∙ inv
 
-pub coordinates_done : (gs : List Generator) (target : Terms) (w : CertificateView) (c size : ℕ) → size + 1 ≤ c → of_coordinates gs target w c (size + 1 - c) ≡ of_coordinates gs target w 1 size
+pub coordinates_done : (gs : List Generator) (target : Terms) (w : CertificateView) (c size : ℕ) → size + 1 ≤ c
+    → of_coordinates gs target w c (size + 1 - c) ≡ of_coordinates gs target w 1 size
     → None ≡ of_coordinates gs target w 1 size
 unfolding of_coordinates
 coordinates_done gs target w c size h inv = let e : 0 ≡ size + 1 - c = omega arith in ap (of_coordinates gs target w c) e ∙ inv
@@ -113,9 +128,11 @@ module _ (gs : List Generator) (size : ℕ) (target : Terms) (w : CertificateVie
 
   pub by_weights : (v : Verdict) → None ≡ of_scale w.scale → Some v ≡ of_weights gs w.weights → v ≡ yes_verdict gs size target w
   unfolding yes_verdict
-  by_weights v e f = ap (λ o. valid_unless (option_or o (of_coordinates gs target w 1 size))) f ∙ ap (λ o. valid_unless (option_or o (option_or (of_weights gs w.weights) (of_coordinates gs target w 1 size)))) e
+  by_weights v e f = ap (λ o. valid_unless (option_or o (of_coordinates gs target w 1 size))) f
+      ∙ ap (λ o. valid_unless (option_or o (option_or (of_weights gs w.weights) (of_coordinates gs target w 1 size)))) e
 
-  pub by_coordinates : (o : Option Verdict) → None ≡ of_scale w.scale → None ≡ of_weights gs w.weights → o ≡ of_coordinates gs target w 1 size → valid_unless o ≡ yes_verdict gs size target w
+  pub by_coordinates : (o : Option Verdict) → None ≡ of_scale w.scale → None ≡ of_weights gs w.weights
+      → o ≡ of_coordinates gs target w 1 size → valid_unless o ≡ yes_verdict gs size target w
   unfolding yes_verdict
   by_coordinates o e f g = ap valid_unless g ∙ ap (λ o. valid_unless (option_or o (of_coordinates gs target w 1 size))) f
       ∙ ap (λ o. valid_unless (option_or o (option_or (of_weights gs w.weights) (of_coordinates gs target w 1 size)))) e

@@ -1,6 +1,6 @@
 -- No public clause cites this module: the fault of a point at one generator.
 use Rattle.std.specs.Prelude.{ℕ, ℤ, pos, length, Option}
-use Rattle.it_space.specs.Problems.{ProblemView}
+use Rattle.it_problems.specs.Problems.{ProblemView}
 use Rattle.it_polymatroid.specs.Elementals.{elementals}
 use Rattle.it_elemental.specs.Generators.{generators, generator_at}
 use Rattle.it_check.specs.Sums.{sum_within}

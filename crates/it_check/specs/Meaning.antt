@@ -1,7 +1,7 @@
 -- The meaning of the verdict `Valid`.
 use Rattle.std.specs.Prelude.{◌≡◌, ◌↔◌, ℕ, ◌+◌, ◌≤◌, ℤ, pos, neg_ℤ, ◌*ℤ◌, ◌≤ℤ◌, List, length, All}
 use Rattle.it_number.specs.Limit.{IsWithin}
-use Rattle.it_space.specs.Problems.{ProblemView, IsProblem, AreMet}
+use Rattle.it_problems.specs.Problems.{ProblemView, IsProblem, AreMet}
 use Rattle.it_space.specs.Answers.{CertificateView}
 use Rattle.it_space.specs.Rows.{Terms, IsOver, ValueFits, coefficient, value, point_of}
 use Rattle.it_space.specs.Spaces.{size_of}

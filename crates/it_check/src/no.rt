@@ -11,7 +11,8 @@ ghost use Rattle.it_check.specs.Verdicts.{violates, violation, of_generators, of
 use crate::values::generator_value;
 use crate::verdicts::Verdict;
 use it_elemental::{count, generator_count, kind_at};
-use it_space::{Kind, Point, Problem, Row, value};
+use it_problems::{Kind, Problem};
+use it_space::{Point, Row, value};
 
 /// Whether `value` violates an inequality or an equation.
 fn violates(kind: Kind, value: i128) -> bool

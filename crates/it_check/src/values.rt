@@ -6,7 +6,8 @@ ghost use Rattle.it_elemental.specs.Generators.{generators, generator_at};
 
 use it_elemental::{count, value_at as elemental_value};
 use it_fraction::Wide;
-use it_space::{Point, Problem, value};
+use it_problems::Problem;
+use it_space::{Point, value};
 
 /// The value of generator `index` at `point`; `Wide` if a product or a partial sum passes the limit.
 pub fn generator_value(problem: &Problem, index: u32, point: &Point) -> Result<i128, Wide>

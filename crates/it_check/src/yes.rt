@@ -10,7 +10,8 @@ ghost use Rattle.it_check.specs.Verdicts.{column, of_scale, of_weight, of_weight
 use crate::verdicts::Verdict;
 use it_elemental::{coefficient_at, generator_count, is_equation};
 use it_fraction::{Wide, signed_product};
-use it_space::{Certificate, Problem, Row, with_product};
+use it_problems::Problem;
+use it_space::{Certificate, Row, with_product};
 
 /// The fault of the scale; `None` if it has none.
 fn of_scale(certificate: &Certificate) -> Option<Verdict>

@@ -7,7 +7,7 @@ use Rattle.it_settings.specs.declared.types.Format.TheVariants.{Text, Json, Proo
 use Rattle.it_space.specs.declared.answers.Mark.{Mark}
 use Rattle.it_space.specs.Answers.{AnswerView, CertificateView, is_nonzero_weight}
 use Rattle.it_space.specs.Answers.AnswerView.{Yes, No, Undecided, Region, Contained, Open}
-use Rattle.it_space.specs.Problems.{ProblemView}
+use Rattle.it_problems.specs.Problems.{ProblemView}
 use Rattle.it_space.specs.Rows.{Terms}
 use Rattle.it_question.specs.Files.{IsFile}
 use Rattle.it_question.specs.Questions.{QuestionView, VerbView, Prove, Eliminate, Contain}
@@ -45,7 +45,9 @@ use Rattle.it_cli.proofs.RegionFits.{right_region_fits}
 weights_are_some : (n : ℕ) (ts : List (ℕ × ℤ)) → All (IsOfConstraint n) ts → filter is_nonzero_weight ts ≡ ts
 weights_are_some n [] all = refl
 weights_are_some n (t ∷ ts) all =
-    ap (λ b. cond b (t ∷ filter is_nonzero_weight ts) (filter is_nonzero_weight ts)) (nonzero_passes t.1 (All-head (IsOfConstraint n) t ts all).1) ∙ ap (λ zs. t ∷ zs) (weights_are_some n ts (All-tail (IsOfConstraint n) t ts all))
+    ap (λ b. cond b (t ∷ filter is_nonzero_weight ts) (filter is_nonzero_weight ts))
+    (nonzero_passes t.1 (All-head (IsOfConstraint n) t ts all).1)
+    ∙ ap (λ zs. t ∷ zs) (weights_are_some n ts (All-tail (IsOfConstraint n) t ts all))
 
 module _ (p : ProblemView) where
   told_whole : (rows : List Terms) (ws : List CertificateView) → AllZip (IsToldOrigin p) rows ws → map without_zeros ws ≡ ws
@@ -53,7 +55,8 @@ module _ (p : ProblemView) where
   told_whole [] (w ∷ ws) z = absurd z
   told_whole (row ∷ rows) [] z = absurd z
   told_whole (row ∷ rows) (w ∷ ws) z =
-      ap (λ ps. record { scale = w.scale; weights = ps } ∷ map without_zeros ws) (weights_are_some p.space.variables w.weights z.0.0.own) ∙ ap (λ vs. w ∷ vs) (told_whole rows ws z.1)
+      ap (λ ps. record { scale = w.scale; weights = ps } ∷ map without_zeros ws) (weights_are_some p.space.variables w.weights z.0.0.own)
+      ∙ ap (λ vs. w ∷ vs) (told_whole rows ws z.1)
 
   told_numbered : (rows : List Terms) (ws : List CertificateView) → AllZip (IsToldOrigin p) rows ws → All IsNumbered ws
   told_numbered [] [] z = All-nil IsNumbered
@@ -82,7 +85,13 @@ module _ (back : ReadsBack) (origins_back : OriginsReadBack) (q : QuestionView) 
         value = derived_value q.text q.body.names rows ws;
         utf8 = derived_text_utf8 q.text q.body.names rows ws plain;
         is_json = derived_text_back q.text q.body.names rows ws plain;
-        reads = origins_back q rows ws short file (record { answered = fits; region = tt; each = zip-length (IsToldOrigin p) (region_rows rows) ws told; numbers = numbers });
+        reads = origins_back q rows ws short file (record {
+          answered = fits;
+          region = tt;
+          each = zip-length (IsToldOrigin p)
+              (region_rows rows) ws told;
+          numbers = numbers;
+        });
       } in
       accepted_by_verdict line (Judged q.body.names Valid) (derived_text_clear q.text q.body.names rows ws plain)
       (record {
@@ -91,19 +100,25 @@ module _ (back : ReadsBack) (origins_back : OriginsReadBack) (q : QuestionView) 
         verdict = ap (Judged q.body.names) (sym (told_valid p (region_rows rows) ws told));
       }) refl
 
-  by_verb : (budgets : Budgets) (plans : List Plan) (verb : VerbView) (rows : List (Mark × Terms)) (found : List Candidate) (ws : List CertificateView) → q.body.verb ≡ verb → ShowsBy q.body verb (Region rows)
-      → IsDueBy budgets plans q.body verb (record { answer = Region rows; found = found }) → AllZip (IsToldOrigin (problem_of (under_all_lines q.body))) (region_rows rows) ws → IsAccepted (derived_text q.text q.body.names rows ws)
+  by_verb : (budgets : Budgets) (plans : List Plan) (verb : VerbView) (rows : List (Mark × Terms)) (found : List Candidate)
+      (ws : List CertificateView) → q.body.verb ≡ verb → ShowsBy q.body verb (Region rows)
+      → IsDueBy budgets plans q.body verb (record { answer = Region rows; found = found })
+      → AllZip (IsToldOrigin (problem_of (under_all_lines q.body))) (region_rows rows) ws
+      → IsAccepted (derived_text q.text q.body.names rows ws)
   by_verb budgets plans (Prove r) rows found ws about shown due told = absurd shown
   by_verb budgets plans (Eliminate rates) rows found ws about shown due told =
-      let fits = right_region_fits budgets q.body rates rows (limits back q short file) (system_rows q.body (limits back q short file) (small back q short file)) shown due.0 in
+      let fits = right_region_fits budgets q.body rates rows (limits back q short file)
+      (system_rows q.body (limits back q short file) (small back q short file)) shown due.0 in
       region_accepted rows ws (question_fits q.body (Region rows) (Eliminate rates) about fits) (λ i d l. (fits i d l).terms) told
   by_verb budgets plans (Contain first second tries) rows found ws about shown due told = absurd shown
 
   module _ (budgets : Budgets) (plans : List Plan) (few : IfSome budgets.effort.pivots (λ n. n < 2 ^ 32)) (few_tries : budgets.tries < 2 ^ 32) where
-    by_origins : (format : Format) (answer : AnswerView) (found : List Candidate) (origins : Option (List CertificateView)) → IsRightAnswer budgets plans q.body (record { answer = answer; found = found })
+    by_origins : (format : Format) (answer : AnswerView) (found : List Candidate) (origins : Option (List CertificateView))
+        → IsRightAnswer budgets plans q.body (record { answer = answer; found = found })
         → AreToldOrigins format q.body answer origins → IsAccepted (told_report q answer origins)
     by_origins format answer found None right told =
-        subst IsAccepted (sym (report_without q answer)) (right_accepted back budgets plans q (record { answer = answer; found = found }) few few_tries short file right)
+        subst IsAccepted (sym (report_without q answer)) (right_accepted back budgets plans q
+        (record { answer = answer; found = found }) few few_tries short file right)
     by_origins Text answer found (Some ws) right told = absurd (cc)
     by_origins Json answer found (Some ws) right told = absurd (cc)
     by_origins Proof answer found (Some ws) right told = absurd (cc)
@@ -114,13 +129,15 @@ module _ (back : ReadsBack) (origins_back : OriginsReadBack) (q : QuestionView) 
     by_origins Derived (Contained parts proofs) found (Some ws) right told = absurd (cc)
     by_origins Derived (Open tried) found (Some ws) right told = absurd (cc)
 
-pub told_accepted : ReadsBack → OriginsReadBack → (format : Format) (budgets : Budgets) (plans : List Plan) (q : QuestionView) (told : ToldReply) → IfSome budgets.effort.pivots (λ n. n < 2 ^ 32) → budgets.tries < 2 ^ 32 → length q.text ≤ 1048577
+pub told_accepted : ReadsBack → OriginsReadBack → (format : Format) (budgets : Budgets) (plans : List Plan) (q : QuestionView)
+    (told : ToldReply) → IfSome budgets.effort.pivots (λ n. n < 2 ^ 32) → budgets.tries < 2 ^ 32 → length q.text ≤ 1048577
     → IsFile q.text (q ∷ []) → IsRightTold format budgets plans q.body told → IsAccepted (told_report q told.reply.answer told.origins)
 told_accepted back origins_back format budgets plans q told few few_tries short file right =
     by_origins back origins_back q short file budgets plans few few_tries format told.reply.answer told.reply.found told.origins right.reply right.origins
 
 pub reports_are_accepted : ReadsBack → OriginsReadBack → ReportsAreAccepted
-reports_are_accepted back origins_back format budgets plans q told few few_tries short file right = (told_accepted back origins_back format budgets plans q told few few_tries short file right).verdicts
+reports_are_accepted back origins_back format budgets plans q told few few_tries short file right
+    = (told_accepted back origins_back format budgets plans q told few few_tries short file right).verdicts
 
 -- in a format that writes reports the lines are the report
 pub lines_are_report : (format : Format) → IsOfReports format → (k : ℕ) (q : QuestionView) (told : ToldReply) → AreToldOrigins format q.body told.reply.answer told.origins → told_lines format k q told ≡ told_report q told.reply.answer told.origins ++ codes "\n"

@@ -43,7 +43,8 @@ pub factored_text : {E : Type 0} (effort : Effort) (x : CopyQuestion) (k : ℕ) 
 factored_text effort x k e (Ok t) asked told = record { reply = Extended e told.reply; right = (asked, told.right); is = told.is }
 factored_text effort x k e (Err f) asked told = tt
 
-pub factored_report : {E : Type 0} (effort : Effort) (x : CopyQuestion) (k : ℕ) (e : BodyView) (texts : SourceTexts) (r : Result (Vec ℕ) E) → texts ≡ texts_with x.copies x.question.text → IsAskedWith x.question.body x.copies e
+pub factored_report : {E : Type 0} (effort : Effort) (x : CopyQuestion) (k : ℕ) (e : BodyView) (texts : SourceTexts) (r : Result (Vec ℕ) E)
+    → texts ≡ texts_with x.copies x.question.text → IsAskedWith x.question.body x.copies e
     → IfOk r (λ t. IsFactorReportOf effort texts e t.items) → IfOk r (λ t. IsTextOf (best_mode true effort) [] k x t.items)
 factored_report effort x k e texts (Ok t) same asked told = record {
   reply = Extended e told.reply;

@@ -29,18 +29,22 @@ module _ (common rates n m : ℕ) (p image : ℕ → ℤ) (h : AgreeOnCommon com
   atom_same Nothing k = refl
   atom_same (Entropy of given) k = ap₂ (λ x y. x -ℤ y) (h.on_sets (bit_or of given) (or_lt common of given k.0 k.1)) (h.on_sets given k.1)
   atom_same (Mutual left right given) k = ap₂ (λ x y. x -ℤ y)
-      (ap₂ (λ x y. x +ℤ y) (h.on_sets (bit_or left given) (or_lt common left given k.0 k.2)) (h.on_sets (bit_or right given) (or_lt common right given k.1 k.2)))
-      (ap₂ (λ x y. x +ℤ y) (h.on_sets (bit_or (bit_or left right) given) (or_lt common (bit_or left right) given (or_lt common left right k.0 k.1) k.2)) (h.on_sets given k.2))
+      (ap₂ (λ x y. x +ℤ y) (h.on_sets (bit_or left given) (or_lt common left given k.0 k.2))
+      (h.on_sets (bit_or right given) (or_lt common right given k.1 k.2)))
+      (ap₂ (λ x y. x +ℤ y) (h.on_sets (bit_or (bit_or left right) given) (or_lt common (bit_or left right) given
+      (or_lt common left right k.0 k.1) k.2)) (h.on_sets given k.2))
   atom_same (Rate r) k = h.on_rates r k
 
   side_same : (k : ℕ) (ts : List Term) → All (λ t. IsAtomOf common rates t.atom) ts → side_at m image k ts ≡ side_at n p k ts
   side_same k [] a = refl
   side_same k (t ∷ ts) a = ap₂ (λ x y. cond t.negative (neg_ℤ (pos (multiplicity k t))) (pos (multiplicity k t)) *ℤ x +ℤ y)
-      (atom_same t.atom (All-head (λ (t : Term). IsAtomOf common rates t.atom) t ts a)) (side_same k ts (All-tail (λ (t : Term). IsAtomOf common rates t.atom) t ts a))
+      (atom_same t.atom (All-head (λ (t : Term). IsAtomOf common rates t.atom) t ts a))
+      (side_same k ts (All-tail (λ (t : Term). IsAtomOf common rates t.atom) t ts a))
 
   -- num times the left side less den times the right one
   form_same : (num den : ℤ) (r : RelationView) → IsRelationOf common rates r
-      → (num *ℤ side_at m image (common_denominator r) r.left -ℤ den *ℤ side_at m image (common_denominator r) r.right) ≡ (num *ℤ side_at n p (common_denominator r) r.left -ℤ den *ℤ side_at n p (common_denominator r) r.right)
+      → (num *ℤ side_at m image (common_denominator r) r.left -ℤ den *ℤ side_at m image (common_denominator r) r.right)
+      ≡ (num *ℤ side_at n p (common_denominator r) r.left -ℤ den *ℤ side_at n p (common_denominator r) r.right)
   form_same num den r k = ap₂ (λ x y. num *ℤ x -ℤ den *ℤ y) (side_same (common_denominator r) r.left k.left) (side_same (common_denominator r) r.right k.right)
 
 -- values at the sets of the first n of m variables, and at the rates
@@ -72,19 +76,24 @@ own_count q r verb = ap (λ (v : VerbView). length (names_under q.names v).varia
 
 -- the lines of the problem of a question with this verb are true at a polymatroid
 abbrev TogetherUnder : BodyView → (ℕ → ℤ) → VerbView → Type 0
-TogetherUnder q p verb = IsPolymatroid (length (names_under q.names verb).variables) p × AreTrueAt (length (names_under q.names verb).variables) p (lines_under q.lines verb)
+TogetherUnder q p verb = IsPolymatroid (length (names_under q.names verb).variables) p
+    × AreTrueAt (length (names_under q.names verb).variables) p (lines_under q.lines verb)
 
 own_factor : (q : BodyView) (r : RelationView) (num den : ℤ) (p : ℕ → ℤ) → q.verb ≡ Prove r
-    → factor_form q r num den p ≡ (num *ℤ side_at (length q.names.variables) p (common_denominator r) r.left -ℤ den *ℤ side_at (length q.names.variables) p (common_denominator r) r.right)
-own_factor q r num den p verb = ap (λ n. num *ℤ side_at n p (common_denominator r) r.left -ℤ den *ℤ side_at n p (common_denominator r) r.right) (own_count q r verb)
+    → factor_form q r num den p ≡ (num *ℤ side_at (length q.names.variables) p (common_denominator r) r.left
+    -ℤ den *ℤ side_at (length q.names.variables) p (common_denominator r) r.right)
+own_factor q r num den p verb = ap (λ n. num *ℤ side_at n p (common_denominator r) r.left
+    -ℤ den *ℤ side_at n p (common_denominator r) r.right) (own_count q r verb)
 
 module _ (q e : BodyView) (r : RelationView) (limits : IsQuestion q) (verb : q.verb ≡ Prove r) (same_verb : e.verb ≡ Prove r) (num den : ℤ) where
   -- at a point and its image both questions compare the same sides
-  same_factor : (p image : ℕ → ℤ) → AgreeOnCommon (length q.names.variables) (length q.names.rates) (length q.names.variables) (length e.names.variables) p image → factor_form e r num den image ≡ factor_form q r num den p
+  same_factor : (p image : ℕ → ℤ) → AgreeOnCommon (length q.names.variables) (length q.names.rates) (length q.names.variables)
+      (length e.names.variables) p image → factor_form e r num den image ≡ factor_form q r num den p
   same_factor p image agree =
       let n = length q.names.variables in
       let relation : IsRelationOf n (length q.names.rates) r = subst (IsVerbOver q.names) verb limits.verb in
-      own_factor e r num den image same_verb ∙ form_same n (length q.names.rates) n (length e.names.variables) p image agree num den r relation ∙ sym (own_factor q r num den p verb)
+      own_factor e r num den image same_verb ∙ form_same n (length q.names.rates) n
+      (length e.names.variables) p image agree num den r relation ∙ sym (own_factor q r num den p verb)
 
   by_image : HoldsFor e r num den → HoldsWithCopies q e r num den
   by_image holds p copies =

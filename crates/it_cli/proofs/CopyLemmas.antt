@@ -26,28 +26,33 @@ use Rattle.it_cli.proofs.RightLemmas.{question_at}
 
 -- ---- the answer to one question
 
-due_alone : (b : Budgets) (plans : List Plan) (q : BodyView) (verb : VerbView) (a : AnswerView) (found : List Candidate) → IsProof verb → IsDueBy b plans q verb (record { answer = a; found = found })
+due_alone : (b : Budgets) (plans : List Plan) (q : BodyView) (verb : VerbView) (a : AnswerView) (found : List Candidate) → IsProof verb
+    → IsDueBy b plans q verb (record { answer = a; found = found })
     → IsDueBy (record { effort = b.effort; rows = 1; tries = 1 }) [] q verb (record { answer = a; found = [] })
 due_alone b plans q (Prove r) a found proof (due, none) = (due, refl)
 due_alone b plans q (Eliminate rates) a found proof h = absurd proof
 due_alone b plans q (Contain first second tries) a found proof h = absurd proof
 
 -- a right answer to a question about a relation finds no candidate, and rests on its steps alone
-pub right_alone : (b : Budgets) (plans : List Plan) (q : BodyView) (a : AnswerView) (found : List Candidate) → IsProof q.verb → IsRightAnswer b plans q (record { answer = a; found = found }) → IsRightProof b.effort q a
+pub right_alone : (b : Budgets) (plans : List Plan) (q : BodyView) (a : AnswerView) (found : List Candidate) → IsProof q.verb
+    → IsRightAnswer b plans q (record { answer = a; found = found }) → IsRightProof b.effort q a
 right_alone b plans q a found proof right = record { shows = right.shows; due = due_alone b plans q q.verb a found proof right.due }
 
 -- a right answer to a question about a relation can be written with any names
-writable_by : (b : Budgets) (plans : List Plan) (q : BodyView) (verb : VerbView) (v : NamesView) (a : AnswerView) (found : List Candidate) → IsProof verb → IsDueBy b plans q verb (record { answer = a; found = found }) → IsWritable v a
+writable_by : (b : Budgets) (plans : List Plan) (q : BodyView) (verb : VerbView) (v : NamesView) (a : AnswerView) (found : List Candidate)
+    → IsProof verb → IsDueBy b plans q verb (record { answer = a; found = found }) → IsWritable v a
 writable_by b plans q (Prove r) v a found proof (due, none) = due_is_writable b.effort q r v a due
 writable_by b plans q (Eliminate rates) v a found proof h = absurd proof
 writable_by b plans q (Contain first second tries) v a found proof h = absurd proof
 
-pub right_is_writable : (b : Budgets) (plans : List Plan) (q : BodyView) (v : NamesView) (a : AnswerView) (found : List Candidate) → IsProof q.verb → IsRightAnswer b plans q (record { answer = a; found = found }) → IsWritable v a
+pub right_is_writable : (b : Budgets) (plans : List Plan) (q : BodyView) (v : NamesView) (a : AnswerView) (found : List Candidate)
+    → IsProof q.verb → IsRightAnswer b plans q (record { answer = a; found = found }) → IsWritable v a
 right_is_writable b plans q v a found proof right = writable_by b plans q q.verb v a found proof right.due
 
 -- in any mode, where what tells a misfit is a right reply, the line that says why there is no such question is that of the reply
 module _ (m : Mode) (x : m.Item) (k : ℕ) (fault : CopyFault) (reply : m.Reply) (right : (fault ≡ Memory → ⊥) → m.IsRight [] x reply) where
-  pub misfit_told : {E : Type 0} (line : List ℕ) (r : Result (Vec ℕ) E) → m.text k x reply ≡ line → IfOk r (λ t. t.items ≡ line) → IfOk r (λ t. fault ≡ Memory → ⊥) → IfOk r (λ t. IsTextOf m [] k x t.items)
+  pub misfit_told : {E : Type 0} (line : List ℕ) (r : Result (Vec ℕ) E) → m.text k x reply ≡ line → IfOk r (λ t. t.items ≡ line)
+      → IfOk r (λ t. fault ≡ Memory → ⊥) → IfOk r (λ t. IsTextOf m [] k x t.items)
   misfit_told line (Ok t) same told some = record { reply = reply; right = right some; is = told ∙ sym same }
   misfit_told line (Err e) same told some = tt
 
@@ -57,7 +62,8 @@ module _ (m : Mode) (x : m.Item) (k : ℕ) (fault : CopyFault) (reply : m.Reply)
   misfit_reported texts own r same is told some = misfit_told (report_text texts (misfit_members (misfit_words fault)) ++ codes "\n") r
       (is ∙ ap (λ (s : SourceTexts). report_text s (misfit_members (misfit_words fault)) ++ codes "\n") (sym same)) told some
 
-pub proof_reported : {E : Type 0} (effort : Effort) (x : CopyQuestion) (k : ℕ) (e : BodyView) (texts : SourceTexts) (r : Result (Vec ℕ) E) → texts ≡ copy_texts x → IsExtension x.question.body x.copies e
+pub proof_reported : {E : Type 0} (effort : Effort) (x : CopyQuestion) (k : ℕ) (e : BodyView) (texts : SourceTexts) (r : Result (Vec ℕ) E)
+    → texts ≡ copy_texts x → IsExtension x.question.body x.copies e
     → IfOk r (λ t. IsReportOf effort texts e t.items) → IfOk r (λ t. IsTextOf (copy_mode true effort) [] k x t.items)
 proof_reported effort x k e texts (Ok t) same extension told = record {
   reply = Extended e told.answer;
@@ -67,7 +73,8 @@ proof_reported effort x k e texts (Ok t) same extension told = record {
 proof_reported effort x k e texts (Err f) same extension told = tt
 
 -- the head and the text as they are written
-pub texts_are : (head text : List ℕ) (copies : List CopyView) (q : QuestionView) → head ≡ head_text copies → text ≡ q.text → OfCopies head text ≡ copy_texts (with_copies copies q)
+pub texts_are : (head text : List ℕ) (copies : List CopyView) (q : QuestionView) → head ≡ head_text copies → text ≡ q.text
+    → OfCopies head text ≡ copy_texts (with_copies copies q)
 texts_are head text copies q e f = ap₂ OfCopies e f
 
 -- ---- the questions, one after the other
@@ -78,6 +85,8 @@ items_of cs qs = map (with_copies cs) (map question_view qs)
 pub items_long : (cs : List CopyView) (qs : List Question) → length (items_of cs qs) ≡ length qs
 items_long cs qs = length-map (map question_view qs) (with_copies cs) ∙ length-map qs question_view
 
-pub item_at : (cs : List CopyView) (qs : List Question) (i : ℕ) (r : Question) → i < length qs → r ≡ get_or qs i r → get_or (items_of cs qs) i (with_copies cs (question_view r)) ≡ with_copies cs (question_view r)
+pub item_at : (cs : List CopyView) (qs : List Question) (i : ℕ) (r : Question) → i < length qs → r ≡ get_or qs i r
+    → get_or (items_of cs qs) i (with_copies cs (question_view r)) ≡ with_copies cs (question_view r)
 item_at cs qs i r h e =
-    get_or-map (with_copies cs) (map question_view qs) i (question_view r) (with_copies cs (question_view r)) (omega (arith, h, length-map qs question_view)) ∙ ap (with_copies cs) (question_at qs i r h e)
+    get_or-map (with_copies cs) (map question_view qs) i (question_view r) (with_copies cs (question_view r))
+    (omega (arith, h, length-map qs question_view)) ∙ ap (with_copies cs) (question_at qs i r h e)

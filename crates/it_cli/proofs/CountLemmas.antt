@@ -49,7 +49,8 @@ pub counting_more : (budgets : Budgets) (plans plans_now plans_next : List Plan)
     → IsCounting budgets plans (map question_view qs) (i + 1) (with_answer counts (answer_view answer)) plans_next
 counting_more budgets plans plans_now plans_next qs i r counts answer c h e a = record {
   found = c.found ++ a.found;
-  counted = λ end rest. c.counted end (subst (λ (ys : List QuestionView). AreCounted budgets plans c.found counts ys end) (sym question_is_first) (reply, reply_is_right, rest));
+  counted = λ end rest. c.counted end (subst (λ (ys : List QuestionView). AreCounted budgets plans c.found counts ys end)
+      (sym question_is_first) (reply, reply_is_right, rest));
   learned = a.learned ∙ ap (map (plan_after_all a.found)) c.learned ∙ after_more c.found a.found plans;
   few = total_more counts (answer_view answer) ∙ ap (λ n. n + 1) c.few;
 }
@@ -70,12 +71,16 @@ nothing_left zero (q ∷ qs) h = absurd (omega (arith, h))
 nothing_left (suc i) [] h = refl
 nothing_left (suc i) (q ∷ qs) h = nothing_left i qs (omega (arith, h))
 
-pub counting_done : (budgets : Budgets) (plans plans_now : List Plan) (qs : List QuestionView) (i : ℕ) (counts : Counts) → IsCounting budgets plans qs i counts plans_now → length qs ≤ i → AreCounted budgets plans [] no_counts qs counts
-counting_done budgets plans plans_now qs i counts c h = c.counted counts (subst (λ (ys : List QuestionView). AreCounted budgets plans c.found counts ys counts) (sym (nothing_left i qs h)) refl)
+pub counting_done : (budgets : Budgets) (plans plans_now : List Plan) (qs : List QuestionView) (i : ℕ) (counts : Counts)
+    → IsCounting budgets plans qs i counts plans_now → length qs ≤ i → AreCounted budgets plans [] no_counts qs counts
+counting_done budgets plans plans_now qs i counts c h = c.counted counts
+    (subst (λ (ys : List QuestionView). AreCounted budgets plans c.found counts ys counts) (sym (nothing_left i qs h)) refl)
 
 -- ---- the counts are determined
 
-pub one_count : OneRightAnswer → (budgets : Budgets) → budgets.effort.quick ≡ false → (plans : List Plan) (before : List Candidate) (counts : Counts) (qs : List QuestionView) (c d : Counts) → AreCounted budgets plans before counts qs c → AreCounted budgets plans before counts qs d → c ≡ d
+pub one_count : OneRightAnswer → (budgets : Budgets) → budgets.effort.quick ≡ false
+    → (plans : List Plan) (before : List Candidate) (counts : Counts) (qs : List QuestionView) (c d : Counts)
+    → AreCounted budgets plans before counts qs c → AreCounted budgets plans before counts qs d → c ≡ d
 one_count one_answer budgets defined plans before counts [] c d a b = a ∙ sym b
 one_count one_answer budgets defined plans before counts (q ∷ qs) c d (reply, right, rest) (other, is_right, more) =
     let same : other ≡ reply = one_answer budgets (map (plan_after_all before) plans) q.body other reply defined is_right right in
@@ -86,7 +91,8 @@ one_count one_answer budgets defined plans before counts (q ∷ qs) c d (reply, 
 
 -- the counts with one more answer are those with one more yes, no or undecided
 abbrev IsOneMore : Counts → Counts → Type 0
-IsOneMore c d = (d.yes + d.no + d.undecided ≡ c.yes + c.no + c.undecided + 1) × (d.regions ≡ c.regions) × (d.contained ≡ c.contained) × (d.left_open ≡ c.left_open)
+IsOneMore c d = (d.yes + d.no + d.undecided ≡ c.yes + c.no + c.undecided + 1) × (d.regions ≡ c.regions) × (d.contained ≡ c.contained)
+    × (d.left_open ≡ c.left_open)
 
 counted_answer : (q : BodyView) (r : RelationView) (c : Counts) (answer : AnswerView) → ShowsBy q (Prove r) answer → IsOneMore c (with_answer c answer)
 counted_answer q r c (Yes ws) x = (omega arith, refl, refl, refl)
@@ -100,15 +106,19 @@ with_verb_is_prove : (q : QuestionView) (verb : VerbView) → q.body.verb ≡ ve
 with_verb_is_prove q verb is proof = subst (λ (v : VerbView). IsProve (record q { body = record q.body { verb = v } })) is proof
 
 -- where the verb is `prove`
-counted_shown : (q : QuestionView) (verb : VerbView) (answer : AnswerView) (c : Counts) → q.body.verb ≡ verb → IsProve q → ShowsBy q.body verb answer → IsOneMore c (with_answer c answer)
+counted_shown : (q : QuestionView) (verb : VerbView) (answer : AnswerView) (c : Counts) → q.body.verb ≡ verb → IsProve q
+    → ShowsBy q.body verb answer → IsOneMore c (with_answer c answer)
 counted_shown q (Prove r) answer c is proof x = counted_answer q.body r c answer x
 counted_shown q (Eliminate rates) answer c is proof x = absurd (with_verb_is_prove q (Eliminate rates) is proof)
 counted_shown q (Contain a b tries) answer c is proof x = absurd (with_verb_is_prove q (Contain a b tries) is proof)
 
-answers_add_up : (budgets : Budgets) (plans : List Plan) (before : List Candidate) (counts : Counts) (qs : List QuestionView) (end : Counts) → All IsProve qs → AreCounted budgets plans before counts qs end
-    → (end.yes + end.no + end.undecided ≡ counts.yes + counts.no + counts.undecided + length qs) × (end.regions ≡ counts.regions) × (end.contained ≡ counts.contained) × (end.left_open ≡ counts.left_open)
+answers_add_up : (budgets : Budgets) (plans : List Plan) (before : List Candidate) (counts : Counts) (qs : List QuestionView) (end : Counts)
+    → All IsProve qs → AreCounted budgets plans before counts qs end
+    → (end.yes + end.no + end.undecided ≡ counts.yes + counts.no + counts.undecided + length qs) × (end.regions ≡ counts.regions)
+    × (end.contained ≡ counts.contained) × (end.left_open ≡ counts.left_open)
 answers_add_up budgets plans before counts [] end all is =
-    subst (λ (e : Counts). (e.yes + e.no + e.undecided ≡ counts.yes + counts.no + counts.undecided + 0) × (e.regions ≡ counts.regions) × (e.contained ≡ counts.contained) × (e.left_open ≡ counts.left_open))
+    subst (λ (e : Counts). (e.yes + e.no + e.undecided ≡ counts.yes + counts.no + counts.undecided + 0) × (e.regions ≡ counts.regions)
+    × (e.contained ≡ counts.contained) × (e.left_open ≡ counts.left_open))
     (sym is) (omega arith, refl, refl, refl)
 answers_add_up budgets plans before counts (q ∷ qs) end all (reply, right, rest) =
     let one = counted_shown q q.body.verb reply.answer counts refl (All-head IsProve q qs all) right.shows in
@@ -124,7 +134,8 @@ counts_add_up generated one_reading budgets plans seed count questions counts fe
     (sum.0 ∙ (let n : length questions ≡ count = ap length (sym same) ∙ file.counted in omega (arith, n)), sum.1, sum.2, sum.3)
 
 -- a generated file has no fault
-pub generated_has_no_fault : GeneratedIsFile → FileOrFault → (seed count : ℕ) (bytes : List ℕ) (line column : ℕ) (code : Code) → count ≤ 1000 → bytes ≡ generated_file seed count → FileFaultAt bytes line column code → ⊥
+pub generated_has_no_fault : GeneratedIsFile → FileOrFault → (seed count : ℕ) (bytes : List ℕ) (line column : ℕ) (code : Code)
+    → count ≤ 1000 → bytes ≡ generated_file seed count → FileFaultAt bytes line column code → ⊥
 generated_has_no_fault generated apart seed count bytes line column code few is fault =
     let file = generated seed count few in
     apart (generated_file seed count) file.questions line column code file.asked (subst (λ (b : List ℕ). FileFaultAt b line column code) is fault)

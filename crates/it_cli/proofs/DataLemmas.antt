@@ -118,11 +118,13 @@ mutual
 
   items_back : (ds : Items) → ItemsArePlain ds → of_items (items_outline ds) ≡ Some ds
   items_back no_items h = refl
-  items_back (item d ds) h = ap (option_and_then (λ x. option_map (item x) (of_items (items_outline ds)))) (data_back d h.0) ∙ ap (option_map (item d)) (items_back ds h.1)
+  items_back (item d ds) h = ap (option_and_then (λ x. option_map (item x) (of_items (items_outline ds)))) (data_back d h.0)
+      ∙ ap (option_map (item d)) (items_back ds h.1)
 
   members_back : (ms found : Members) → MembersArePlain ms → of_members (members_outline ms) found ≡ Some (put_all ms found)
   members_back no_members found h = refl
-  members_back (member k d ms) found h = ap (option_and_then (λ x. of_members (members_outline ms) (put k x found))) (data_back d h.1.0) ∙ members_back ms (put k d found) h.1.1
+  members_back (member k d ms) found h = ap (option_and_then (λ x. of_members (members_outline ms) (put k x found))) (data_back d h.1.0)
+      ∙ members_back ms (put k d found) h.1.1
 
 number_utf8 : (n : Num) → IsPlainNumber n → IsUtf8 (number_text n)
 number_utf8 (unsigned n) h = let e : 2 ^ 64 ≤ 10 ^ 64 = lit≤ tt in IsUtf8-from_ascii (decimal n) (IsAscii-decimal_wide n (omega (arith, h, e)))
@@ -145,7 +147,8 @@ mutual
   items_utf8 : (later : Bool) (ds : Items) → ItemsArePlain ds → IsUtf8 (items_text later ds)
   items_utf8 later no_items h = IsUtf8-are_ascii (93 ∷ []) refl
   items_utf8 later (item d ds) h =
-      IsUtf8-append (comma_if later) (compact_text d ++ items_text true ds) (comma_utf8 later) (IsUtf8-append (compact_text d) (items_text true ds) (text_utf8 d h.0) (items_utf8 true ds h.1))
+      IsUtf8-append (comma_if later) (compact_text d ++ items_text true ds) (comma_utf8 later)
+      (IsUtf8-append (compact_text d) (items_text true ds) (text_utf8 d h.0) (items_utf8 true ds h.1))
 
   members_utf8 : (later : Bool) (ms : Members) → MembersArePlain ms → IsUtf8 (members_text later ms)
   members_utf8 later no_members h = IsUtf8-are_ascii (125 ∷ []) refl
@@ -153,7 +156,8 @@ mutual
       let rest = compact_text d ++ members_text true ms in
       IsUtf8-append (comma_if later) (quoted k ++ 58 ∷ rest) (comma_utf8 later)
       (IsUtf8-append (quoted k) (58 ∷ rest) (IsUtf8-quoted k h.0)
-      (IsUtf8-append (58 ∷ []) rest (IsUtf8-are_ascii (58 ∷ []) refl) (IsUtf8-append (compact_text d) (members_text true ms) (text_utf8 d h.1.0) (members_utf8 true ms h.1.1))))
+      (IsUtf8-append (58 ∷ []) rest (IsUtf8-are_ascii (58 ∷ []) refl) (IsUtf8-append (compact_text d) (members_text true ms)
+      (text_utf8 d h.1.0) (members_utf8 true ms h.1.1))))
 
 -- the text of such a value, if it isn't deep
 read_text : (d : Data) → IsPlain d → depth d ≤ 127 → read (compact_text d) ≡ Some d
@@ -176,7 +180,8 @@ below_wide n h = let e : 2 ^ 127 ≤ 10 ^ 64 = lit≤ tt in omega (arith, e)
 
 integer_plain : (z : ℤ) → IsWithin z → IsPlain (integer_value z)
 integer_plain (pos n) h = IsUtf8-from_ascii (decimal n) (IsAscii-decimal_wide n (below_wide n h))
-integer_plain (negsuc n) h = IsUtf8-from_ascii (45 ∷ decimal (suc n)) (IsAscii-cons 45 (decimal (suc n)) (omega arith) (IsAscii-decimal_wide (suc n) (below_wide (suc n) h)))
+integer_plain (negsuc n) h = IsUtf8-from_ascii (45 ∷ decimal (suc n)) (IsAscii-cons 45 (decimal (suc n)) (omega arith)
+    (IsAscii-decimal_wide (suc n) (below_wide (suc n) h)))
 
 count_plain : (n : ℕ) → n < 2 ^ 32 → IsPlain (count_value n)
 count_plain n h = let e : 2 ^ 32 ≤ 2 ^ 64 = lit≤ tt in omega (arith, h, e)
@@ -194,7 +199,11 @@ proof_plain c h = (
       integer_plain c.scale h.scale,
       (
         IsUtf8-are_ascii (codes "weights") refl,
-        (items_plain pair_value IsNumberedAmount pair_plain (filter is_nonzero_weight c.weights) (All-filter is_nonzero_weight IsNumberedAmount c.weights h.weights), tt),
+        (
+          items_plain pair_value IsNumberedAmount pair_plain (filter is_nonzero_weight c.weights)
+              (All-filter is_nonzero_weight IsNumberedAmount c.weights h.weights),
+          tt,
+        ),
       ),
     ),
   ),
@@ -265,7 +274,8 @@ module _ (text : List ℕ) (v : NamesView) (ok : IsUtf8 text) where
   unfolding answer_value answer_members
   region_plain rows h = ((answer_utf8, (IsUtf8-are_ascii (codes "region") refl, (question_utf8, (ok, (IsUtf8-are_ascii (codes "rows") refl, (items_plain row_value (λ r. All IsNumberedAmount r.1) row_plain rows h, tt)))))), refl)
 
-  pub derived_plain : (rows : List (Mark × Terms)) (ws : List CertificateView) → All (λ r. All IsNumberedAmount r.1) rows → All IsNumbered ws → IsPlain (derived_value text v rows ws)
+  pub derived_plain : (rows : List (Mark × Terms)) (ws : List CertificateView) → All (λ r. All IsNumberedAmount r.1) rows
+      → All IsNumbered ws → IsPlain (derived_value text v rows ws)
   unfolding derived_value answer_members
   derived_plain rows ws h k = (
     (
@@ -290,7 +300,8 @@ module _ (text : List ℕ) (v : NamesView) (ok : IsUtf8 text) where
     refl,
   )
 
-  pub contained_plain : (parts : List ℕ) (proofs : List CertificateView) → All (λ s. s < 2 ^ 32) parts → All IsNumbered proofs → IsPlain (answer_value text v (Contained parts proofs))
+  pub contained_plain : (parts : List ℕ) (proofs : List CertificateView) → All (λ s. s < 2 ^ 32) parts → All IsNumbered proofs
+      → IsPlain (answer_value text v (Contained parts proofs))
   unfolding answer_value answer_members
   contained_plain parts proofs h k = (
     (
@@ -321,16 +332,19 @@ pub answer_text_utf8 : (text : List ℕ) (v : NamesView) (a : AnswerView) → Is
 unfolding answer_text
 answer_text_utf8 text v a h = text_utf8 (answer_value text v a) h
 
-pub answer_text_back : (text : List ℕ) (v : NamesView) (a : AnswerView) → IsPlain (answer_value text v a) → read (answer_text text v a) ≡ Some (answer_value text v a)
+pub answer_text_back : (text : List ℕ) (v : NamesView) (a : AnswerView) → IsPlain (answer_value text v a)
+    → read (answer_text text v a) ≡ Some (answer_value text v a)
 unfolding answer_text
 answer_text_back text v a h = read_text (answer_value text v a) h (answer_shallow text v a)
 
 -- the line of a region with certificates of its rows
-pub derived_text_utf8 : (text : List ℕ) (v : NamesView) (rows : List (Mark × Terms)) (ws : List CertificateView) → IsPlain (derived_value text v rows ws) → IsUtf8 (derived_text text v rows ws)
+pub derived_text_utf8 : (text : List ℕ) (v : NamesView) (rows : List (Mark × Terms)) (ws : List CertificateView)
+    → IsPlain (derived_value text v rows ws) → IsUtf8 (derived_text text v rows ws)
 unfolding derived_text
 derived_text_utf8 text v rows ws h = text_utf8 (derived_value text v rows ws) h
 
-pub derived_text_back : (text : List ℕ) (v : NamesView) (rows : List (Mark × Terms)) (ws : List CertificateView) → IsPlain (derived_value text v rows ws) → read (derived_text text v rows ws) ≡ Some (derived_value text v rows ws)
+pub derived_text_back : (text : List ℕ) (v : NamesView) (rows : List (Mark × Terms)) (ws : List CertificateView)
+    → IsPlain (derived_value text v rows ws) → read (derived_text text v rows ws) ≡ Some (derived_value text v rows ws)
 unfolding derived_text
 derived_text_back text v rows ws h =
     let d = derived_value text v rows ws in

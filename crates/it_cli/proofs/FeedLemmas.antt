@@ -110,7 +110,11 @@ mutual
   members_clear later (member k d ms) h =
       let rest = compact_text d ++ members_text true ms in
       every-append IsNoFeed (comma_if later) (quoted k ++ 58 ∷ rest) (comma_clear later)
-      (every-append IsNoFeed (quoted k) (58 ∷ rest) (quoted_clear k) (refl, every-append IsNoFeed (compact_text d) (members_text true ms) (data_clear d h.1.0) (members_clear true ms h.1.1)))
+      (every-append IsNoFeed (quoted k) (58 ∷ rest) (quoted_clear k) (
+        refl,
+        every-append IsNoFeed (compact_text d) (members_text true ms)
+            (data_clear d h.1.0) (members_clear true ms h.1.1),
+      ))
 
 -- the line of an answer
 pub answer_text_clear : (text : List ℕ) (v : NamesView) (a : AnswerView) → IsPlain (answer_value text v a) → Every IsNoFeed (answer_text text v a)
@@ -118,6 +122,7 @@ unfolding answer_text
 answer_text_clear text v a h = data_clear (answer_value text v a) h
 
 -- that of a region with certificates of its rows
-pub derived_text_clear : (text : List ℕ) (v : NamesView) (rows : List (Mark × Terms)) (ws : List CertificateView) → IsPlain (derived_value text v rows ws) → Every IsNoFeed (derived_text text v rows ws)
+pub derived_text_clear : (text : List ℕ) (v : NamesView) (rows : List (Mark × Terms)) (ws : List CertificateView)
+    → IsPlain (derived_value text v rows ws) → Every IsNoFeed (derived_text text v rows ws)
 unfolding derived_text
 derived_text_clear text v rows ws h = data_clear (derived_value text v rows ws) h

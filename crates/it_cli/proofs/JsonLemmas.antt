@@ -8,7 +8,7 @@ use Rattle.it_space.specs.declared.answers.Cause.{Cause}
 use Rattle.it_space.specs.declared.spaces.Space.{Space}
 use Rattle.it_space.specs.Answers.{AnswerView, CertificateView, IfRate, is_nonzero_weight}
 use Rattle.it_space.specs.Answers.AnswerView.{Yes, No, Undecided, Region, Contained, Open}
-use Rattle.it_space.specs.Problems.{ProblemView, IsProblem}
+use Rattle.it_problems.specs.Problems.{ProblemView, IsProblem}
 use Rattle.it_space.specs.Rows.{Terms, Ascends, IsCanonical, coefficient}
 use Rattle.it_space.specs.Spaces.{size_of}
 use Rattle.it_polymatroid.specs.Certificates.{Form}
@@ -91,11 +91,14 @@ module _ (q : ProblemView) (target : Terms) where
   spread_fits qs limits fit =
       let cs = closed_places q in
       let row = terms_of_places (closed_places q) (scaled_point qs) in
-      let canonical : IsCanonical row = pairs_canonical cs (scaled_point qs) row refl (places_rise q cs limits refl) (scaled_within (scale_of qs) qs (scaled_point qs) refl fit.numbers) in
+      let canonical : IsCanonical row = pairs_canonical cs (scaled_point qs) row refl (places_rise q cs limits refl)
+      (scaled_within (scale_of qs) qs (scaled_point qs) refl fit.numbers) in
       let values = map (spread_out q.space.variables (dependences_of q) (coefficient row)) (span 1 (size_of q.space)) in
-      subst (All IsWithin) (point_spread q q.space (dependences_of q) cs qs row values refl refl refl refl refl) (spread_within q.space.variables (dependences_of q) (size_of q.space) row canonical)
+      subst (All IsWithin) (point_spread q q.space (dependences_of q) cs qs row values refl refl refl refl refl)
+      (spread_within q.space.variables (dependences_of q) (size_of q.space) row canonical)
 
-  values_by_end : IsProblem q → (values : List ℤ) (e : RunEndView (List (ℕ × Rational)) (List Rational)) → Follows q target e (proof_views.No values) → All IsWithin values
+  values_by_end : IsProblem q → (values : List ℤ) (e : RunEndView (List (ℕ × Rational)) (List Rational))
+      → Follows q target e (proof_views.No values) → All IsWithin values
   values_by_end limits values (Weights ws) (inl h) = let e = h.3 in absurd (cc)
   values_by_end limits values (Weights ws) (inr h) = let e = h.1 in absurd (cc)
   values_by_end limits values (Point qs) (inl h) = subst (All IsWithin) (no_same (spread_point q qs) values (sym h.1)) (spread_fits qs limits h.0.0)
@@ -131,7 +134,8 @@ unbound_up_to budget (Width j) w h = h
 
 module _ {S W P : Type 0} (IsDone IsStuck Fits : S → Type 0) (next : S → S) (weights : S → W) (point : S → P) where
   by_step : (left k : ℕ) (s : S) (e : RunEndView W P) → (EndsAs IsDone IsStuck Fits next weights point left (suc k) (next s) e → IsUpToStep (suc k + left) e)
-      → (¬ (Fits s) × (e ≡ Width (clip_number (suc k)))) ⊎ (Fits s × EndsAs IsDone IsStuck Fits next weights point left (suc k) (next s) e) → IsUpToStep (k + suc left) e
+      → (¬ (Fits s) × (e ≡ Width (clip_number (suc k)))) ⊎ (Fits s × EndsAs IsDone IsStuck Fits next weights point left (suc k) (next s) e)
+      → IsUpToStep (k + suc left) e
   by_step left k s e more (inl g) = subst (IsUpToStep (k + suc left)) (sym g.1) (let l : min (suc k) 4294967295 ≤ last_step = omega arith in l)
   by_step left k s e more (inr g) = let same : suc k + left ≡ k + suc left = omega arith in subst (λ n. IsUpToStep n e) same (more g.1)
 
@@ -144,18 +148,22 @@ module _ {S W P : Type 0} (IsDone IsStuck Fits : S → Type 0) (next : S → S) 
   in_budget (suc left) k s e (inr (inr h)) = by_step left k s e (in_budget left (suc k) (next s) e) h.2
 
   -- with a budget of 32 bits, or without one
-  ends_told : (budget : Option ℕ) (s : S) (e : RunEndView W P) → IfSome budget (λ n. n < 2 ^ 32) → EndsBy IsDone IsStuck Fits next weights point budget s e → IsUpToStep last_step e
+  ends_told : (budget : Option ℕ) (s : S) (e : RunEndView W P) → IfSome budget (λ n. n < 2 ^ 32)
+      → EndsBy IsDone IsStuck Fits next weights point budget s e → IsUpToStep last_step e
   ends_told (Some most) s e few h = up_to_more (0 + most) last_step e (omega (arith, few)) (in_budget most 0 s e h)
   ends_told None s e few h = unbound_up_to (0 + h.0) e h.2 (in_budget h.0 0 s e h.1)
 
 start_up_to : {W P : Type 0} (e : RunEndView W P) → e ≡ Width 0 → IsUpToStep last_step e
 start_up_to e is = subst (IsUpToStep last_step) (sym is) (let l : 0 ≤ last_step = omega arith in l)
 
-solve_end_up_to : (coordinates : List ℕ) (columns : List Terms) (target : Terms) (budget : Option ℕ) (e : RunEndView (List (ℕ × Rational)) (List Rational)) → IfSome budget (λ n. n < 2 ^ 32) → Solves coordinates columns target budget e → IsUpToStep last_step e
+solve_end_up_to : (coordinates : List ℕ) (columns : List Terms) (target : Terms) (budget : Option ℕ)
+    (e : RunEndView (List (ℕ × Rational)) (List Rational)) → IfSome budget (λ n. n < 2 ^ 32) → Solves coordinates columns target budget e
+    → IsUpToStep last_step e
 solve_end_up_to coordinates columns target budget e few (inl h) = start_up_to e h.1
 solve_end_up_to coordinates columns target budget e few (inr h) = ends_told _ _ _ _ _ _ budget _ e few h.1
 
-run_end_up_to : (q : ProblemView) (target : Terms) (budget : Option ℕ) (e : RunEndView (List (ℕ × Rational)) (List Rational)) → IfSome budget (λ n. n < 2 ^ 32) → Runs q target budget e → IsUpToStep last_step e
+run_end_up_to : (q : ProblemView) (target : Terms) (budget : Option ℕ) (e : RunEndView (List (ℕ × Rational)) (List Rational))
+    → IfSome budget (λ n. n < 2 ^ 32) → Runs q target budget e → IsUpToStep last_step e
 run_end_up_to q target budget e few (inl h) = start_up_to e h.1
 run_end_up_to q target budget e few (inr h) = solve_end_up_to _ _ _ budget e few h.1
 
@@ -189,7 +197,8 @@ proofs_scaled p effort [] (w ∷ ws) d = absurd d
 proofs_scaled p effort (t ∷ ts) [] d = absurd d
 proofs_scaled p effort (t ∷ ts) (w ∷ ws) d = All-cons IsScaled w ws (scaled_proof p effort t w d.0) (proofs_scaled p effort ts ws d.1)
 
-module _ (q : BodyView) (p : ProblemView) (space : p.space ≡ space_of (problem_names q)) (limits : IsProblem p) (stated : AllZip (States p.space) (question_demands q) p.constraints) where
+module _ (q : BodyView) (p : ProblemView) (space : p.space ≡ space_of (problem_names q)) (limits : IsProblem p)
+    (stated : AllZip (States p.space) (question_demands q) p.constraints) where
   demands_counted : length (question_demands q) ≤ 2 ^ 20
   demands_counted =
       let same = zip-length (States p.space) (question_demands q) p.constraints stated in
@@ -214,7 +223,11 @@ module _ (q : BodyView) (p : ProblemView) (space : p.space ≡ space_of (problem
   all_numbered [] (w ∷ ws) c d = absurd c
   all_numbered (f ∷ fs) (w ∷ ws) c d =
       let s = All-head IsScaled w ws d in
-      All-cons IsNumbered w ws (record { scale = s.scale; weights = pairs_below (all_demands (variable_count q) (question_demands q)) few_generators 0 w.weights s.canonical c.0.allowed })
+      All-cons IsNumbered w ws (record {
+        scale = s.scale;
+        weights = pairs_below
+            (all_demands (variable_count q) (question_demands q)) few_generators 0 w.weights s.canonical c.0.allowed;
+      })
       (all_numbered fs ws c.1 (All-tail IsScaled w ws d))
 
   pub all_counted : (fs : List Form) (ws : List CertificateView) → CertifyAll q fs ws → length ws ≡ length fs
@@ -236,7 +249,8 @@ module _ (q : BodyView) (posed : IsProblemOf q (problem_of q)) where
   values_due effort (t ∷ []) true values d = absurd d
   values_due effort (t ∷ u ∷ ts) true values d = values_of_no effort u values d.1
 
-  second_only : (s : Sign) (f : Form) (back : Bool) (values : List ℤ) → Refutes q (inequalities_of (kind_of s) f) back values → back ≡ true → is_equation (kind_of s) ≡ true
+  second_only : (s : Sign) (f : Form) (back : Bool) (values : List ℤ) → Refutes q (inequalities_of (kind_of s) f) back values → back ≡ true
+      → is_equation (kind_of s) ≡ true
   second_only AtLeast f true values c e = absurd c
   second_only AtMost f true values c e = absurd c
   second_only Equal f back values c e = refl
@@ -245,11 +259,14 @@ module _ (q : BodyView) (posed : IsProblemOf q (problem_of q)) where
 
   -- ---- causes
 
-  cause_of_target : (effort : Effort) → IfSome effort.pivots (λ n. n < 2 ^ 32) → (t : Terms) (c : Cause) → EndsWith (problem_of q) t effort (proof_views.Undecided c) → IsCauseFor q.names c
-  cause_of_target effort few t c (inl e) = cause_by_end q.names (problem_of q) t c e.end (run_end_up_to (problem_of q) t effort.pivots e.end few e.run) e.follows
+  cause_of_target : (effort : Effort) → IfSome effort.pivots (λ n. n < 2 ^ 32) → (t : Terms) (c : Cause)
+      → EndsWith (problem_of q) t effort (proof_views.Undecided c) → IsCauseFor q.names c
+  cause_of_target effort few t c (inl e) = cause_by_end q.names (problem_of q) t c e.end
+      (run_end_up_to (problem_of q) t effort.pivots e.end few e.run) e.follows
   cause_of_target effort few t c (inr (quick, settled)) = absurd settled
 
-  cause_due : (effort : Effort) → IfSome effort.pivots (λ n. n < 2 ^ 32) → (ts : List Terms) (c : Cause) → CauseIsDue (problem_of q) effort ts c → IsCauseFor q.names c
+  cause_due : (effort : Effort) → IfSome effort.pivots (λ n. n < 2 ^ 32) → (ts : List Terms) (c : Cause)
+      → CauseIsDue (problem_of q) effort ts c → IsCauseFor q.names c
   cause_due effort few [] c d = absurd d
   cause_due effort few (t ∷ ts) c (inl e) = cause_of_target effort few t c e
   cause_due effort few (t ∷ ts) c (inr d) = cause_due effort few ts c d.1
@@ -259,7 +276,8 @@ module _ (q : BodyView) (posed : IsProblemOf q (problem_of q)) where
 abbrev NamesNone : Cause → Type 0
 NamesNone c = IfRate (λ r. ⊥) c
 
-end_names_none : (q : ProblemView) (target : Terms) (c : Cause) (e : RunEndView (List (ℕ × Rational)) (List Rational)) → Follows q target e (proof_views.Undecided c) → NamesNone c
+end_names_none : (q : ProblemView) (target : Terms) (c : Cause) (e : RunEndView (List (ℕ × Rational)) (List Rational))
+    → Follows q target e (proof_views.Undecided c) → NamesNone c
 end_names_none q target c (Weights ws) (inl h) = let e = h.3 in absurd (cc)
 end_names_none q target c (Weights ws) (inr h) = subst NamesNone (undecided_same causes.Scale c (sym h.1)) tt
 end_names_none q target c (Point qs) (inl h) = let e = h.1 in absurd (cc)
@@ -287,17 +305,21 @@ none_is_any P (causes.WideRate r) h = absurd h
 pub due_is_writable : (effort : Effort) (q : BodyView) (r : RelationView) (v : NamesView) (a : AnswerView) → IsDueRelation effort q r a → IsWritable v a
 due_is_writable effort q r v (Yes ws) due = tt
 due_is_writable effort q r v (No back values) due = tt
-due_is_writable effort q r v (Undecided cause) due = none_is_any (IsAsciiRate v) cause (due_names_none (problem_of q) effort (map (terms_in q) (targets (variable_count q) r)) cause due)
+due_is_writable effort q r v (Undecided cause) due = none_is_any (IsAsciiRate v) cause
+    (due_names_none (problem_of q) effort (map (terms_in q) (targets (variable_count q) r)) cause due)
 due_is_writable effort q r v (Region rows) due = tt
 due_is_writable effort q r v (Contained parts proofs) due = tt
 due_is_writable effort q r v (Open tried) due = tt
 
 -- a right answer to `prove` fits its question
-pub right_prove_fits : (effort : Effort) (q : BodyView) (r : RelationView) (a : AnswerView) → IfSome effort.pivots (λ n. n < 2 ^ 32) → IsProblemOf q (problem_of q) → q.verb ≡ Prove r → ShowsBy q (Prove r) a → IsDueRelation effort q r a
+pub right_prove_fits : (effort : Effort) (q : BodyView) (r : RelationView) (a : AnswerView) → IfSome effort.pivots (λ n. n < 2 ^ 32)
+    → IsProblemOf q (problem_of q) → q.verb ≡ Prove r → ShowsBy q (Prove r) a → IsDueRelation effort q r a
     → HasVerbShape q.names (Prove r) a
 right_prove_fits effort q r (Yes ws) few posed verb shown due = (
-  all_counted q (problem_of q) posed.space posed.limits posed.constraints.stated (targets (variable_count q) r) ws shown ∙ targets_counted (variable_count q) (length q.names.variables) r,
-  all_numbered q (problem_of q) posed.space posed.limits posed.constraints.stated (targets (variable_count q) r) ws shown (proofs_scaled (problem_of q) effort (map (terms_in q) (targets (variable_count q) r)) ws due),
+  all_counted q (problem_of q) posed.space posed.limits posed.constraints.stated (targets (variable_count q) r) ws shown
+      ∙ targets_counted (variable_count q) (length q.names.variables) r,
+  all_numbered q (problem_of q) posed.space posed.limits posed.constraints.stated (targets (variable_count q) r) ws shown
+      (proofs_scaled (problem_of q) effort (map (terms_in q) (targets (variable_count q) r)) ws due),
 )
 right_prove_fits effort q r (No back values) few posed verb shown due =
     let own : space_of (problem_names q) ≡ space_of q.names = ap (λ (v : _). space_of (names_under q.names v)) verb in (
@@ -305,7 +327,8 @@ right_prove_fits effort q r (No back values) few posed verb shown due =
       values_due q posed effort (map (terms_in q) (targets (variable_count q) r)) back values due,
       second_only q posed r.sign (form_of (variable_count q) r) back values shown,
     )
-right_prove_fits effort q r (Undecided cause) few posed verb shown due = cause_due q posed effort few (map (terms_in q) (targets (variable_count q) r)) cause due
+right_prove_fits effort q r (Undecided cause) few posed verb shown due = cause_due q posed effort few
+    (map (terms_in q) (targets (variable_count q) r)) cause due
 right_prove_fits effort q r (Region rows) few posed verb shown due = absurd shown
 right_prove_fits effort q r (Contained parts proofs) few posed verb shown due = absurd shown
 right_prove_fits effort q r (Open tried) few posed verb shown due = absurd shown
@@ -316,10 +339,12 @@ answer_cause_same : (c d : Cause) → Undecided c ≡ Undecided d → c ≡ d
 answer_cause_same c d e = cc
 
 -- A cause of an elimination fits, where each listed rate is found by its name, and the name is no number.
-pub eliminated_cause_fits : (budgets : Budgets) (q : BodyView) (rates : List ℕ) (cause : Cause) → ((r : ℕ) → Member r rates → IsFoundIn q.names r × (step_of (get_or q.names.rates r []) ≡ None))
+pub eliminated_cause_fits : (budgets : Budgets) (q : BodyView) (rates : List ℕ) (cause : Cause)
+    → ((r : ℕ) → Member r rates → IsFoundIn q.names r × (step_of (get_or q.names.rates r []) ≡ None))
     → IsDueElimination budgets q rates (Undecided cause) → IsCauseFor q.names cause
 eliminated_cause_fits budgets q rates cause named due =
-    by_end due.end (end_of_rates (problem_of q) budgets.effort budgets.rows (map (terms_in q) (system_forms (variable_count q) q.lines.rows)) [] [] rates due.end due.ends) due.is
+    by_end due.end (end_of_rates (problem_of q) budgets.effort budgets.rows
+    (map (terms_in q) (system_forms (variable_count q) q.lines.rows)) [] [] rates due.end due.ends) due.is
   where
     by_end : (end : ProjectedView) → IsEndOf rates end → Undecided cause ≡ answer_of_end end → IsCauseFor q.names cause
     by_end (projections.Region kept dropped) h is = absurd (cc)
@@ -330,11 +355,13 @@ eliminated_cause_fits budgets q rates cause named due =
 
 weights_are_some : (from : ℕ) (ts : Terms) → Ascends from ts → filter is_nonzero_weight ts ≡ ts
 weights_are_some from [] a = refl
-weights_are_some from (t ∷ ts) a = ap (λ b. cond b (t ∷ filter is_nonzero_weight ts) (filter is_nonzero_weight ts)) (nonzero_passes t.1 a.1) ∙ ap (λ zs. t ∷ zs) (weights_are_some (t.0 + 1) ts a.3)
+weights_are_some from (t ∷ ts) a = ap (λ b. cond b (t ∷ filter is_nonzero_weight ts) (filter is_nonzero_weight ts)) (nonzero_passes t.1 a.1)
+    ∙ ap (λ zs. t ∷ zs) (weights_are_some (t.0 + 1) ts a.3)
 
 -- A certificate whose weights ascend is written whole.
 pub all_weights_written : (ws : List CertificateView) → All (λ w. IsCanonical w.weights) ws → map without_zeros ws ≡ ws
 all_weights_written [] all = refl
 all_weights_written (w ∷ ws) all =
-    ap (λ ps. record { scale = w.scale; weights = ps } ∷ map without_zeros ws) (weights_are_some 0 w.weights (All-head (λ (w : CertificateView). IsCanonical w.weights) w ws all))
+    ap (λ ps. record { scale = w.scale; weights = ps } ∷ map without_zeros ws)
+    (weights_are_some 0 w.weights (All-head (λ (w : CertificateView). IsCanonical w.weights) w ws all))
     ∙ ap (λ vs. w ∷ vs) (all_weights_written ws (All-tail (λ (w : CertificateView). IsCanonical w.weights) w ws all))

@@ -29,7 +29,8 @@ has_one_or_none r settings reading none = cc
 one_reading : (r : Call) (a b : Settings) → settings_of r.words ≡ Some a → settings_of r.words ≡ Some b → a ≡ b
 one_reading r a b first second = some_same a b (sym first ∙ second)
 
-one_limit : (r : Call) (settings : Settings) (most limit : ℕ) → settings_of r.words ≡ Some settings → most_bytes settings ≡ Some most → HasLimit r limit → limit ≡ most
+one_limit : (r : Call) (settings : Settings) (most limit : ℕ) → settings_of r.words ≡ Some settings → most_bytes settings ≡ Some most
+    → HasLimit r limit → limit ≡ most
 one_limit r settings most limit reading is h = some_same limit most (sym h.limit ∙ ap most_bytes (one_reading r h.settings settings h.reading reading) ∙ is)
 
 -- what was given is what was left
@@ -37,23 +38,28 @@ same_bytes : (r : Call) (bytes given : List ℕ) → r.left ≡ Some bytes → G
 same_bytes r bytes given e g = end_comes_last bytes given r.left_after (subst (λ (o : Option (List ℕ)). Gave o r.left_after given) e g)
 
 -- a call that read the input with this reading read all of it
-input_is_given : (r : Call) (settings s : Settings) (most : ℕ) (bytes given : List ℕ) → settings_of r.words ≡ Some settings → most_bytes settings ≡ Some most → r.left ≡ Some bytes → IsInput r s given
+input_is_given : (r : Call) (settings s : Settings) (most : ℕ) (bytes given : List ℕ) → settings_of r.words ≡ Some settings
+    → most_bytes settings ≡ Some most → r.left ≡ Some bytes → IsInput r s given
     → (given ≡ bytes) × (length bytes ≤ most)
 input_is_given r settings s most bytes given reading is e input =
-    let taken : IsTaken r (Some most) given = subst (λ (o : Option ℕ). IsTaken r o given) (ap most_bytes (one_reading r s settings input.reading reading) ∙ is) input.taken in
+    let taken : IsTaken r (Some most) given = subst (λ (o : Option ℕ). IsTaken r o given)
+    (ap most_bytes (one_reading r s settings input.reading reading) ∙ is) input.taken in
     let same = same_bytes r bytes given e taken.0 in
     (same, subst (λ (b : List ℕ). length b ≤ most) same taken.1)
 
-too_long_for : (r : Call) (settings : Settings) (most : ℕ) (bytes : List ℕ) → settings_of r.words ≡ Some settings → most_bytes settings ≡ Some most → r.left ≡ Some bytes → IsTooLong r → most < length bytes
+too_long_for : (r : Call) (settings : Settings) (most : ℕ) (bytes : List ℕ) → settings_of r.words ≡ Some settings
+    → most_bytes settings ≡ Some most → r.left ≡ Some bytes → IsTooLong r → most < length bytes
 too_long_for r settings most bytes reading is e t =
     subst (λ (n : ℕ). n < length bytes) (one_limit r settings most t.most reading is t.limit)
     (more_was_there bytes r.left_after t.most (subst (λ (o : Option (List ℕ)). GaveMore o r.left_after t.most) e t.more))
 
 -- ---- a mode without an input
 
-unread_input : (r : Call) (settings s : Settings) (bytes : List ℕ) → settings_of r.words ≡ Some settings → most_bytes settings ≡ None → IsInput r s bytes → IsUntouched r
+unread_input : (r : Call) (settings s : Settings) (bytes : List ℕ) → settings_of r.words ≡ Some settings → most_bytes settings ≡ None
+    → IsInput r s bytes → IsUntouched r
 unread_input r settings s bytes reading none input =
-    let taken : IsTaken r None bytes = subst (λ (o : Option ℕ). IsTaken r o bytes) (ap most_bytes (one_reading r s settings input.reading reading) ∙ none) input.taken in
+    let taken : IsTaken r None bytes = subst (λ (o : Option ℕ). IsTaken r o bytes)
+    (ap most_bytes (one_reading r s settings input.reading reading) ∙ none) input.taken in
     taken.0
 
 no_limit : (r : Call) (settings : Settings) (most : ℕ) → settings_of r.words ≡ Some settings → most_bytes settings ≡ None → HasLimit r most → ⊥
@@ -84,16 +90,20 @@ usage_is_due r Memory (faultless, inr (inr first)) none = absurd (has_one_or_non
 
 -- ---- an input of too many bytes
 
-long_given : (r : Call) (settings : Settings) (most : ℕ) (bytes : List ℕ) → settings_of r.words ≡ Some settings → most_bytes settings ≡ Some most → r.left ≡ Some bytes → most < length bytes
+long_given : (r : Call) (settings : Settings) (most : ℕ) (bytes : List ℕ) → settings_of r.words ≡ Some settings
+    → most_bytes settings ≡ Some most → r.left ≡ Some bytes → most < length bytes
     → (s : Settings) (given : List ℕ) → IsInput r s given → ⊥
 long_given r settings most bytes reading is e h s given input = let g = input_is_given r settings s most bytes given reading is e input in omega (arith, g.1)
 
 pub long_is_due : LongIsDue
-long_is_due r Done settings most bytes (faultless, ends) reading is e h = absurd (long_given r settings most bytes reading is e h ends.settings ends.bytes ends.input)
-long_is_due r Invalid settings most bytes (faultless, ends) reading is e h = absurd (long_given r settings most bytes reading is e h ends.settings ends.bytes ends.input)
+long_is_due r Done settings most bytes (faultless, ends) reading is e h = absurd
+    (long_given r settings most bytes reading is e h ends.settings ends.bytes ends.input)
+long_is_due r Invalid settings most bytes (faultless, ends) reading is e h = absurd
+    (long_given r settings most bytes reading is e h ends.settings ends.bytes ends.input)
 long_is_due r Usage settings most bytes (faultless, none, untouched, wrote) reading is e h = absurd (has_one_or_none r settings reading none)
 long_is_due r Refused settings most bytes (faultless, inl (t, wrote)) reading is e h = inl (refl, wrote)
-long_is_due r Refused settings most bytes (faultless, inr (u, wrote)) reading is e h = absurd (long_given r settings most bytes reading is e h u.settings u.bytes u.input)
+long_is_due r Refused settings most bytes (faultless, inr (u, wrote)) reading is e h = absurd
+    (long_given r settings most bytes reading is e h u.settings u.bytes u.input)
 long_is_due r ReadFault settings most bytes ends reading is e h = inr (inl refl)
 long_is_due r WriteFault settings most bytes ends reading is e h = inr (inr (inl refl))
 long_is_due r Memory settings most bytes ends reading is e h = inr (inr (inr refl))
@@ -101,50 +111,71 @@ long_is_due r Memory settings most bytes ends reading is e h = inr (inr (inr ref
 -- ---- an input with a fault
 
 -- what was given for this reading is what is there
-there_is_given : (r : Call) (settings s : Settings) (most : Option ℕ) (bytes given : List ℕ) → settings_of r.words ≡ Some settings → most_bytes settings ≡ most → IsThere r most bytes → IsInput r s given → given ≡ bytes
+there_is_given : (r : Call) (settings s : Settings) (most : Option ℕ) (bytes given : List ℕ) → settings_of r.words ≡ Some settings
+    → most_bytes settings ≡ most → IsThere r most bytes → IsInput r s given → given ≡ bytes
 there_is_given r settings s (Some most) bytes given reading is (e, fits) input = (input_is_given r settings s most bytes given reading is e input).0
 there_is_given r settings s None bytes given reading is none input =
-    let taken : IsTaken r None given = subst (λ (o : Option ℕ). IsTaken r o given) (ap most_bytes (one_reading r s settings input.reading reading) ∙ is) input.taken in
+    let taken : IsTaken r None given = subst (λ (o : Option ℕ). IsTaken r o given)
+    (ap most_bytes (one_reading r s settings input.reading reading) ∙ is) input.taken in
     taken.1 ∙ sym none
 
 -- no limit is passed by what is there
-there_is_short : (r : Call) (settings : Settings) (most : Option ℕ) (bytes : List ℕ) → settings_of r.words ≡ Some settings → most_bytes settings ≡ most → IsThere r most bytes → IsTooLong r → ⊥
+there_is_short : (r : Call) (settings : Settings) (most : Option ℕ) (bytes : List ℕ) → settings_of r.words ≡ Some settings
+    → most_bytes settings ≡ most → IsThere r most bytes → IsTooLong r → ⊥
 there_is_short r settings (Some most) bytes reading is (e, fits) t = omega (arith, too_long_for r settings most bytes reading is e t)
 there_is_short r settings None bytes reading is none t = no_limit r settings t.most reading is t.limit
 
 -- the output of the mode that the words ask for
-output_of : (r : Call) (s : Status) (settings : Settings) (h : HasWritten r (λ mode bytes out. WholeOutput mode bytes out s)) → settings_of r.words ≡ Some settings → IsOutput r.plans settings h.bytes h.out s
-output_of r s settings h reading = subst (λ (x : Settings). IsOutput r.plans x h.bytes h.out s) (one_reading r h.settings settings h.input.reading reading) h.output
+output_of : (r : Call) (s : Status) (settings : Settings) (h : HasWritten r (λ mode bytes out. WholeOutput mode bytes out s))
+    → settings_of r.words ≡ Some settings → IsOutput r.plans settings h.bytes h.out s
+output_of r s settings h reading = subst (λ (x : Settings). IsOutput r.plans x h.bytes h.out s)
+    (one_reading r h.settings settings h.input.reading reading) h.output
 
 -- the fault in the mode that the words ask for
-fault_of : (r : Call) (settings : Settings) (u : IsUnread r) → settings_of r.words ≡ Some settings → (mode_of r.plans settings).FaultAt u.bytes u.line u.column u.code
-fault_of r settings u reading = subst (λ (x : Settings). (mode_of r.plans x).FaultAt u.bytes u.line u.column u.code) (one_reading r u.settings settings u.input.reading reading) u.fault
+fault_of : (r : Call) (settings : Settings) (u : IsUnread r) → settings_of r.words ≡ Some settings
+    → (mode_of r.plans settings).FaultAt u.bytes u.line u.column u.code
+fault_of r settings u reading = subst (λ (x : Settings). (mode_of r.plans x).FaultAt u.bytes u.line u.column u.code)
+    (one_reading r u.settings settings u.input.reading reading) u.fault
 
 -- the fault of what is there
-fault_there : (r : Call) (settings : Settings) (bytes : List ℕ) (u : IsUnread r) → settings_of r.words ≡ Some settings → IsThere r (most_bytes settings) bytes → (mode_of r.plans settings).FaultAt bytes u.line u.column u.code
+fault_there : (r : Call) (settings : Settings) (bytes : List ℕ) (u : IsUnread r) → settings_of r.words ≡ Some settings
+    → IsThere r (most_bytes settings) bytes → (mode_of r.plans settings).FaultAt bytes u.line u.column u.code
 fault_there r settings bytes u reading there =
-    subst (λ (b : List ℕ). (mode_of r.plans settings).FaultAt b u.line u.column u.code) (there_is_given r settings u.settings (most_bytes settings) bytes u.bytes reading refl there u.input) (fault_of r settings u reading)
+    subst (λ (b : List ℕ). (mode_of r.plans settings).FaultAt b u.line u.column u.code)
+    (there_is_given r settings u.settings (most_bytes settings) bytes u.bytes reading refl there u.input)
+    (fault_of r settings u reading)
 
 module _ (reading_is_one : ModesHaveOneReading) where
-  no_output : (r : Call) (s : Status) (settings : Settings) (bytes : List ℕ) (line column : ℕ) (code : Code) → settings_of r.words ≡ Some settings → IsThere r (most_bytes settings) bytes → (mode_of r.plans settings).FaultAt bytes line column code
+  no_output : (r : Call) (s : Status) (settings : Settings) (bytes : List ℕ) (line column : ℕ) (code : Code)
+      → settings_of r.words ≡ Some settings → IsThere r (most_bytes settings) bytes
+      → (mode_of r.plans settings).FaultAt bytes line column code
       → HasWritten r (λ mode bytes out. WholeOutput mode bytes out s) → ⊥
   no_output r s settings bytes line column code reading there fault h =
       let output = output_of r s settings h reading in
       (reading_is_one r.plans settings).apart h.bytes output.items line column code output.asked
-      (subst (λ (b : List ℕ). (mode_of r.plans settings).FaultAt b line column code) (sym (there_is_given r settings h.settings (most_bytes settings) bytes h.bytes reading refl there h.input)) fault)
+      (subst (λ (b : List ℕ). (mode_of r.plans settings).FaultAt b line column code)
+      (sym (there_is_given r settings h.settings (most_bytes settings) bytes h.bytes reading refl there h.input)) fault)
 
-  told_fault_is : (r : Call) (settings : Settings) (bytes : List ℕ) (line column : ℕ) (code : Code) (u : IsUnread r) → (mode_of r.plans settings).FaultAt bytes u.line u.column u.code
+  told_fault_is : (r : Call) (settings : Settings) (bytes : List ℕ) (line column : ℕ) (code : Code) (u : IsUnread r)
+      → (mode_of r.plans settings).FaultAt bytes u.line u.column u.code
       → (mode_of r.plans settings).FaultAt bytes line column code → Wrote r (fault_line u.line u.column u.code) → Wrote r (fault_line line column code)
   told_fault_is r settings bytes line column code u at fault w =
-      let same : (u.line ≡ line) × (u.column ≡ column) × (u.code ≡ code) = (reading_is_one r.plans settings).one_fault bytes u.line u.column line column u.code code at fault in
-      subst (λ (c : Code). Wrote r (fault_line line column c)) same.2 (subst (λ (n : ℕ). Wrote r (fault_line line n u.code)) same.1 (subst (λ (n : ℕ). Wrote r (fault_line n u.column u.code)) same.0 w))
+      let same : (u.line ≡ line) × (u.column ≡ column) × (u.code ≡ code) = (reading_is_one r.plans settings).one_fault bytes u.line u.column
+      line column u.code code at fault in
+      subst (λ (c : Code). Wrote r (fault_line line column c)) same.2 (subst (λ (n : ℕ). Wrote r (fault_line line n u.code)) same.1
+      (subst (λ (n : ℕ). Wrote r (fault_line n u.column u.code)) same.0 w))
 
   pub fault_is_due : FaultIsDue
-  fault_is_due r Done settings bytes line column code (faultless, ends) reading there fault = absurd (no_output r Done settings bytes line column code reading there fault ends)
-  fault_is_due r Invalid settings bytes line column code (faultless, ends) reading there fault = absurd (no_output r Invalid settings bytes line column code reading there fault ends)
-  fault_is_due r Usage settings bytes line column code (faultless, none, untouched, wrote) reading there fault = absurd (has_one_or_none r settings reading none)
-  fault_is_due r Refused settings bytes line column code (faultless, inl (t, w)) reading there fault = absurd (there_is_short r settings (most_bytes settings) bytes reading refl there t)
-  fault_is_due r Refused settings bytes line column code (faultless, inr (u, w)) reading there fault = inl (refl, told_fault_is r settings bytes line column code u (fault_there r settings bytes u reading there) fault w)
+  fault_is_due r Done settings bytes line column code (faultless, ends) reading there fault = absurd
+      (no_output r Done settings bytes line column code reading there fault ends)
+  fault_is_due r Invalid settings bytes line column code (faultless, ends) reading there fault = absurd
+      (no_output r Invalid settings bytes line column code reading there fault ends)
+  fault_is_due r Usage settings bytes line column code (faultless, none, untouched, wrote) reading there fault = absurd
+      (has_one_or_none r settings reading none)
+  fault_is_due r Refused settings bytes line column code (faultless, inl (t, w)) reading there fault = absurd
+      (there_is_short r settings (most_bytes settings) bytes reading refl there t)
+  fault_is_due r Refused settings bytes line column code (faultless, inr (u, w)) reading there fault = inl
+      (refl, told_fault_is r settings bytes line column code u (fault_there r settings bytes u reading there) fault w)
   fault_is_due r ReadFault settings bytes line column code ends reading there fault = inr (inl refl)
   fault_is_due r WriteFault settings bytes line column code ends reading there fault = inr (inr (inl refl))
   fault_is_due r Memory settings bytes line column code ends reading there fault = inr (inr (inr refl))
@@ -154,8 +185,10 @@ module _ (reading_is_one : ModesHaveOneReading) where
   pub is_complete : IsComplete
   is_complete r Done settings bytes items (faultless, ends) reading there asked no_fault no_write_fault = inl ends
   is_complete r Invalid settings bytes items (faultless, ends) reading there asked no_fault no_write_fault = inl ends
-  is_complete r Usage settings bytes items (faultless, none, untouched, wrote) reading there asked no_fault no_write_fault = absurd (has_one_or_none r settings reading none)
-  is_complete r Refused settings bytes items (faultless, inl (t, w)) reading there asked no_fault no_write_fault = absurd (there_is_short r settings (most_bytes settings) bytes reading refl there t)
+  is_complete r Usage settings bytes items (faultless, none, untouched, wrote) reading there asked no_fault no_write_fault = absurd
+      (has_one_or_none r settings reading none)
+  is_complete r Refused settings bytes items (faultless, inl (t, w)) reading there asked no_fault no_write_fault = absurd
+      (there_is_short r settings (most_bytes settings) bytes reading refl there t)
   is_complete r Refused settings bytes items (faultless, inr (u, w)) reading there asked no_fault no_write_fault =
       absurd ((reading_is_one r.plans settings).apart bytes items u.line u.column u.code asked (fault_there r settings bytes u reading there))
   is_complete r ReadFault settings bytes items (failed, limit, w) reading there asked no_fault no_write_fault = absurd (no_fault failed)
@@ -164,13 +197,18 @@ module _ (reading_is_one : ModesHaveOneReading) where
 
 -- ---- mode bench
 
-unread_in_part : (r : Call) (seed count : ℕ) (run : Run) (pivots : Option ℕ) (rows tries : ℕ) → settings_of r.words ≡ Some (Bench seed count run pivots rows tries) → IsDueInPart r → IsUntouched r
+unread_in_part : (r : Call) (seed count : ℕ) (run : Run) (pivots : Option ℕ) (rows tries : ℕ)
+    → settings_of r.words ≡ Some (Bench seed count run pivots rows tries) → IsDueInPart r → IsUntouched r
 unread_in_part r seed count run pivots rows tries reading (inl (none, untouched, prefix)) = untouched
-unread_in_part r seed count run pivots rows tries reading (inr (inl (t, prefix))) = absurd (no_limit r (Bench seed count run pivots rows tries) t.most reading refl t.limit)
+unread_in_part r seed count run pivots rows tries reading (inr (inl (t, prefix))) = absurd
+    (no_limit r (Bench seed count run pivots rows tries) t.most reading refl t.limit)
 unread_in_part r seed count run pivots rows tries reading (inr (inr (inl (u, prefix)))) = absurd (fault_of r (Bench seed count run pivots rows tries) u reading)
-unread_in_part r seed count run pivots rows tries reading (inr (inr (inr part))) = unread_input r (Bench seed count run pivots rows tries) part.settings part.bytes reading refl part.input
+unread_in_part r seed count run pivots rows tries reading (inr (inr (inr part))) = unread_input r
+    (Bench seed count run pivots rows tries) part.settings part.bytes reading refl part.input
 
-never_invalid : (r : Call) (seed count : ℕ) (run : Run) (pivots : Option ℕ) (rows tries : ℕ) → settings_of r.words ≡ Some (Bench seed count run pivots rows tries) → HasWritten r (λ mode bytes out. WholeOutput mode bytes out Invalid) → ⊥
+never_invalid : (r : Call) (seed count : ℕ) (run : Run) (pivots : Option ℕ) (rows tries : ℕ)
+    → settings_of r.words ≡ Some (Bench seed count run pivots rows tries)
+    → HasWritten r (λ mode bytes out. WholeOutput mode bytes out Invalid) → ⊥
 never_invalid r seed count run pivots rows tries reading h =
     invalid_not_done (output_of r Invalid (Bench seed count run pivots rows tries) h reading).is
   where
@@ -178,13 +216,20 @@ never_invalid r seed count run pivots rows tries reading h =
     invalid_not_done e = cc
 
 pub bench_reads_nothing : BenchReadsNothing
-bench_reads_nothing r Done seed count run pivots rows tries (faultless, ends) reading = (unread_input r (Bench seed count run pivots rows tries) ends.settings ends.bytes reading refl ends.input, inl refl)
-bench_reads_nothing r Invalid seed count run pivots rows tries (faultless, ends) reading = absurd (never_invalid r seed count run pivots rows tries reading ends)
-bench_reads_nothing r Usage seed count run pivots rows tries (faultless, none, untouched, wrote) reading = absurd (has_one_or_none r (Bench seed count run pivots rows tries) reading none)
-bench_reads_nothing r Refused seed count run pivots rows tries (faultless, inl (t, wrote)) reading = absurd (no_limit r (Bench seed count run pivots rows tries) t.most reading refl t.limit)
-bench_reads_nothing r Refused seed count run pivots rows tries (faultless, inr (u, wrote)) reading = absurd (fault_of r (Bench seed count run pivots rows tries) u reading)
-bench_reads_nothing r ReadFault seed count run pivots rows tries (failed, (most, limit), wrote) reading = absurd (no_limit r (Bench seed count run pivots rows tries) most reading refl limit)
-bench_reads_nothing r WriteFault seed count run pivots rows tries (failed, part) reading = (unread_in_part r seed count run pivots rows tries reading part, inr (inl refl))
+bench_reads_nothing r Done seed count run pivots rows tries (faultless, ends) reading
+    = (unread_input r (Bench seed count run pivots rows tries) ends.settings ends.bytes reading refl ends.input, inl refl)
+bench_reads_nothing r Invalid seed count run pivots rows tries (faultless, ends) reading = absurd
+    (never_invalid r seed count run pivots rows tries reading ends)
+bench_reads_nothing r Usage seed count run pivots rows tries (faultless, none, untouched, wrote) reading = absurd
+    (has_one_or_none r (Bench seed count run pivots rows tries) reading none)
+bench_reads_nothing r Refused seed count run pivots rows tries (faultless, inl (t, wrote)) reading = absurd
+    (no_limit r (Bench seed count run pivots rows tries) t.most reading refl t.limit)
+bench_reads_nothing r Refused seed count run pivots rows tries (faultless, inr (u, wrote)) reading = absurd
+    (fault_of r (Bench seed count run pivots rows tries) u reading)
+bench_reads_nothing r ReadFault seed count run pivots rows tries (failed, (most, limit), wrote) reading = absurd
+    (no_limit r (Bench seed count run pivots rows tries) most reading refl limit)
+bench_reads_nothing r WriteFault seed count run pivots rows tries (failed, part) reading
+    = (unread_in_part r seed count run pivots rows tries reading part, inr (inl refl))
 bench_reads_nothing r Memory seed count run pivots rows tries (faultless, inl (none, untouched, wrote)) reading = (untouched, inr (inr refl))
 bench_reads_nothing r Memory seed count run pivots rows tries (faultless, inr (inl begun)) reading =
     (begun.unread (ap most_bytes (one_reading r begun.settings (Bench seed count run pivots rows tries) begun.reading reading)), inr (inr refl))
@@ -212,11 +257,13 @@ gain_is_told : (before now : Option (List ℕ)) (old new out : List ℕ) → bef
 gain_is_told before now old new out b n g = subst (λ (o : Option (List ℕ)). Gains (Some old) o out) n (subst (λ (o : Option (List ℕ)). Gains o now out) b g)
 
 -- the output for what the source had left
-output_is_read : (r : Call) (s : Status) (settings : Settings) (most : ℕ) (bytes old new : List ℕ) → HasWritten r (λ mode bytes out. WholeOutput mode bytes out s) → settings_of r.words ≡ Some settings → most_bytes settings ≡ Some most
+output_is_read : (r : Call) (s : Status) (settings : Settings) (most : ℕ) (bytes old new : List ℕ)
+    → HasWritten r (λ mode bytes out. WholeOutput mode bytes out s) → settings_of r.words ≡ Some settings → most_bytes settings ≡ Some most
     → r.left ≡ Some bytes → r.taken ≡ Some old → r.taken_after ≡ Some new → (out : List ℕ) × IsOutput r.plans settings bytes out s × (new ≡ old ++ out)
 output_is_read r s settings most bytes old new h reading is e taken taken_after = (
   h.out,
-  subst (λ (b : List ℕ). IsOutput r.plans settings b h.out s) (input_is_given r settings h.settings most bytes h.bytes reading is e h.input).0 (output_of r s settings h reading),
+  subst (λ (b : List ℕ). IsOutput r.plans settings b h.out s) (input_is_given r settings h.settings most bytes h.bytes reading is e
+      h.input).0 (output_of r s settings h reading),
   gain_is_told r.taken r.taken_after old new h.out taken taken_after h.wrote,
 )
 
@@ -236,7 +283,8 @@ has_output r Memory ends (inl is) = cc
 has_output r Memory ends (inr is) = cc
 
 pub headline : Headline
-headline r s settings most bytes old new ends is reading limit e taken taken_after = output_is_read r s settings most bytes old new (has_output r s ends is) reading limit e taken taken_after
+headline r s settings most bytes old new ends is reading limit e taken taken_after = output_is_read r s settings most bytes old new
+    (has_output r s ends is) reading limit e taken taken_after
 
 pub verdicts_are_written : VerdictsAreWritten
 verdicts_are_written r s bytes old new ends is reading e taken taken_after =
@@ -244,12 +292,14 @@ verdicts_are_written r s bytes old new ends is reading e taken taken_after =
     (h.1.replies, h.0, subst (λ (lines : List (List ℕ)). Replies check_mode lines h.1.replies h.0) h.1.asked h.1.written, h.2, h.1.is)
 
 -- the whole output of mode `bench` is its line
-by_one_item : (budgets : Budgets) (plans : List Plan) (seed count : ℕ) (items : List (Unit {0})) (lines : List (List ℕ)) (out : List ℕ) → items ≡ tt ∷ [] → Replies (bench_mode budgets plans seed count) items lines out → IsBenchLine budgets plans seed count out
+by_one_item : (budgets : Budgets) (plans : List Plan) (seed count : ℕ) (items : List (Unit {0})) (lines : List (List ℕ)) (out : List ℕ)
+    → items ≡ tt ∷ [] → Replies (bench_mode budgets plans seed count) items lines out → IsBenchLine budgets plans seed count out
 by_one_item budgets plans seed count items lines out is written =
     let one = subst (λ (xs : List (Unit {0})). Replies (bench_mode budgets plans seed count) xs lines out) is written in
     subst (IsBenchLine budgets plans seed count) (sym (one.4 ∙ ap (λ rest. one.0 ++ rest) one.3.1 ∙ append-nil one.0)) one.2
 
-line_of_output : (budgets : Budgets) (plans : List Plan) (seed count : ℕ) (bytes out : List ℕ) (s : Status) → WholeOutput (bench_mode budgets plans seed count) bytes out s → IsBenchLine budgets plans seed count out
+line_of_output : (budgets : Budgets) (plans : List Plan) (seed count : ℕ) (bytes out : List ℕ) (s : Status)
+    → WholeOutput (bench_mode budgets plans seed count) bytes out s → IsBenchLine budgets plans seed count out
 line_of_output budgets plans seed count bytes out s o = by_one_item budgets plans seed count o.items o.replies out o.asked o.written
 
 pub counts_are_written : CountsAreWritten

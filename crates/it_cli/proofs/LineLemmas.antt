@@ -9,8 +9,8 @@ use Rattle.it_space.specs.declared.answers.Certificate.{Certificate}
 use Rattle.it_space.specs.declared.answers.Cause.{Cause}
 use Rattle.it_space.specs.declared.answers.Cause.TheVariants as causes
 use Rattle.it_space.specs.declared.answers.Cause.TheVariants.{Scale}
-use Rattle.it_space.specs.declared.problems.Constraint.{Constraint}
-use Rattle.it_space.specs.Problems.{ProblemView}
+use Rattle.it_problems.specs.declared.problems.Constraint.{Constraint}
+use Rattle.it_problems.specs.Problems.{ProblemView}
 use Rattle.it_space.specs.declared.spaces.Space.{Space}
 use Rattle.it_space.specs.declared.answers.Answer.{Answer}
 use Rattle.it_space.specs.declared.answers.Answer.TheVariants as answers
@@ -31,7 +31,7 @@ use Rattle.it_question.specs.Questions.{BodyView, QuestionView, RegionView, Verb
 use Rattle.it_demand.specs.Demands.{Demand}
 use Rattle.it_demand.specs.Origins.{ComesFrom, States, AreStated}
 use Rattle.std.specs.List.{AllZip}
-use Rattle.it_space.specs.declared.problems.Origin.{Origin}
+use Rattle.it_problems.specs.declared.problems.Origin.{Origin}
 use Rattle.it_canon.specs.QuestionDemands.{question_demands, question_origins, problem_of, terms_in}
 use Rattle.it_canon.specs.TrueLines.{variable_count}
 use Rattle.it_question.specs.ProblemLines.{problem_names, names_under}
@@ -77,7 +77,8 @@ origins_same [] (c ∷ cs) h = absurd h
 origins_same (place ∷ places) [] h = absurd h
 origins_same (place ∷ places) (c ∷ cs) h = ap₂ (λ x xs. x ∷ xs) h.0 (origins_same places cs h.1)
 
-certificates : (q : BodyView) (n m : ℕ) (fs : List Form) (cs : List Certificate) → n ≡ variable_count q → m ≡ length (question_demands q) → CertifyAll q fs (map certificate_view cs)
+certificates : (q : BodyView) (n m : ℕ) (fs : List Form) (cs : List Certificate) → n ≡ variable_count q → m ≡ length (question_demands q)
+    → CertifyAll q fs (map certificate_view cs)
     → All (λ (c : Certificate). All (λ (w : ℕ × ℤ). w.0 < length (elementals n) + m) c.weights.items) cs
 certificates q n m [] [] e f c = All-nil (λ (c : Certificate). All (λ (w : ℕ × ℤ). w.0 < length (elementals n) + m) c.weights.items)
 certificates q n m [] (k ∷ ks) e f c = absurd c
@@ -88,13 +89,15 @@ certificates q n m (g ∷ fs) (k ∷ ks) e f c = All-cons (λ (c : Certificate).
     (certificates q n m fs ks e f c.1)
 
 -- a counterexample has a value for each coordinate
-pub point_size : (q : BodyView) (fs : List Form) (is_back : Bool) (values : List ℤ) → Refutes q fs is_back values → length values ≡ size_of (space_of (problem_names q))
+pub point_size : (q : BodyView) (fs : List Form) (is_back : Bool) (values : List ℤ) → Refutes q fs is_back values
+    → length values ≡ size_of (space_of (problem_names q))
 point_size q [] is_back values c = absurd c
 point_size q (f ∷ fs) false values c = c.complete
 point_size q (f ∷ []) true values c = absurd c
 point_size q (f ∷ g ∷ fs) true values c = c.1.complete
 
-cause_of_run_end : (p : ProblemView) (t : Terms) (m : ℕ) (cause : Cause) (e : RunEndView (List (ℕ × Rational)) (List Rational)) → Follows p t e (Undecided cause) → IsCauseOf m cause
+cause_of_run_end : (p : ProblemView) (t : Terms) (m : ℕ) (cause : Cause) (e : RunEndView (List (ℕ × Rational)) (List Rational))
+    → Follows p t e (Undecided cause) → IsCauseOf m cause
 cause_of_run_end p t m cause (Weights ws) (inl a) = absurd (undecided_not_yes a.3)
   where
     undecided_not_yes : {w : CertificateView} → Undecided cause ≡ Yes w → ⊥
@@ -137,23 +140,28 @@ some_names q k = by_verb q.verb k.verb
     by_verb (Eliminate rates) over = k.some
     by_verb (Contain a b tries) over = omega (arith, k.some, ap length over.0.variables, length-append q.names.variables over.0.own)
 
-printable_proof : (effort : Effort) (q : BodyView) (r : RelationView) (m : ℕ) (answer : Answer) → IsQuestion q → m ≡ length (question_demands q) → ShowsBy q (Prove r) (answer_view answer)
+printable_proof : (effort : Effort) (q : BodyView) (r : RelationView) (m : ℕ) (answer : Answer) → IsQuestion q
+    → m ≡ length (question_demands q) → ShowsBy q (Prove r) (answer_view answer)
     → IsDueRelation effort q r (answer_view answer) → IsPrintable q m answer
-printable_proof effort q r m (answers.Yes proofs) k few shown due = certificates q (variable_count q) m (targets (variable_count q) r) proofs.items refl few shown
+printable_proof effort q r m (answers.Yes proofs) k few shown due = certificates q (variable_count q) m
+    (targets (variable_count q) r) proofs.items refl few shown
 printable_proof effort q r m (answers.No is_back point) k few shown due =
     let size : length point ≡ size_of (space_of (problem_names q)) = point_size q (targets (variable_count q) r) is_back point shown in
     let names = few_names q k in
     (omega (arith, size, pow_pos (variable_count q)), omega (arith, size, pow_mono {i = variable_count q} {j = 10} names.0, names.1))
-printable_proof effort q r m (answers.Undecided cause) k few shown due = cause_of_due (problem_of q) effort (length (problem_names q).rates) (map (terms_in q) (targets (variable_count q) r)) cause due
+printable_proof effort q r m (answers.Undecided cause) k few shown due = cause_of_due (problem_of q) effort (length (problem_names q).rates)
+    (map (terms_in q) (targets (variable_count q) r)) cause due
 printable_proof effort q r m (answers.Region rows) k few shown due = absurd shown
 printable_proof effort q r m (answers.Contained parts proofs) k few shown due = absurd shown
 printable_proof effort q r m (answers.Open tried) k few shown due = absurd shown
 
 -- ---- an answer to `eliminate`
 
-region_rows_over : (v : NamesView) (rows : List (Mark × Terms)) → All (IsOver (size_of (space_of v))) (region_rows rows) → All (λ (row : Mark × Terms). IsRowOver v row.1) rows
+region_rows_over : (v : NamesView) (rows : List (Mark × Terms)) → All (IsOver (size_of (space_of v))) (region_rows rows)
+    → All (λ (row : Mark × Terms). IsRowOver v row.1) rows
 region_rows_over v [] a = All-nil (λ (row : Mark × Terms). IsRowOver v row.1)
-region_rows_over v (row ∷ rows) a = All-cons (λ (row : Mark × Terms). IsRowOver v row.1) row rows (row_over v row.1 (All-head (IsOver (size_of (space_of v))) row.1 (region_rows rows) a))
+region_rows_over v (row ∷ rows) a = All-cons (λ (row : Mark × Terms). IsRowOver v row.1) row rows
+    (row_over v row.1 (All-head (IsOver (size_of (space_of v))) row.1 (region_rows rows) a))
     (region_rows_over v rows (All-tail (IsOver (size_of (space_of v))) row.1 (region_rows rows) a))
 
 -- a cause's rate is one of m
@@ -166,25 +174,31 @@ cause_of_end m rates (projections.Region kept dropped) within h = tt
 cause_of_end m rates (projections.Rows rate) within h = every_member (λ r. r < m) rates rate (every_of (λ r. r < m) rates within) h
 cause_of_end m rates (projections.Wide rate) within h = every_member (λ r. r < m) rates rate (every_of (λ r. r < m) rates within) h
 
-printable_region : (budgets : Budgets) (q : BodyView) (rates : List ℕ) (m : ℕ) (answer : Answer) → problem_names q ≡ q.names → All (λ r. r < length q.names.rates) rates → ShowsBy q (Eliminate rates) (answer_view answer)
+printable_region : (budgets : Budgets) (q : BodyView) (rates : List ℕ) (m : ℕ) (answer : Answer) → problem_names q ≡ q.names
+    → All (λ r. r < length q.names.rates) rates → ShowsBy q (Eliminate rates) (answer_view answer)
     → IsDueElimination budgets q rates (answer_view answer) → IsPrintable q m answer
 printable_region budgets q rates m (answers.Yes proofs) names within shown due = absurd shown
 printable_region budgets q rates m (answers.No is_back point) names within shown due = absurd shown
 printable_region budgets q rates m (answers.Undecided cause) names within shown due =
     subst (λ (v : NamesView). IsCauseOf (length v.rates) cause) (sym names) (subst (IsCauseIn (length q.names.rates)) (sym due.is)
-    (cause_of_end (length q.names.rates) rates due.end within (end_of_rates (problem_of q) budgets.effort budgets.rows (map (terms_in q) (system_forms (variable_count q) q.lines.rows)) [] [] rates due.end due.ends)))
-printable_region budgets q rates m (answers.Region rows) names within shown due = subst (λ (v : NamesView). All (λ (row : Mark × Terms). IsRowOver v row.1) rows.items) (sym names) (region_rows_over q.names rows.items shown.coordinates)
+    (cause_of_end (length q.names.rates) rates due.end within (end_of_rates (problem_of q) budgets.effort budgets.rows
+    (map (terms_in q) (system_forms (variable_count q) q.lines.rows)) [] [] rates due.end due.ends)))
+printable_region budgets q rates m (answers.Region rows) names within shown due = subst
+    (λ (v : NamesView). All (λ (row : Mark × Terms). IsRowOver v row.1) rows.items) (sym names)
+    (region_rows_over q.names rows.items shown.coordinates)
 printable_region budgets q rates m (answers.Contained parts proofs) names within shown due = absurd shown
 printable_region budgets q rates m (answers.Open tried) names within shown due = absurd shown
 
 -- ---- an answer to `contain`
 
 -- the parts are as many as the names of auxiliary variables
-as_many_parts : (q : BodyView) (a b : RegionView) (tries : List (List ℕ)) (parts : List ℕ) → q.verb ≡ Contain a b tries → IsRegionOf q.names b → IsSubstitution a b parts → length parts ≡ length (auxiliary_names q.names q.verb)
+as_many_parts : (q : BodyView) (a b : RegionView) (tries : List (List ℕ)) (parts : List ℕ) → q.verb ≡ Contain a b tries
+    → IsRegionOf q.names b → IsSubstitution a b parts → length parts ≡ length (auxiliary_names q.names q.verb)
 as_many_parts q a b tries parts is region are = are.count ∙ region.counted
     ∙ ap length (sym (ap (auxiliary_names q.names) is ∙ ap (drop (length q.names.variables)) region.variables ∙ drop-append_seam q.names.variables region.own))
 
-printable_containment : (q : BodyView) (a b : RegionView) (tries : List (List ℕ)) (m : ℕ) (answer : Answer) → q.verb ≡ Contain a b tries → IsQuestion q → m ≡ length (question_demands q)
+printable_containment : (q : BodyView) (a b : RegionView) (tries : List (List ℕ)) (m : ℕ) (answer : Answer) → q.verb ≡ Contain a b tries
+    → IsQuestion q → m ≡ length (question_demands q)
     → ShowsBy q (Contain a b tries) (answer_view answer) → IsPrintable q m answer
 printable_containment q a b tries m (answers.Yes proofs) is k few shown = absurd shown
 printable_containment q a b tries m (answers.No is_back point) is k few shown = absurd shown
@@ -198,13 +212,16 @@ printable_containment q a b tries m (answers.Open tried) is k few shown = tt
 
 -- ---- each verb
 
-pub right_is_printable : (budgets : Budgets) (plans : List Plan) (q : BodyView) (m : ℕ) (answer : Answer) (found : List Candidate) → IsQuestion q → m ≡ length (question_demands q)
+pub right_is_printable : (budgets : Budgets) (plans : List Plan) (q : BodyView) (m : ℕ) (answer : Answer) (found : List Candidate)
+    → IsQuestion q → m ≡ length (question_demands q)
     → IsRightAnswer budgets plans q (record { answer = answer_view answer; found = found }) → IsPrintable q m answer
 right_is_printable budgets plans q m answer found k few right = by_verb q.verb refl right.shows right.due
   where
-    by_verb : (verb : VerbView) → q.verb ≡ verb → ShowsBy q verb (answer_view answer) → IsDueBy budgets plans q verb (record { answer = answer_view answer; found = found }) → IsPrintable q m answer
+    by_verb : (verb : VerbView) → q.verb ≡ verb → ShowsBy q verb (answer_view answer)
+        → IsDueBy budgets plans q verb (record { answer = answer_view answer; found = found }) → IsPrintable q m answer
     by_verb (Prove r) is shown due = printable_proof budgets.effort q r m answer k few shown due.0
-    by_verb (Eliminate rates) is shown due = printable_region budgets q rates m answer (ap (names_under q.names) is) (subst (IsVerbOver q.names) is k.verb).within shown due.0
+    by_verb (Eliminate rates) is shown due = printable_region budgets q rates m answer (ap (names_under q.names) is)
+        (subst (IsVerbOver q.names) is k.verb).within shown due.0
     by_verb (Contain a b tries) is shown due = printable_containment q a b tries m answer is k few shown
 
 -- ---- its texts
@@ -219,27 +236,36 @@ rates_of_problem q k = by_verb q.verb k.verb
     by_verb (Contain a b tries) over = over.0.rates
 
 -- an answer with a line of text has one of JSON
-pub printable_is_writable : (q : QuestionView) (m : ℕ) (answer : Answer) → IsQuestion q.body → IsAsciiQuestion q → IsPrintable q.body m answer → IsWritable q.body.names (answer_view answer)
+pub printable_is_writable : (q : QuestionView) (m : ℕ) (answer : Answer) → IsQuestion q.body → IsAsciiQuestion q
+    → IsPrintable q.body m answer → IsWritable q.body.names (answer_view answer)
 printable_is_writable q m (answers.Yes proofs) k ascii p = tt
 printable_is_writable q m (answers.No back point) k ascii p = tt
 printable_is_writable q m (answers.Undecided (causes.Pivots steps)) k ascii p = tt
 printable_is_writable q m (answers.Undecided (causes.Width step)) k ascii p = tt
 printable_is_writable q m (answers.Undecided causes.Scale) k ascii p = tt
-printable_is_writable q m (answers.Undecided (causes.Rows r)) k ascii p = let within = subst (λ (rs : List (List ℕ)). r < length rs) (rates_of_problem q.body k) p in (within, ascii.rates r [] within)
-printable_is_writable q m (answers.Undecided (causes.WideRate r)) k ascii p = let within = subst (λ (rs : List (List ℕ)). r < length rs) (rates_of_problem q.body k) p in (within, ascii.rates r [] within)
+printable_is_writable q m (answers.Undecided (causes.Rows r)) k ascii p = let within = subst (λ (rs : List (List ℕ)). r < length rs)
+    (rates_of_problem q.body k) p in (within, ascii.rates r [] within)
+printable_is_writable q m (answers.Undecided (causes.WideRate r)) k ascii p = let within = subst (λ (rs : List (List ℕ)). r < length rs)
+    (rates_of_problem q.body k) p in (within, ascii.rates r [] within)
 printable_is_writable q m (answers.Region rows) k ascii p = tt
 printable_is_writable q m (answers.Contained parts proofs) k ascii p = tt
 printable_is_writable q m (answers.Open tried) k ascii p = tt
 
 -- the lines in each format
-pub text_by_places : (q : QuestionView) (k : ℕ) (s : Space) (cs : List Constraint) (answer : AnswerView) (bytes : List ℕ) → AreStated s (question_origins q.body) (question_demands q.body) cs
+pub text_by_places : (q : QuestionView) (k : ℕ) (s : Space) (cs : List Constraint) (answer : AnswerView) (bytes : List ℕ)
+    → AreStated s (question_origins q.body) (question_demands q.body) cs
     → bytes ≡ answer_line k q.body (origins_of cs) answer → bytes ≡ answer_lines Text k q answer None
 text_by_places q k s cs answer bytes stated is = is ∙ ap (λ xs. answer_line k q.body xs answer) (origins_same (question_origins q.body) cs stated.placed)
 
-pub proof_by_places : (q : QuestionView) (k : ℕ) (s : Space) (cs : List Constraint) (answer : AnswerView) (bytes : List ℕ) → s ≡ space_of (problem_names q.body) → AreStated s (question_origins q.body) (question_demands q.body) cs
-    → bytes ≡ proof_text k q.body (origins_of cs) (generator_rows (problem_names q.body) cs) (map (terms_in q.body) (answer_forms q.body answer)) answer → bytes ≡ answer_lines Proof k q answer None
-proof_by_places q k s cs answer bytes space stated is = is ∙ ap₂ (λ xs rows. proof_text k q.body xs rows (map (terms_in q.body) (answer_forms q.body answer)) answer)
-    (origins_same (question_origins q.body) cs stated.placed) (generator_rows_are q.body cs (subst (λ (t : Space). AllZip (States t) (question_demands q.body) cs) space stated.stated))
+pub proof_by_places : (q : QuestionView) (k : ℕ) (s : Space) (cs : List Constraint) (answer : AnswerView) (bytes : List ℕ)
+    → s ≡ space_of (problem_names q.body) → AreStated s (question_origins q.body) (question_demands q.body) cs
+    → bytes ≡ proof_text k q.body (origins_of cs) (generator_rows (problem_names q.body) cs)
+    (map (terms_in q.body) (answer_forms q.body answer)) answer → bytes ≡ answer_lines Proof k q answer None
+proof_by_places q k s cs answer bytes space stated is = is ∙ ap₂ (λ xs rows. proof_text k q.body xs rows
+    (map (terms_in q.body) (answer_forms q.body answer)) answer)
+    (origins_same (question_origins q.body) cs stated.placed) (generator_rows_are q.body cs
+    (subst (λ (t : Space). AllZip (States t) (question_demands q.body) cs) space stated.stated))
 
-pub few_constraints : (q : BodyView) (s : Space) (cs : List Constraint) → AreStated s (question_origins q) (question_demands q) cs → length cs ≡ length (question_demands q)
+pub few_constraints : (q : BodyView) (s : Space) (cs : List Constraint) → AreStated s (question_origins q) (question_demands q) cs
+    → length cs ≡ length (question_demands q)
 few_constraints q s cs h = zip-length (States s) (question_demands q) cs h.stated

@@ -34,11 +34,12 @@ use Rattle.it_forms.specs.Forms.{Keyword, Punctuation, Give, Then}
 use Rattle.it_forms.specs.Words.{limit_flag}
 use Rattle.it_forms.proofs.FormParts.{Fact, OfEach, Always, always_weaker, loop_keeps}
 use Rattle.it_question.specs.QuestionForms.{count, new_name, more_new, new_names, names_line, own_lines, verb, question, more_questions, file}
-use Rattle.it_question.specs.QuestionLimits.{most_questions, most_variables, most_rates, most_lines}
+use Rattle.it_question.specs.QuestionLimits.{most_questions, most_lines}
 use Rattle.it_question.specs.Questions.{BodyView, QuestionView}
 use Rattle.it_question.proofs.QuestionOutlines.{file_has}
 use Rattle.it_question.proofs.WholeFileLemmas.{said}
 use Rattle.it_forms.proofs.FormFacts.{always_any, always_said}
+use Rattle.it_space.specs.Spaces.{most_variables, most_rates}
 
 -- ---- words begin with a letter
 
@@ -58,12 +59,14 @@ last_sound : (m : Option Misspelling) → IsSound (last_letter m)
 last_sound None = tt
 last_sound (Some m) = tt
 
-token_sound : (k : TokenKind) (line : List ℕ) (start end : ℕ) (text : List ℕ) → take (end - start) (drop start line) ≡ text → IsText k text → IsSound (letter_of line start end k)
+token_sound : (k : TokenKind) (line : List ℕ) (start end : ℕ) (text : List ℕ) → take (end - start) (drop start line) ≡ text → IsText k text
+    → IsSound (letter_of line start end k)
 token_sound kinds.Word line start end text e h = subst IsLettered (sym e) h.0
 token_sound (kinds.Number n) line start end text e h = tt
 token_sound (kinds.Symbol s) line start end text e h = tt
 
-line_sound : (line prefix : List ℕ) (at : ℕ) (bytes : List ℕ) (ts : List Token) (m : Option Misspelling) → line ≡ prefix ++ bytes → length prefix ≡ at → SpellsUntil at bytes ts m
+line_sound : (line prefix : List ℕ) (at : ℕ) (bytes : List ℕ) (ts : List Token) (m : Option Misspelling) → line ≡ prefix ++ bytes
+    → length prefix ≡ at → SpellsUntil at bytes ts m
     → Every IsSound (letters_until line ts (last_letter m))
 line_sound line prefix at bytes [] m e n h = (last_sound m, tt)
 line_sound line prefix at bytes (t ∷ ts) m e n h =
@@ -72,9 +75,14 @@ line_sound line prefix at bytes (t ∷ ts) m e n h =
     let start : length (prefix ++ c.gap) ≡ t.start = omega (arith, length-append prefix c.gap, n, c.start) in
     let long : length c.text ≡ t.end - t.start = omega (arith, c.end) in
     let text : take (t.end - t.start) (drop t.start line) ≡ c.text
-    = ap (λ (b : List ℕ). take (t.end - t.start) (drop t.start b)) whole ∙ ap (take (t.end - t.start)) (drop_at (prefix ++ c.gap) (c.text ++ h.0) t.start start) ∙ take_at c.text h.0 (t.end - t.start) long in
-    let end : length ((prefix ++ c.gap) ++ c.text) ≡ t.end = omega (arith, length-append (prefix ++ c.gap) c.text, start, c.end) in
-    (token_sound t.kind line t.start t.end c.text text c.spelled, line_sound line ((prefix ++ c.gap) ++ c.text) t.end h.0 ts m (whole ∙ sym (append_assoc (prefix ++ c.gap) c.text h.0)) end h.2)
+    = ap (λ (b : List ℕ). take (t.end - t.start) (drop t.start b)) whole
+    ∙ ap (take (t.end - t.start)) (drop_at (prefix ++ c.gap) (c.text ++ h.0) t.start start) ∙ take_at c.text h.0 (t.end - t.start) long
+    in
+    let end : length ((prefix ++ c.gap) ++ c.text) ≡ t.end = omega (arith, length-append (prefix ++ c.gap) c.text, start, c.end) in (
+      token_sound t.kind line t.start t.end c.text text c.spelled,
+      line_sound line ((prefix ++ c.gap) ++ c.text) t.end h.0 ts m
+          (whole ∙ sym (append_assoc (prefix ++ c.gap) c.text h.0)) end h.2,
+    )
 
 lines_sound : (n : ℕ) (split : List (List ℕ)) (lines : List LineView) → AreLines n split lines → Every IsSound (letters_of_lines lines)
 lines_sound n [] lines h = subst (λ (ls : List LineView). Every IsSound (letters_of_lines ls)) (sym h) (tt, tt)
@@ -82,7 +90,8 @@ lines_sound n (bytes ∷ more) lines (inl h) = lines_sound (n + 1) more lines h.
 lines_sound n (bytes ∷ more) lines (inr h) =
     let l = h.0 in
     subst (λ (ls : List LineView). Every IsSound (letters_of_lines ls)) (sym h.2)
-    (every-append IsSound (letters_until l.text l.tokens (last_letter l.misspelling)) (letters_of_lines h.1) (line_sound l.text [] 0 l.text l.tokens l.misspelling refl refl h.3.spelled) (lines_sound (n + 1) more h.1 h.5))
+    (every-append IsSound (letters_until l.text l.tokens (last_letter l.misspelling)) (letters_of_lines h.1)
+    (line_sound l.text [] 0 l.text l.tokens l.misspelling refl refl h.3.spelled) (lines_sound (n + 1) more h.1 h.5))
 
 -- ---- the names that are declared
 
@@ -98,7 +107,8 @@ no_names_good = record { distinct = tt; lettered = tt }
 good_name : (sort : NameSortView) (v : NamesView) (w : List ℕ) → AreGood v → IsNew v w → IsLettered w → AreGood (with_name sort v w)
 good_name Variable v w g new h = record { distinct = g.distinct; lettered = g.lettered }
 good_name Rate v w g new h = record {
-  distinct = distinct_insert v.rates [] w (subst (λ (names : List (List ℕ)). IsDistinct bytes_eq names) (sym (append-nil v.rates)) g.distinct) (nowhere_all w v.rates new.1) tt;
+  distinct = distinct_insert v.rates [] w (subst (λ (names : List (List ℕ)). IsDistinct bytes_eq names)
+      (sym (append-nil v.rates)) g.distinct) (nowhere_all w v.rates new.1) tt;
   lettered = every-append IsLettered v.rates (w ∷ []) g.lettered (h, tt);
 }
 
@@ -114,29 +124,37 @@ not_taken false false n e = refl
 new_name_keeps : (sort : NameSortView) (most : ℕ) (p : List Letter) (v : NamesView) → IfSound p v → Always (new_name sort most v) (λ q w. IfSound (p ++ q) w)
 unfolding Always new_name
 new_name_keeps sort most p v s (Word w) e m all =
-    good_name sort v w (s (every_front IsSound p (Word w ∷ []) all)) (new_of v w (not_taken (is_measure w) (is_taken v w) (most - count sort v) m)) (every_back IsSound p (Word w ∷ []) all).0
+    good_name sort v w (s (every_front IsSound p (Word w ∷ []) all)) (new_of v w
+    (not_taken (is_measure w) (is_taken v w) (most - count sort v) m)) (every_back IsSound p (Word w ∷ []) all).0
 new_name_keeps sort most p v s l e m all = absurd cc
 
 more_new_keeps : (sort : NameSortView) (most : ℕ) (p : List Letter) (v : NamesView) → IfSound p v → Always (more_new sort most v) (λ q w. IfSound (p ++ q) w)
 unfolding Always more_new
 more_new_keeps sort most p v s = loop_keeps (Punctuation Comma ∷ []) (λ v l. (None, tt {0})) (λ v u. Then (new_name sort most v) Give) IfSound turn p v s
   where
-    turn : (p : List Letter) (v : NamesView) → IfSound p v → OfEach (record { kinds = Punctuation Comma ∷ []; says = λ l. (None, tt {0}) }) (λ p0 b. Always (Then (new_name sort most v) Give) (λ q w. IfSound (p ++ (p0 ++ q)) w))
+    turn : (p : List Letter) (v : NamesView) → IfSound p v → OfEach (record { kinds = Punctuation Comma ∷ []; says = λ l. (None, tt {0}) })
+        (λ p0 b. Always (Then (new_name sort most v) Give) (λ q w. IfSound (p ++ (p0 ++ q)) w))
     turn p v s l e m = always_weaker (new_name sort most v) (λ q w. IfSound ((p ++ (l ∷ [])) ++ q) w) (λ q w. IfSound (p ++ ((l ∷ []) ++ (q ++ []))) w)
-        (λ q w h all. h (subst (Every IsSound) (sym (append_assoc p (l ∷ []) q)) (subst (λ (r : List Letter). Every IsSound (p ++ (l ∷ r))) (append-nil q) all)))
+        (λ q w h all. h (subst (Every IsSound) (sym (append_assoc p (l ∷ []) q))
+        (subst (λ (r : List Letter). Every IsSound (p ++ (l ∷ r))) (append-nil q) all)))
         (new_name_keeps sort most (p ++ (l ∷ [])) v (λ all. s (every_front IsSound p (l ∷ []) all)))
 
 new_names_keep : (sort : NameSortView) (most : ℕ) (p : List Letter) (v : NamesView) → IfSound p v → Always (new_names sort most v) (λ q w. IfSound (p ++ q) w)
 unfolding Always new_names
 new_names_keep sort most p v s =
     always_weaker (new_name sort most v) (λ q w. IfSound (p ++ q) w) _ (λ q w h.
-    always_weaker (more_new sort most w) (λ r x. IfSound ((p ++ q) ++ r) x) _ (λ r x k l e m all. k (every_front IsSound ((p ++ q) ++ r) (l ∷ []) (subst (Every IsSound) (simp append_assoc) all))) (more_new_keeps sort most (p ++ q) w h))
+    always_weaker (more_new sort most w) (λ r x. IfSound ((p ++ q) ++ r) x) _
+    (λ r x k l e m all. k (every_front IsSound ((p ++ q) ++ r) (l ∷ []) (subst (Every IsSound) (simp append_assoc) all)))
+    (more_new_keeps sort most (p ++ q) w h))
     (new_name_keeps sort most p v s)
 
-names_line_keeps : (sort : NameSortView) (most : ℕ) (keyword : List ℕ) (p : List Letter) (v : NamesView) → IfSound p v → Always (names_line sort most keyword v) (λ q w. IfSound (p ++ q) w)
+names_line_keeps : (sort : NameSortView) (most : ℕ) (keyword : List ℕ) (p : List Letter) (v : NamesView) → IfSound p v
+    → Always (names_line sort most keyword v) (λ q w. IfSound (p ++ q) w)
 unfolding Always names_line
 names_line_keeps sort most keyword p v s = (
-  λ l e m. always_weaker (new_names sort most v) (λ q w. IfSound ((p ++ (l ∷ [])) ++ q) w) _ (λ q w h all. h (subst (Every IsSound) (sym (append_assoc p (l ∷ []) q)) all)) (new_names_keep sort most (p ++ (l ∷ [])) v (λ all. s (every_front IsSound p (l ∷ []) all))),
+  λ l e m. always_weaker (new_names sort most v) (λ q w. IfSound ((p ++ (l ∷ [])) ++ q) w) _
+      (λ q w h all. h (subst (Every IsSound) (sym (append_assoc p (l ∷ []) q)) all))
+      (new_names_keep sort most (p ++ (l ∷ [])) v (λ all. s (every_front IsSound p (l ∷ []) all))),
   λ all. s (every_front IsSound p [] all),
 )
 
@@ -146,7 +164,8 @@ question_keeps =
     always_weaker (new_names Variable most_variables no_names) (λ p v. IfSound p v) _ (λ p v h.
     always_weaker (names_line Rate most_rates (codes "rates") v) (λ q w. IfSound (p ++ q) w) _ (λ q w k.
     always_any (own_lines most_lines most_lines w) _ (λ r own.
-    always_any (verb own w) _ (λ t aim all. k (every_front IsSound (p ++ q) (r ++ (t ++ [])) (subst (Every IsSound) (sym (append_assoc p q (r ++ (t ++ [])))) all)))))
+    always_any (verb own w) _ (λ t aim all. k (every_front IsSound (p ++ q) (r ++ (t ++ []))
+    (subst (Every IsSound) (sym (append_assoc p q (r ++ (t ++ [])))) all)))))
     (names_line_keeps Rate most_rates (codes "rates") p v h))
     (new_names_keep Variable most_variables [] no_names (λ all. no_names_good))
 
@@ -161,13 +180,16 @@ more_questions_keep p qs s = loop_keeps (Keyword (codes "vars") ∷ []) (λ qs l
     turn : (p : List Letter) (qs : List BodyView) → IfSoundAll p qs → OfEach (record { kinds = Keyword (codes "vars") ∷ []; says = λ l. (limit_flag (most_questions - length qs), tt {0}) }) (λ p0 b. Always (Then question (λ q. Give (qs ++ q ∷ []))) (λ q rs. IfSoundAll (p ++ (p0 ++ q)) rs))
     turn p qs s l e m = always_weaker question (λ q b. IfSound q b.names) _ (λ q b h all.
         let parts = every_back IsSound p ((l ∷ []) ++ (q ++ [])) all in
-        every-append (λ b. AreGood b.names) qs (b ∷ []) (s (every_front IsSound p ((l ∷ []) ++ (q ++ [])) all)) (h (every_front IsSound q [] parts.1), tt)) question_keeps
+        every-append (λ b. AreGood b.names) qs (b ∷ []) (s (every_front IsSound p ((l ∷ []) ++ (q ++ [])) all))
+        (h (every_front IsSound q [] parts.1), tt)) question_keeps
 
 file_keeps : Always file IfSoundAll
 unfolding Always file
-file_keeps = always_weaker (more_questions []) IfSoundAll _ (λ p qs h l e m all. h (every_front IsSound p ((l ∷ []) ++ []) all)) (more_questions_keep [] [] (λ all. tt))
+file_keeps = always_weaker (more_questions []) IfSoundAll _ (λ p qs h l e m all. h (every_front IsSound p ((l ∷ []) ++ []) all))
+    (more_questions_keep [] [] (λ all. tt))
 
-first_good : (q : QuestionView) (lines : List LineView) (bodies : List BodyView) → Every (λ b. AreGood b.names) bodies → with_texts lines bodies ≡ q ∷ [] → AreGood q.body.names
+first_good : (q : QuestionView) (lines : List LineView) (bodies : List BodyView) → Every (λ b. AreGood b.names) bodies
+    → with_texts lines bodies ≡ q ∷ [] → AreGood q.body.names
 first_good q lines [] g e = absurd cc
 first_good q lines (b ∷ bodies) g e =
     let p : QuestionView = record { body = b; text = text_of_lines (texts_of (take (question_line_count b) lines)) } in
@@ -188,7 +210,8 @@ place_is (x ∷ names) zero d h = ap (λ b. cond (not b) (1 + position_or_len (b
 place_is (x ∷ names) (suc r) d h =
     let name = get_or names r [] in
     let other = differs_both_ways x name (every_at (λ y. bytes_eq x y ≡ false) names r d.0 (omega arith)) in
-    ap (λ b. cond (not b) (1 + position_or_len (bytes_eq name) names) 0) other ∙ ap (λ i. 1 + i) (place_is names r d.1 (omega arith)) ∙ (let e : 1 + r ≡ suc r = omega arith in e)
+    ap (λ b. cond (not b) (1 + position_or_len (bytes_eq name) names) 0) other ∙ ap (λ i. 1 + i) (place_is names r d.1 (omega arith))
+    ∙ (let e : 1 + r ≡ suc r = omega arith in e)
 
 found_at : (names : List (List ℕ)) (r : ℕ) → IsDistinct bytes_eq names → r < length names → index_of names (get_or names r []) ≡ Some r
 found_at names r d h =
@@ -217,9 +240,11 @@ no_number (c ∷ cs) h =
     ∙ ap (λ o. option_and_then count_of_integer (option_map pos o)) (magnitude_none c cs n.0)
 
 -- a rate of the question that a text asks
-pub rates_found : (q : QuestionView) (r : ℕ) → IsFile q.text (q ∷ []) → r < length q.body.names.rates → IsFoundIn q.body.names r × (step_of (get_or q.body.names.rates r []) ≡ None)
+pub rates_found : (q : QuestionView) (r : ℕ) → IsFile q.text (q ∷ []) → r < length q.body.names.rates
+    → IsFoundIn q.body.names r × (step_of (get_or q.body.names.rates r []) ≡ None)
 rates_found q r asked h =
     let ls = letters_of_lines asked.lines in
-    let all = always_said file _ file_has IfSoundAll file_keeps ls asked.tree.0 (said file with_texts q.text (q ∷ []) asked) (lines_sound 1 (split_lines q.text) asked.lines asked.cut) in
+    let all = always_said file _ file_has IfSoundAll file_keeps ls asked.tree.0 (said file with_texts q.text (q ∷ []) asked)
+    (lines_sound 1 (split_lines q.text) asked.lines asked.cut) in
     let g = first_good q asked.lines asked.tree.0 all asked.says in
     (found_at q.body.names.rates r g.distinct h, no_number (get_or q.body.names.rates r []) (every_at IsLettered q.body.names.rates r g.lettered h))

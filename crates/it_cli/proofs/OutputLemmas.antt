@@ -42,7 +42,8 @@ use Rattle.it_cli.proofs.ReplyLemmas.{RepliesFrom}
 -- ---- a mode that is determined has one output
 
 module _ (m : Mode) (d : IsDetermined m) where
-  one_text : (k : ℕ) (xs : List m.Item) (s t u : List m.Reply) (out other : List ℕ) → RepliesFrom m k s xs t out → RepliesFrom m k s xs u other → (out ≡ other) × (t ≡ u)
+  one_text : (k : ℕ) (xs : List m.Item) (s t u : List m.Reply) (out other : List ℕ) → RepliesFrom m k s xs t out
+      → RepliesFrom m k s xs u other → (out ≡ other) × (t ≡ u)
   one_text k [] s t u out other a b = (a.1 ∙ sym b.1, a.0 ∙ sym b.0)
   one_text k (x ∷ xs) s t u out other (reply, rest, right, groups, is) (another, others, is_right, more, so) =
       let same : another ≡ reply = d.one_reply s x another reply is_right right in
@@ -58,7 +59,8 @@ module _ (m : Mode) (d : IsDetermined m) where
 
 -- ---- each mode has one reading of bytes
 
-files_are_one : FileIsOne → FileFaultIsOne → FileOrFault → (budgets : Budgets) (plans : List Plan) (format : Format) → HasOneReading (answer_mode budgets plans format)
+files_are_one : FileIsOne → FileFaultIsOne → FileOrFault → (budgets : Budgets) (plans : List Plan) (format : Format)
+    → HasOneReading (answer_mode budgets plans format)
 files_are_one one_file one_fault apart budgets plans format = record { one_reading = one_file; one_fault = one_fault; apart = apart }
 
 lines_are_one : HasOneReading check_mode
@@ -86,13 +88,15 @@ pub record CopiesAreOne : Type 0 where
 
 heads_are_one : CopiesAreOne → (report : Bool) (effort : Effort) → HasOneReading (copy_mode report effort)
 heads_are_one one report effort = record {
-  one_reading = λ bytes xs ys a b. let same = one.file bytes a.copies b.copies a.questions b.questions a.read b.read in a.are ∙ ap₂ (λ (cs : List CopyView) (qs : List QuestionView). map (with_copies cs) qs) same.0 same.1 ∙ sym b.are;
+  one_reading = λ bytes xs ys a b. let same = one.file bytes a.copies b.copies a.questions b.questions a.read b.read
+      in a.are ∙ ap₂ (λ (cs : List CopyView) (qs : List QuestionView). map (with_copies cs) qs) same.0 same.1 ∙ sym b.are;
   one_fault = one.fault;
   apart = λ bytes xs line column c a f. one.apart bytes a.copies a.questions line column c a.read f;
 }
 
 factored_are_one : CopiesAreOne → (report : Bool) (effort : Effort) → HasOneReading (best_mode report effort)
-factored_are_one one report effort = let mode = heads_are_one one report effort in record { one_reading = mode.one_reading; one_fault = mode.one_fault; apart = mode.apart }
+factored_are_one one report effort = let mode = heads_are_one one report effort
+    in record { one_reading = mode.one_reading; one_fault = mode.one_fault; apart = mode.apart }
 
 bounded_are_one : FileIsOne → FileFaultIsOne → FileOrFault → (report : Bool) (limits : Limits) → HasOneReading (outer_mode report limits)
 bounded_are_one one_file one_fault apart report limits = record { one_reading = one_file; one_fault = one_fault; apart = apart }
@@ -128,7 +132,8 @@ not_quick Bland pivots e = refl
 not_quick Quick pivots e = absurd (cc)
 
 -- no certificates are told in another format
-none_told : (format : Format) → format ≢ Derived → (q : BodyView) (answer : AnswerView) (origins : Option (List CertificateView)) → AreToldOrigins format q answer origins → origins ≡ None
+none_told : (format : Format) → format ≢ Derived → (q : BodyView) (answer : AnswerView) (origins : Option (List CertificateView))
+    → AreToldOrigins format q answer origins → origins ≡ None
 none_told Text other q answer origins told = told
 none_told Json other q answer origins told = told
 none_told Proof other q answer origins told = told
@@ -137,7 +142,8 @@ none_told Derived other q answer origins told = absurd (other refl)
 abbrev told_of : Reply → Option (List CertificateView) → ToldReply
 told_of reply origins = record { reply = reply; origins = origins }
 
-one_told : (format : Format) → format ≢ Derived → OneRightAnswer → (budgets : Budgets) → budgets.effort.quick ≡ false → (plans : List Plan) (q : BodyView) (a b : ToldReply) → IsRightTold format budgets plans q a → IsRightTold format budgets plans q b
+one_told : (format : Format) → format ≢ Derived → OneRightAnswer → (budgets : Budgets) → budgets.effort.quick ≡ false
+    → (plans : List Plan) (q : BodyView) (a b : ToldReply) → IsRightTold format budgets plans q a → IsRightTold format budgets plans q b
     → a ≡ b
 one_told format other one_answer budgets defined plans q a b f g =
     ap₂ told_of (one_answer budgets plans q a.reply b.reply defined f.reply g.reply)
@@ -147,7 +153,8 @@ one_line : OneRightAnswer → FileIsOne → (budgets : Budgets) → budgets.effo
     → IsBenchLine budgets plans seed count line → IsBenchLine budgets plans seed count other → line ≡ other
 one_line one_answer one_file budgets defined plans seed count line other a b =
     let same = one_file (generated_file seed count) a.questions b.questions a.asked b.asked in
-    let moved : AreCounted budgets plans [] no_counts b.questions a.counts = subst (λ (qs : List QuestionView). AreCounted budgets plans [] no_counts qs a.counts) same a.counted in
+    let moved : AreCounted budgets plans [] no_counts b.questions a.counts = subst
+    (λ (qs : List QuestionView). AreCounted budgets plans [] no_counts qs a.counts) same a.counted in
     a.is ∙ ap (bench_line seed count) (one_count one_answer budgets defined plans [] no_counts b.questions a.counts b.counts moved b.counted) ∙ sym b.is
 
 -- what is asked of a question with some copies is one question, or there is one reason against it
@@ -156,9 +163,11 @@ module _ (one : CopiesAreOne) where
   asked_is_one q d e [] a b = a ∙ sym b
   asked_is_one q d e (c ∷ cs) a b = one.extension q d e (c ∷ cs) a b
 
-  asked_or_misfit : (x : CopyQuestion) (e : BodyView) (cs : List CopyView) (f : CopyFault) → x.copies ≡ cs → IsAskedWith x.question.body cs e → IsToldMisfit x f → ⊥
+  asked_or_misfit : (x : CopyQuestion) (e : BodyView) (cs : List CopyView) (f : CopyFault) → x.copies ≡ cs
+      → IsAskedWith x.question.body cs e → IsToldMisfit x f → ⊥
   asked_or_misfit x e [] f is a (some, told, misfit) = some is
-  asked_or_misfit x e (c ∷ cs) f is a (some, told, misfit) = one.either x.question.body e (c ∷ cs) f told a (subst (λ (ds : List CopyView). IsMisfit x.question.body ds f) is misfit)
+  asked_or_misfit x e (c ∷ cs) f is a (some, told, misfit) = one.either x.question.body e (c ∷ cs) f told a
+      (subst (λ (ds : List CopyView). IsMisfit x.question.body ds f) is misfit)
 
 module _ (one_factor : OneRightReply) (effort : Effort) (defined : effort.quick ≡ false) where
   one_best : CopiesAreOne → (x : CopyQuestion) (a b : BestReply) → IsRightBestReply effort x a → IsRightBestReply effort x b → a ≡ b
@@ -172,7 +181,8 @@ module _ (one_factor : OneRightReply) (effort : Effort) (defined : effort.quick 
 module _ (one_answer : OneRightAnswer) (effort : Effort) (defined : effort.quick ≡ false) where
   -- a question about a relation has one right answer
   same_proof : (e : BodyView) (a b : AnswerView) → IsRightProof effort e a → IsRightProof effort e b → a ≡ b
-  same_proof e a b f g = ap (λ (r : Reply). r.answer) (one_answer (record { effort = effort; rows = 1; tries = 1 }) [] e (record { answer = a; found = [] }) (record { answer = b; found = [] }) defined f g)
+  same_proof e a b f g = ap (λ (r : Reply). r.answer) (one_answer (record { effort = effort; rows = 1; tries = 1 }) [] e
+      (record { answer = a; found = [] }) (record { answer = b; found = [] }) defined f g)
 
   one_copy : CopiesAreOne → (x : CopyQuestion) (a b : CopyReply) → IsRightCopy effort x a → IsRightCopy effort x b → a ≡ b
   one_copy one x (Misfit f) (Misfit g) (told, is) (other, so) = ap Misfit (one.misfit x.question.body x.copies f g told other is so)
@@ -187,18 +197,22 @@ module _ (one_answer : OneRightAnswer) (effort : Effort) (defined : effort.quick
   one_sharing one_factor x Many (Answered b) f (few, asked, right) = absurd (omega (arith, f, few))
   one_sharing one_factor x Many (Factored b) f (few, asked, right) = absurd (omega (arith, f, few))
   one_sharing one_factor x (Answered a) Many (few, asked, right) g = absurd (omega (arith, g, few))
-  one_sharing one_factor x (Answered a) (Answered b) (few, asked, right) (few', asked', right') = ap Answered (same_proof (made_question x).body a b right right')
+  one_sharing one_factor x (Answered a) (Answered b) (few, asked, right) (few', asked', right') = ap Answered
+      (same_proof (made_question x).body a b right right')
   one_sharing one_factor x (Answered a) (Factored b) (few, asked, right) (few', asked', right') = absurd (false≢true (sym asked ∙ asked'))
   one_sharing one_factor x (Factored a) Many (few, asked, right) g = absurd (omega (arith, g, few))
   one_sharing one_factor x (Factored a) (Answered b) (few, asked, right) (few', asked', right') = absurd (false≢true (sym asked' ∙ asked))
-  one_sharing one_factor x (Factored a) (Factored b) (few, asked, right) (few', asked', right') = ap Factored (one_factor effort (made_question x).body a b defined right right')
+  one_sharing one_factor x (Factored a) (Factored b) (few, asked, right) (few', asked', right') = ap Factored
+      (one_factor effort (made_question x).body a b defined right right')
 
-module _ (reading : ModesHaveOneReading) (one_answer : OneRightAnswer) (one_file : FileIsOne) (one_verdict : reports.OneVerdict) (copies : CopiesAreOne) (one_factor : OneRightReply) (one_bound : OneRightTold) where
+module _ (reading : ModesHaveOneReading) (one_answer : OneRightAnswer) (one_file : FileIsOne) (one_verdict : reports.OneVerdict)
+    (copies : CopiesAreOne) (one_factor : OneRightReply) (one_bound : OneRightTold) where
   pub modes_are_determined : ModesAreDetermined
   modes_are_determined plans (Answer format run pivots rows tries) bland = record {
     reading = reading plans (Answer format run pivots rows tries);
     one_reply = λ s x a b f g.
-        one_told format bland.1 one_answer (budgets_of run pivots rows tries) (not_quick run pivots bland.0) (map (plan_after_all (flat_map (λ (t : ToldReply). t.reply.found) s)) plans) x.body a b f g;
+        one_told format bland.1 one_answer (budgets_of run pivots rows tries) (not_quick run pivots bland.0)
+        (map (plan_after_all (flat_map (λ (t : ToldReply). t.reply.found) s)) plans) x.body a b f g;
   }
   modes_are_determined plans Check bland = record { reading = reading plans Check; one_reply = λ s x a b f g. one_verdict x a b f g }
   modes_are_determined plans (Bench seed count run pivots rows tries) bland = record {
@@ -223,4 +237,5 @@ module _ (reading : ModesHaveOneReading) (one_answer : OneRightAnswer) (one_file
   }
 
 pub one_output : ModesAreDetermined → OneOutput
-one_output determined plans settings bytes out other s t bland a b = one_whole (mode_of plans settings) (determined plans settings bland) bytes out other s t a b
+one_output determined plans settings bytes out other s t bland a b = one_whole (mode_of plans settings)
+    (determined plans settings bland) bytes out other s t a b

@@ -5,8 +5,8 @@ use Rattle.std.proofs.lemmas.List.{map-append}
 use Rattle.std.proofs.lemmas.List.Elements.{All-nil, All-cons}
 use Rattle.std.proofs.lemmas.Simd.{map-map}
 use Rattle.it_space.specs.declared.spaces.Space.{Space}
-use Rattle.it_space.specs.declared.problems.Constraint.{Constraint}
-use Rattle.it_space.specs.declared.problems.Kind.TheVariants.{Inequality}
+use Rattle.it_problems.specs.declared.problems.Constraint.{Constraint}
+use Rattle.it_problems.specs.declared.problems.Kind.TheVariants.{Inequality}
 use Rattle.it_space.specs.Rows.{Terms}
 use Rattle.it_space.specs.Spaces.{size_of}
 use Rattle.it_polymatroid.specs.Certificates.{Form}
@@ -41,17 +41,24 @@ generators_are_demands q cs stated = generators_are (space_of (problem_names q))
     ∙ ap₂ (λ (xs ys : List Generator). xs ++ ys) (sym (map-map (row_of_demand q) (demand_of_elemental (variable_count q)) (elementals (variable_count q)))) refl
     ∙ sym (map-append (row_of_demand q) (map (demand_of_elemental (variable_count q)) (elementals (variable_count q))) (question_demands q))
 
-pub generator_rows_are : (q : BodyView) (cs : List Constraint) → AllZip (States (space_of (problem_names q))) (question_demands q) cs → generator_rows (problem_names q) cs ≡ question_generators q
+pub generator_rows_are : (q : BodyView) (cs : List Constraint) → AllZip (States (space_of (problem_names q))) (question_demands q) cs
+    → generator_rows (problem_names q) cs ≡ question_generators q
 generator_rows_are q cs stated = fun_ext (λ g. ap (λ (gs : List Generator). generator_at gs g) (generators_are_demands q cs stated)
-    ∙ item_of_map (row_of_demand q) (all_demands (variable_count q) (question_demands q)) _ _ (ap (λ (t : Terms). let x : Generator = record { kind = Inequality; row = t } in x) (sym (no_terms (size_of (space_of (problem_names q)))))) g)
+    ∙ item_of_map (row_of_demand q) (all_demands (variable_count q) (question_demands q)) _ _
+    (ap (λ (t : Terms). let x : Generator = record { kind = Inequality; row = t } in x)
+    (sym (no_terms (size_of (space_of (problem_names q)))))) g)
 
 -- the rows of the constraints, and those of which an answer has certificates, are over the question's coordinates
-pub constraints_over : (q : BodyView) (s : Space) (cs : List Constraint) → s ≡ space_of (problem_names q) → AllZip (States s) (question_demands q) cs → All (λ (c : Constraint). IsRowOver (problem_names q) c.row) cs
-constraints_over q s cs e a = zip-right (States (space_of (problem_names q))) (λ (c : Constraint). IsRowOver (problem_names q) c.row) (λ d c t. row_over (problem_names q) c.row t.row.coordinates) (question_demands q) cs (subst (λ (t : Space). AllZip (States t) (question_demands q) cs) e a)
+pub constraints_over : (q : BodyView) (s : Space) (cs : List Constraint) → s ≡ space_of (problem_names q)
+    → AllZip (States s) (question_demands q) cs → All (λ (c : Constraint). IsRowOver (problem_names q) c.row) cs
+constraints_over q s cs e a = zip-right (States (space_of (problem_names q))) (λ (c : Constraint). IsRowOver (problem_names q) c.row)
+    (λ d c t. row_over (problem_names q) c.row t.row.coordinates) (question_demands q) cs
+    (subst (λ (t : Space). AllZip (States t) (question_demands q) cs) e a)
 
 terms_over : (q : BodyView) (forms : List Form) → All (IsRowOver (problem_names q)) (map (terms_in q) forms)
 terms_over q [] = All-nil (IsRowOver (problem_names q))
-terms_over q (f ∷ fs) = All-cons (IsRowOver (problem_names q)) (terms_in q f) (map (terms_in q) fs) (row_over (problem_names q) (terms_in q f) (form_up_to (size_of (space_of (problem_names q))) f)) (terms_over q fs)
+terms_over q (f ∷ fs) = All-cons (IsRowOver (problem_names q)) (terms_in q f) (map (terms_in q) fs)
+    (row_over (problem_names q) (terms_in q f) (form_up_to (size_of (space_of (problem_names q))) f)) (terms_over q fs)
 
 pub targets_over : (q : BodyView) (forms : List Form) (rows : List Terms) → rows ≡ map (terms_in q) forms → All (IsRowOver (problem_names q)) rows
 targets_over q forms rows e = subst (All (IsRowOver (problem_names q))) (sym e) (terms_over q forms)

@@ -2,7 +2,7 @@
 use Rattle.std.proofs.Common.{◌≡◌, ℕ, inl, inr, List, [], ◌∷◌, refl, sym, subst}
 use Rattle.it_prove.specs.declared.types.Effort.{Effort}
 use Rattle.it_space.specs.Answers.{CertificateView}
-use Rattle.it_space.specs.Problems.{ProblemView}
+use Rattle.it_problems.specs.Problems.{ProblemView}
 use Rattle.it_space.specs.Rows.{Terms}
 use Rattle.it_eliminate.specs.Elimination.{EliminatedView, EliminationEnds}
 use Rattle.it_eliminate.proofs.MemberLemmas.{Member}
@@ -33,8 +33,11 @@ end_of_more r rates (Rows rate) h = inr h
 end_of_more r rates (Wide rate) h = inr h
 
 module _ (givens : ProblemView) (effort : Effort) (most : ℕ) where
-  pub end_of_rates : (rows : List Terms) (last : List (Terms × NeedView)) (gone : List (Terms × CertificateView)) (rates : List ℕ) (end : ProjectedView) → ReducedEnds givens effort most rows last gone rates end → IsEndOf rates end
+  pub end_of_rates : (rows : List Terms) (last : List (Terms × NeedView)) (gone : List (Terms × CertificateView)) (rates : List ℕ)
+      (end : ProjectedView) → ReducedEnds givens effort most rows last gone rates end → IsEndOf rates end
   end_of_rates rows last gone [] end is = subst (IsEndOf []) (sym is) tt
   end_of_rates rows last gone (r ∷ rates) end (elimination.Region next, e, g) = end_of_more r rates end (end_of_rates (kept_rows g.0) g.0 g.1 rates end g.3)
-  end_of_rates rows last gone (r ∷ rates) end (elimination.Rows rate, e, is) = subst (IsEndOf (r ∷ rates)) (sym is) (inl (step_of_rate _ most _ r (elimination.Rows rate) e))
-  end_of_rates rows last gone (r ∷ rates) end (elimination.Wide rate, e, is) = subst (IsEndOf (r ∷ rates)) (sym is) (inl (step_of_rate _ most _ r (elimination.Wide rate) e))
+  end_of_rates rows last gone (r ∷ rates) end (elimination.Rows rate, e, is) = subst (IsEndOf (r ∷ rates)) (sym is)
+      (inl (step_of_rate _ most _ r (elimination.Rows rate) e))
+  end_of_rates rows last gone (r ∷ rates) end (elimination.Wide rate, e, is) = subst (IsEndOf (r ∷ rates)) (sym is)
+      (inl (step_of_rate _ most _ r (elimination.Wide rate) e))

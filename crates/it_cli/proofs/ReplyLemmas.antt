@@ -34,26 +34,39 @@ module _ (m : Mode) where
   pub none_replied : (a : Option (List ℕ)) (items : List m.Item) → Replied a a items 0 []
   none_replied a items = under_way_first m.IsRight with_reply m.text a [] items
 
-  pub replies_more : (a b c : Option (List ℕ)) (items : List m.Item) (i : ℕ) (s : List m.Reply) (x : m.Item) (reply : m.Reply) (text piece : List ℕ) → Replied a b items i s → i < length items → get_or items i x ≡ x
+  pub replies_more : (a b c : Option (List ℕ)) (items : List m.Item) (i : ℕ) (s : List m.Reply) (x : m.Item) (reply : m.Reply)
+      (text piece : List ℕ) → Replied a b items i s → i < length items → get_or items i x ≡ x
       → m.IsRight s x reply → text ≡ m.text (i + 1) x reply → piece ≡ text → Gains b c piece → Replied a c items (i + 1) (s ++ reply ∷ [])
   replies_more a b c items i s x reply text piece w h read right is same wrote =
       under_way_more m.IsRight with_reply m.text a b c [] items i s x reply text w h read right is (subst (Gains b c) same wrote)
 
-  pub all_replied : (a b : Option (List ℕ)) (bytes : List ℕ) (items : List m.Item) (i : ℕ) (s : List m.Reply) → m.Asks bytes items → Replied a b items i s → length items ≤ i → WroteWhole m a b bytes (m.status s)
+  pub all_replied : (a b : Option (List ℕ)) (bytes : List ℕ) (items : List m.Item) (i : ℕ) (s : List m.Reply) → m.Asks bytes items
+      → Replied a b items i s → length items ≤ i → WroteWhole m a b bytes (m.status s)
   all_replied a b bytes items i s asked w h = record {
     out = w.out;
     output = record { items = items; asked = asked; replies = s; written = under_way_done m.IsRight with_reply m.text a b [] items i s w h; is = refl };
     wrote = w.wrote;
   }
 
-  pub first_replied : (a b : Option (List ℕ)) (bytes : List ℕ) (items : List m.Item) (i : ℕ) (s : List m.Reply) → m.Asks bytes items → Replied a b items i s → WroteFirst m a b bytes
+  pub first_replied : (a b : Option (List ℕ)) (bytes : List ℕ) (items : List m.Item) (i : ℕ) (s : List m.Reply) → m.Asks bytes items
+      → Replied a b items i s → WroteFirst m a b bytes
   first_replied a b bytes items i s asked w = record {
     out = w.out;
-    output = (drop i items, record { items = take i items; asked = subst (m.Asks bytes) (sym (take-append-drop i items)) asked; replies = s; written = w.groups });
+    output = (
+      drop i items,
+      record {
+        items = take i items;
+        asked = subst (m.Asks bytes)
+            (sym (take-append-drop i items)) asked;
+        replies = s;
+        written = w.groups;
+      },
+    );
     wrote = w.wrote;
   }
 
-  pub replies_stop : (a b c : Option (List ℕ)) (bytes : List ℕ) (items : List m.Item) (i : ℕ) (s : List m.Reply) (x : m.Item) (reply : m.Reply) (text piece : List ℕ) → m.Asks bytes items → Replied a b items i s → i < length items
+  pub replies_stop : (a b c : Option (List ℕ)) (bytes : List ℕ) (items : List m.Item) (i : ℕ) (s : List m.Reply) (x : m.Item)
+      (reply : m.Reply) (text piece : List ℕ) → m.Asks bytes items → Replied a b items i s → i < length items
       → get_or items i x ≡ x → m.IsRight s x reply → text ≡ m.text (i + 1) x reply → piece ≡ text → TookPrefix b c piece → WroteInPart m a c bytes
   replies_stop a b c bytes items i s x reply text piece asked w h read right is same took = record {
     out = w.out ++ took.part;
@@ -65,7 +78,9 @@ module _ (m : Mode) where
       reply = reply;
       right = right;
       part = took.part;
-      prefix = subst (IsPrefix took.part) (same ∙ is ∙ ap (λ n. m.text n x reply) (let e : i + 1 ≡ length (take i items) + 1 = omega (arith, length-take-le i items w.few) in e)) took.prefix;
+      prefix = subst (IsPrefix took.part) (same ∙ is
+          ∙ ap (λ n. m.text n x reply) (let e : i + 1 ≡ length (take i items) + 1 = omega (arith, length-take-le i items w.few) in e))
+          took.prefix;
       is = refl;
     };
     wrote = Gains-trans a b c w.out took.part w.wrote took.taken;

@@ -25,34 +25,47 @@ names_of_made : (x : SharingView) (q : QuestionView) → q ≡ made_question x �
 unfolding made_question
 names_of_made x q made = ap (λ (y : QuestionView). y.body.names) made
 
-module _ (effort : Effort) (bytes : List ℕ) (x : SharingView) (minimal maximal : ℕ) (q : QuestionView) (is_minimal : minimal ≡ minimal_count x) (is_maximal : maximal ≡ maximal_count x) (few : minimal + maximal ≤ 64) (made : q ≡ made_question x) where
+module _ (effort : Effort) (bytes : List ℕ) (x : SharingView) (minimal maximal : ℕ) (q : QuestionView)
+    (is_minimal : minimal ≡ minimal_count x) (is_maximal : maximal ≡ maximal_count x) (few : minimal + maximal ≤ 64)
+    (made : q ≡ made_question x) where
   few_sets : minimal_count x + maximal_count x ≤ 64
   few_sets = subst (λ (n : ℕ). minimal_count x + n ≤ 64) is_maximal (subst (λ (m : ℕ). m + maximal ≤ 64) is_minimal few)
 
   headed : (line text : List ℕ) → text ≡ sharing_heading minimal maximal ++ line → text ≡ sharing_heading (minimal_count x) (maximal_count x) ++ line
   headed line text is = is ∙ ap₂ (λ m n. sharing_heading m n ++ line) is_minimal is_maximal
 
-  pub factored_text : (line text : List ℕ) → x.best ≡ true → IsFactorText effort 1 q.body line → text ≡ sharing_heading minimal maximal ++ line → IsTextOf (sharing_mode false effort) [] 1 (said_by bytes x) text
+  pub factored_text : (line text : List ℕ) → x.best ≡ true → IsFactorText effort 1 q.body line
+      → text ≡ sharing_heading minimal maximal ++ line → IsTextOf (sharing_mode false effort) [] 1 (said_by bytes x) text
   factored_text line text asked t is = record {
     reply = Factored t.reply;
     right = (few_sets, asked, subst (λ (y : QuestionView). IsRightReply effort y.body t.reply) made t.right);
-    is = headed line text is ∙ ap (λ ys. sharing_heading (minimal_count x) (maximal_count x) ++ ys) (t.is ∙ ap (λ (y : QuestionView). reply_line 1 y.body (question_origins y.body) t.reply) made);
+    is = headed line text is ∙ ap (λ ys. sharing_heading (minimal_count x) (maximal_count x) ++ ys)
+        (t.is ∙ ap (λ (y : QuestionView). reply_line 1 y.body (question_origins y.body) t.reply) made);
   }
 
-  pub answered_text : (line text : List ℕ) → x.best ≡ false → IsProofText effort 1 q.body line → text ≡ sharing_heading minimal maximal ++ line → IsTextOf (sharing_mode false effort) [] 1 (said_by bytes x) text
+  pub answered_text : (line text : List ℕ) → x.best ≡ false → IsProofText effort 1 q.body line
+      → text ≡ sharing_heading minimal maximal ++ line → IsTextOf (sharing_mode false effort) [] 1 (said_by bytes x) text
   answered_text line text asked t is = record {
     reply = Answered t.answer;
     right = (few_sets, asked, subst (λ (y : QuestionView). IsRightProof effort y.body t.answer) made t.right);
-    is = headed line text is ∙ ap (λ ys. sharing_heading (minimal_count x) (maximal_count x) ++ ys) (t.is ∙ ap (λ (y : QuestionView). answer_line 1 y.body (question_origins y.body) t.answer) made);
+    is = headed line text is ∙ ap (λ ys. sharing_heading (minimal_count x) (maximal_count x) ++ ys)
+        (t.is ∙ ap (λ (y : QuestionView). answer_line 1 y.body (question_origins y.body) t.answer) made);
   }
 
   -- the lines of a report
-  pub answered_report : (text : List ℕ) → x.best ≡ false → IsReportOf effort (OfSharing bytes) q.body text → IsTextOf (sharing_mode true effort) [] 1 (said_by bytes x) text
+  pub answered_report : (text : List ℕ) → x.best ≡ false → IsReportOf effort (OfSharing bytes) q.body text
+      → IsTextOf (sharing_mode true effort) [] 1 (said_by bytes x) text
   answered_report text asked t = record {
     reply = Answered t.answer;
     right = (few_sets, asked, subst (λ (y : QuestionView). IsRightProof effort y.body t.answer) made t.right);
     is = t.is ∙ ap (λ (v : NamesView). report_text (OfSharing bytes) (answer_members v t.answer) ++ codes "\n") (names_of_made x q made);
   }
 
-  pub factored_report : (text : List ℕ) → x.best ≡ true → IsFactorReportOf effort (OfSharing bytes) q.body text → IsTextOf (sharing_mode true effort) [] 1 (said_by bytes x) text
-  factored_report text asked t = record { reply = Factored t.reply; right = (few_sets, asked, subst (λ (y : QuestionView). IsRightReply effort y.body t.reply) made t.right); is = t.is }
+  pub factored_report : (text : List ℕ) → x.best ≡ true → IsFactorReportOf effort (OfSharing bytes) q.body text
+      → IsTextOf (sharing_mode true effort) [] 1 (said_by bytes x) text
+  factored_report text asked t = record {
+    reply = Factored t.reply;
+    right
+        = (few_sets, asked, subst (λ (y : QuestionView). IsRightReply effort y.body t.reply) made t.right);
+    is = t.is;
+  }

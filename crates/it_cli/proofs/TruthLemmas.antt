@@ -32,10 +32,12 @@ use Rattle.it_cli.proofs.CopyFactors.{asked_is_proof, same_with_copies}
 -- ---- of a question with copies
 
 module _ (shown_is_true : answers.WhatIsShownIsTrue) (by_copies : YesByCopies) where
-  true_with_copies : (q e : BodyView) (cs : List CopyView) (verb : VerbView) (a : AnswerView) → IsQuestion q → q.verb ≡ verb → IsExtension q cs e → IsTrueAnswer e a → IsTrueWithCopies q e verb a
+  true_with_copies : (q e : BodyView) (cs : List CopyView) (verb : VerbView) (a : AnswerView) → IsQuestion q → q.verb ≡ verb
+      → IsExtension q cs e → IsTrueAnswer e a → IsTrueWithCopies q e verb a
   true_with_copies q e cs (Prove r) (Yes ws) limits verb extension t =
       let same : e.verb ≡ Prove r = subst (λ (x : BodyView). x.verb ≡ Prove r) (sym extension.is) verb in
-      by_copies q e cs r limits verb extension (λ image polymatroid lines. own_lines e r e.verb same (subst (λ (v : VerbView). IsTrueBy e v (Yes ws)) same t) image (polymatroid, lines))
+      by_copies q e cs r limits verb extension (λ image polymatroid lines. own_lines e r e.verb same
+      (subst (λ (v : VerbView). IsTrueBy e v (Yes ws)) same t) image (polymatroid, lines))
   true_with_copies q e cs (Prove r) (No is_back values) limits verb extension t = t
   true_with_copies q e cs (Prove r) (Undecided cause) limits verb extension t = t
   true_with_copies q e cs (Prove r) (Region rows) limits verb extension t = t
@@ -44,7 +46,8 @@ module _ (shown_is_true : answers.WhatIsShownIsTrue) (by_copies : YesByCopies) w
   true_with_copies q e cs (Eliminate rates) a limits verb extension t = absurd (subst IsProof verb extension.made.proof)
   true_with_copies q e cs (Contain first second tries) a limits verb extension t = absurd (subst IsProof verb extension.made.proof)
 
-  pub right_copy_is_true : (effort : Effort) (x : CopyQuestion) (reply : CopyReply) → IsQuestion x.question.body → IsRightCopy effort x reply → IsTrueCopy x reply
+  pub right_copy_is_true : (effort : Effort) (x : CopyQuestion) (reply : CopyReply) → IsQuestion x.question.body
+      → IsRightCopy effort x reply → IsTrueCopy x reply
   right_copy_is_true effort x (Misfit fault) limits right = right
   right_copy_is_true effort x (Extended e a) limits right =
       (right.0, true_with_copies x.question.body e x.copies x.question.body.verb a limits refl right.0 (shown_is_true e a right.1.shows))
@@ -57,7 +60,8 @@ module _ (shown_is_true : factors.WhatIsShownIsTrue) where
   right_reply_is_true effort q Other right = right
 
   -- with copies, by what is true of the question with them
-  true_reply_with : (q e : BodyView) (c : CopyView) (cs : List CopyView) (reply : ReplyView) → IsQuestion q → IsExtension q (c ∷ cs) e → IsTrueReply e reply → IsTrueReplyWith q (c ∷ cs) e reply
+  true_reply_with : (q e : BodyView) (c : CopyView) (cs : List CopyView) (reply : ReplyView) → IsQuestion q → IsExtension q (c ∷ cs) e
+      → IsTrueReply e reply → IsTrueReplyWith q (c ∷ cs) e reply
   true_reply_with q e c cs (Found best) limits extension t =
       let verb : e.verb ≡ q.verb = ap (λ (x : BodyView). x.verb) extension.is in
       let asked : asked_by q.verb ≡ Some t.0 = ap asked_by (sym verb) ∙ t.1 in
@@ -65,11 +69,13 @@ module _ (shown_is_true : factors.WhatIsShownIsTrue) where
       (t.0, asked, true_of_same (HoldsFor e t.0) (HoldsWithCopies q e t.0) best (same_with_copies q e t.0 limits proof (verb ∙ proof)) t.2)
   true_reply_with q e c cs Other limits extension t = ap asked_by (sym (ap (λ (x : BodyView). x.verb) extension.is)) ∙ t
 
-  true_reply : (effort : Effort) (q e : BodyView) (cs : List CopyView) (reply : ReplyView) → IsQuestion q → IsAskedWith q cs e → IsRightReply effort e reply → IsTrueReplyWith q cs e reply
+  true_reply : (effort : Effort) (q e : BodyView) (cs : List CopyView) (reply : ReplyView) → IsQuestion q → IsAskedWith q cs e
+      → IsRightReply effort e reply → IsTrueReplyWith q cs e reply
   true_reply effort q e [] reply limits same right = right_reply_is_true effort q reply (subst (λ (x : BodyView). IsRightReply effort x reply) same right)
   true_reply effort q e (c ∷ cs) reply limits extension right = true_reply_with q e c cs reply limits extension (right_reply_is_true effort e reply right)
 
-  pub right_best_is_true : (effort : Effort) (x : CopyQuestion) (reply : BestReply) → IsQuestion x.question.body → IsRightBestReply effort x reply → IsTrueBestReply x reply
+  pub right_best_is_true : (effort : Effort) (x : CopyQuestion) (reply : BestReply) → IsQuestion x.question.body
+      → IsRightBestReply effort x reply → IsTrueBestReply x reply
   right_best_is_true effort x (Misfit fault) limits right = right
   right_best_is_true effort x (Extended e reply) limits right = (right.0, true_reply effort x.question.body e x.copies reply limits right.0 right.1)
 
@@ -102,12 +108,15 @@ module _ (is_perfect : MadeQuestionIsOfPerfectSharing) (x : SharingView) (within
     true_factors : (reply : ReplyView) → IsTrueReply (made_question x).body reply → IsTrueSharing x (Factored reply)
     true_factors (Found best) t =
         let same : t.0 ≡ x.relation = some_same t.0 x.relation (sym t.1 ∙ asks_for) in
-        true_of_same (HoldsFor (made_question x).body x.relation) (HoldsWherePerfect x) best same_factors (subst (λ (r : RelationView). IsTrueBest (HoldsFor (made_question x).body r) best) same t.2)
+        true_of_same (HoldsFor (made_question x).body x.relation) (HoldsWherePerfect x) best same_factors
+        (subst (λ (r : RelationView). IsTrueBest (HoldsFor (made_question x).body r) best) same t.2)
     true_factors Other t = absurd (none_is_not_some x.relation (sym t ∙ asks_for))
 
-pub right_sharing_is_true : answers.WhatIsShownIsTrue → factors.WhatIsShownIsTrue → MadeQuestionIsOfPerfectSharing → (effort : Effort) (x : SharingView) (reply : SharingReply) → IsSharing x × IsBoundWhereBest x
+pub right_sharing_is_true : answers.WhatIsShownIsTrue → factors.WhatIsShownIsTrue → MadeQuestionIsOfPerfectSharing
+    → (effort : Effort) (x : SharingView) (reply : SharingReply) → IsSharing x × IsBoundWhereBest x
     → IsRightSharing effort x reply → IsTrueSharing x reply
 right_sharing_is_true shown_is_true shown_factors is_perfect effort x Many within right = right
-right_sharing_is_true shown_is_true shown_factors is_perfect effort x (Answered a) within right = true_of_sharing is_perfect x within.0 a (shown_is_true (made_question x).body a right.2.shows)
+right_sharing_is_true shown_is_true shown_factors is_perfect effort x (Answered a) within right = true_of_sharing is_perfect x within.0 a
+    (shown_is_true (made_question x).body a right.2.shows)
 right_sharing_is_true shown_is_true shown_factors is_perfect effort x (Factored reply) within right =
     true_factors is_perfect x within.0 within.1 right.1 reply (right_reply_is_true shown_factors effort (made_question x).body reply right.2)

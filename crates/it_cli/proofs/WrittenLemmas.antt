@@ -37,14 +37,24 @@ use Rattle.it_cli.proofs.TruthLemmas.{right_best_is_true, right_copy_is_true, ri
 -- ---- in any mode
 
 -- what is said of a right reply to an item that is within limits is such, and its lines tell it
-module _ (m : Mode) {Said : Type 0} (said : m.Reply → Said) (text : ℕ → m.Item → Said → List ℕ) (told : (k : ℕ) (x : m.Item) (reply : m.Reply) → m.text k x reply ≡ text k x (said reply))
-    (IsWithin : m.Item → Type 0) (IsSuch : m.Item → Said → Type 0) (such : (earlier : List m.Reply) (x : m.Item) (reply : m.Reply) → IsWithin x → m.IsRight earlier x reply → IsSuch x (said reply)) where
-  lines_from : (k : ℕ) (xs : List m.Item) (s t : List m.Reply) (out : List ℕ) → All IsWithin xs → RepliesFrom m k s xs t out → AreReplyLines IsSuch text k xs out
+module _ (m : Mode) {Said : Type 0} (said : m.Reply → Said) (text : ℕ → m.Item → Said → List ℕ)
+    (told : (k : ℕ) (x : m.Item) (reply : m.Reply) → m.text k x reply ≡ text k x (said reply))
+    (IsWithin : m.Item → Type 0) (IsSuch : m.Item → Said → Type 0) (such : (earlier : List m.Reply) (x : m.Item) (reply : m.Reply)
+    → IsWithin x → m.IsRight earlier x reply → IsSuch x (said reply)) where
+  lines_from : (k : ℕ) (xs : List m.Item) (s t : List m.Reply) (out : List ℕ) → All IsWithin xs → RepliesFrom m k s xs t out
+      → AreReplyLines IsSuch text k xs out
   lines_from k [] s t out within a = a.1
-  lines_from k (x ∷ xs) s t out within (reply, rest, right, more, is) =
-      (said reply, rest, such s x reply (All-head IsWithin x xs within) right, lines_from (k + 1) xs (s ++ reply ∷ []) t rest (All-tail IsWithin x xs within) more, is ∙ ap (λ ys. ys ++ rest) (told k x reply))
+  lines_from k (x ∷ xs) s t out within (reply, rest, right, more, is) = (
+    said reply,
+    rest,
+    such s x reply (All-head IsWithin x xs within) right,
+    lines_from (k + 1) xs (s ++ reply ∷ []) t rest
+        (All-tail IsWithin x xs within) more,
+    is ∙ ap (λ ys. ys ++ rest) (told k x reply),
+  )
 
-  lines_for : ((bytes : List ℕ) (items : List m.Item) → m.Asks bytes items → All IsWithin items) → (bytes out : List ℕ) (s : Status) → WholeOutput m bytes out s → AreLinesFor m.Asks IsSuch text bytes out
+  lines_for : ((bytes : List ℕ) (items : List m.Item) → m.Asks bytes items → All IsWithin items) → (bytes out : List ℕ) (s : Status)
+      → WholeOutput m bytes out s → AreLinesFor m.Asks IsSuch text bytes out
   lines_for within bytes out s o = (o.items, o.asked, lines_from 1 o.items [] o.replies out (within bytes o.items o.asked) o.written)
 
 -- what is such of every whole output is such of what a call wrote that is done
@@ -62,12 +72,16 @@ Any x = Unit {0}
 
 pub answers_show : AnswersShow
 answers_show format run pivots rows tries = writes_such (Answer format run pivots rows tries) 1048576 (ShownAnswers format) refl (λ plans bytes out o.
-    lines_for (answer_mode (budgets_of run pivots rows tries) plans format) (λ told. told) (told_lines format) (λ k q told. refl) Any (λ (q : QuestionView) (told : ToldReply). Shows q.body told.reply.answer × AreToldOrigins format q.body told.reply.answer told.origins)
+    lines_for (answer_mode (budgets_of run pivots rows tries) plans format) (λ told. told) (told_lines format) (λ k q told. refl) Any
+    (λ (q : QuestionView) (told : ToldReply). Shows q.body told.reply.answer
+    × AreToldOrigins format q.body told.reply.answer told.origins)
     (λ earlier q told any right. (right.reply.shows, right.origins)) (λ bytes qs asked i d l. tt) bytes out Done o)
 
 pub answers_are_true : answers.WhatIsShownIsTrue → AnswersAreTrue
-answers_are_true shown_is_true format run pivots rows tries = writes_such (Answer format run pivots rows tries) 1048576 (TrueAnswers format) refl (λ plans bytes out o.
-    lines_for (answer_mode (budgets_of run pivots rows tries) plans format) (λ told. told) (told_lines format) (λ k q told. refl) Any (λ (q : QuestionView) (told : ToldReply). IsTrueAnswer q.body told.reply.answer)
+answers_are_true shown_is_true format run pivots rows tries = writes_such (Answer format run pivots rows tries) 1048576
+    (TrueAnswers format) refl (λ plans bytes out o.
+    lines_for (answer_mode (budgets_of run pivots rows tries) plans format) (λ told. told) (told_lines format) (λ k q told. refl) Any
+    (λ (q : QuestionView) (told : ToldReply). IsTrueAnswer q.body told.reply.answer)
     (λ earlier q told any right. shown_is_true q.body told.reply.answer right.reply.shows) (λ bytes qs asked i d l. tt) bytes out Done o)
 
 -- the question keeps the limits
@@ -76,33 +90,44 @@ IsWithinLimits x = IsQuestion x.question.body
 
 copied_within : CopiedQuestionsAreWithin → (bytes : List ℕ) (items : List CopyQuestion) → AsksWithCopies bytes items → All IsWithinLimits items
 copied_within are_within bytes items asked =
-    subst (All IsWithinLimits) (sym asked.are) (All-map IsWithinLimits (with_copies asked.copies) asked.questions (are_within bytes asked.copies asked.questions asked.read))
+    subst (All IsWithinLimits) (sym asked.are) (All-map IsWithinLimits (with_copies asked.copies) asked.questions
+    (are_within bytes asked.copies asked.questions asked.read))
 
 pub copies_are_true : answers.WhatIsShownIsTrue → YesByCopies → CopiedQuestionsAreWithin → CopiesAreTrue
-copies_are_true shown_is_true by_copies are_within report run pivots = writes_such (Copy report run pivots) 1048576 (TrueCopies report) refl (λ plans bytes out o.
-    lines_for (copy_mode report (effort_of run pivots)) (λ reply. reply) (copy_lines report) (λ k x reply. refl) IsWithinLimits IsTrueCopy (λ earlier. right_copy_is_true shown_is_true by_copies (effort_of run pivots)) (copied_within are_within) bytes out Done o)
+copies_are_true shown_is_true by_copies are_within report run pivots = writes_such (Copy report run pivots) 1048576 (TrueCopies report) refl
+    (λ plans bytes out o.
+    lines_for (copy_mode report (effort_of run pivots)) (λ reply. reply) (copy_lines report) (λ k x reply. refl) IsWithinLimits IsTrueCopy
+    (λ earlier. right_copy_is_true shown_is_true by_copies (effort_of run pivots)) (copied_within are_within) bytes out Done o)
 
 pub factors_are_true : factors.WhatIsShownIsTrue → CopiedQuestionsAreWithin → FactorsAreTrue
 factors_are_true shown_is_true are_within report run pivots = writes_such (Best report run pivots) 1048576 (TrueFactors report) refl (λ plans bytes out o.
-    lines_for (best_mode report (effort_of run pivots)) (λ reply. reply) (best_lines report) (λ k x reply. refl) IsWithinLimits IsTrueBestReply (λ earlier. right_best_is_true shown_is_true (effort_of run pivots)) (copied_within are_within) bytes out Done o)
+    lines_for (best_mode report (effort_of run pivots)) (λ reply. reply) (best_lines report)
+    (λ k x reply. refl) IsWithinLimits IsTrueBestReply (λ earlier. right_best_is_true shown_is_true (effort_of run pivots))
+    (copied_within are_within) bytes out Done o)
 
 -- what a reply to the question shows is true
 abbrev IsTrueWhereShown : QuestionView → Type 0
 IsTrueWhereShown q = (reply : BoundsView) → right_bounds.ShowsReply q.body reply → true_bounds.IsTrueReply q.body reply
 
 pub bounds_are_true : right_bounds.WhatIsShownIsTrue → BoundsAreTrue
-bounds_are_true shown_is_true report run pivots rows tries = writes_such (Outer report run pivots rows tries) 1048576 (TrueBounds report (limits_of run pivots rows tries)) refl (λ plans bytes out o.
-    lines_for (outer_mode report (limits_of run pivots rows tries)) (λ told. told) (bounds.told_lines report (limits_of run pivots rows tries)) (λ k q told. refl)
-    IsTrueWhereShown (λ (q : QuestionView) (told : bounds.ToldReply). true_bounds.IsTrueReply q.body told.reply) (λ earlier q told within right. within told.reply right.reply.shows) shown_is_true bytes out Done o)
+bounds_are_true shown_is_true report run pivots rows tries = writes_such (Outer report run pivots rows tries) 1048576
+    (TrueBounds report (limits_of run pivots rows tries)) refl (λ plans bytes out o.
+    lines_for (outer_mode report (limits_of run pivots rows tries)) (λ told. told)
+    (bounds.told_lines report (limits_of run pivots rows tries)) (λ k q told. refl)
+    IsTrueWhereShown (λ (q : QuestionView) (told : bounds.ToldReply). true_bounds.IsTrueReply q.body told.reply)
+    (λ earlier q told within right. within told.reply right.reply.shows) shown_is_true bytes out Done o)
 
 -- what the file says is within the limits
 abbrev IsWithinSharing : SharingFile → Type 0
 IsWithinSharing x = IsSharing x.says × IsBoundWhereBest x.says
 
 sharing_within : SharingIsWithin → (bytes : List ℕ) (items : List SharingFile) → AsksOfSharing bytes items → All IsWithinSharing items
-sharing_within is_within bytes items asked = subst (All IsWithinSharing) (sym asked.is) (All-cons IsWithinSharing (said_by bytes asked.file) [] (is_within bytes asked.file asked.read) (All-nil IsWithinSharing))
+sharing_within is_within bytes items asked = subst (All IsWithinSharing) (sym asked.is)
+    (All-cons IsWithinSharing (said_by bytes asked.file) [] (is_within bytes asked.file asked.read) (All-nil IsWithinSharing))
 
 pub sharing_is_true : answers.WhatIsShownIsTrue → factors.WhatIsShownIsTrue → MadeQuestionIsOfPerfectSharing → SharingIsWithin → SharingIsTrue
-sharing_is_true shown_is_true shown_factors is_perfect is_within report run pivots = writes_such (Sharing report run pivots) 1048576 (TrueSharing report) refl (λ plans bytes out o.
-    lines_for (sharing_mode report (effort_of run pivots)) (λ reply. reply) (λ k. sharing_lines report) (λ k x reply. refl) IsWithinSharing (λ (x : SharingFile) (reply : SharingReply). IsTrueSharing x.says reply)
+sharing_is_true shown_is_true shown_factors is_perfect is_within report run pivots = writes_such (Sharing report run pivots) 1048576
+    (TrueSharing report) refl (λ plans bytes out o.
+    lines_for (sharing_mode report (effort_of run pivots)) (λ reply. reply) (λ k. sharing_lines report) (λ k x reply. refl) IsWithinSharing
+    (λ (x : SharingFile) (reply : SharingReply). IsTrueSharing x.says reply)
     (λ earlier x. right_sharing_is_true shown_is_true shown_factors is_perfect (effort_of run pivots) x.says) (sharing_within is_within) bytes out Done o)

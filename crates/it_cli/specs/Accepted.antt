@@ -14,6 +14,7 @@ use Rattle.it_cli.specs.Outputs.{IsOutput}
 use Rattle.it_cli.specs.ToldOrigins.{IsRightTold, ToldReply, told_report}
 use Rattle.it_cli.specs.declared.status.Status.{Status}
 use Rattle.it_cli.specs.declared.status.Status.TheVariants.{Done}
+use Rattle.it_question.specs.QuestionLimits.{most_file_bytes}
 
 -- Each verdict on the report of a right answer, with what any format tells of its rows, is `valid` or `skipped`.
 abbrev pub ReportsAreAccepted : Type 0
@@ -29,5 +30,5 @@ IsOfReports format = ⊥
 
 -- Where the whole output for a question file is checked as a report, the status is `Done`, whatever the plans of the boxes.
 abbrev pub OutputIsAccepted : Type 0
-OutputIsAccepted = (plans : List Plan) (format : Format) (run : Run) (pivots : Option ℕ) (rows tries : ℕ) (bytes out told : List ℕ) (answered checked : Status) → IfSome pivots (λ n. n < 2 ^ 32) → tries < 2 ^ 32 → length bytes ≤ 1048576
+OutputIsAccepted = (plans : List Plan) (format : Format) (run : Run) (pivots : Option ℕ) (rows tries : ℕ) (bytes out told : List ℕ) (answered checked : Status) → IfSome pivots (λ n. n < 2 ^ 32) → tries < 2 ^ 32 → length bytes ≤ most_file_bytes
     → IsOfReports format → IsOutput plans (Answer format run pivots rows tries) bytes out answered → IsOutput plans Check out told checked → checked ≡ Done

@@ -27,12 +27,13 @@ use Rattle.it_cli.specs.SharingReplies.{AsksOfSharing, IsRightSharing, sharing_l
 use Rattle.it_cli.specs.Modes.{FirstOutput, Mode, OutputInPart, Replies, WholeOutput}
 use Rattle.it_cli.specs.declared.status.Status.{Status}
 use Rattle.it_cli.specs.declared.status.Status.TheVariants.{Done, Invalid}
+use Rattle.it_question.specs.QuestionLimits.{most_file_bytes}
 
 -- the most bytes of an input; None where the mode has no input
 abbrev pub most_bytes : Settings → Option ℕ
 most_bytes Check = Some 67108864
 most_bytes (Bench seed count run pivots rows tries) = None
-most_bytes settings = Some 1048576
+most_bytes settings = Some most_file_bytes
 
 -- ---- the modes
 

@@ -16,6 +16,7 @@ ghost use Rattle.it_certificate.specs.OriginReading.{rows_of};
 ghost use Rattle.it_cli.specs.InnerEnds.{EndsForBytes, EndsForItems, EndsWithLineOrMemory, IsAnswerText, IsToldText, proof_lines_of, text_lines_of};
 ghost use Rattle.it_cli.specs.Outputs.{answer_mode};
 ghost use Rattle.it_cli.specs.Refusals.{fault_line};
+ghost use Rattle.it_question.specs.QuestionLimits.{most_file_bytes};
 
 use crate::json_lines::{derived_line, json_line};
 use crate::refusals::fault_line;
@@ -40,7 +41,7 @@ pub fn answer_file<K: Sink>(
     boxes: &mut Vec<Box<dyn Proposer>>,
     sink: &mut K,
 ) -> Status
-    requires { length bytes.now ≤ 1048576 }
+    requires { length bytes.now ≤ most_file_bytes }
     ensures { EndsForBytes K.taken K.faults (answer_mode budgets (map plan boxes.old.items) format) sink.old sink.new bytes.now result }
 {
     match questions(alloc, bytes) {

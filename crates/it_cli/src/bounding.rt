@@ -4,6 +4,8 @@ ghost use Rattle.it_question.specs.Limits.{IsQuestion};
 ghost use Rattle.it_question.specs.Questions.{question_body, question_view};
 ghost use Rattle.it_cli.specs.InnerEnds.{EndsForBytes, EndsForItems, IsTextOf};
 ghost use Rattle.it_cli.specs.Outputs.{outer_mode};
+ghost use Rattle.it_question.specs.QuestionLimits.{most_file_bytes};
+ghost use Rattle.it_space.specs.Rows.{most_system_rows};
 
 use crate::answering::tell_fault;
 use crate::status::Status;
@@ -22,8 +24,8 @@ pub fn find_bounds<K: Sink>(
     bytes: &[u8],
     sink: &mut K,
 ) -> Status
-    requires bytes { length bytes.now ≤ 1048576 }
-    requires few_rows { limits.rows ≤ 65535 }
+    requires bytes { length bytes.now ≤ most_file_bytes }
+    requires few_rows { limits.rows ≤ most_system_rows }
     ensures { EndsForBytes K.taken K.faults (outer_mode report limits) sink.old sink.new bytes.now result }
 {
     match questions(alloc, bytes) {
@@ -42,7 +44,7 @@ fn reply_all<K: Sink>(
     sink: &mut K,
 ) -> Status
     requires questions { All (λ q. IsQuestion (question_body q)) questions.now }
-    requires few_rows { limits.rows ≤ 65535 }
+    requires few_rows { limits.rows ≤ most_system_rows }
     ensures { EndsForItems K.taken K.faults (outer_mode report limits) sink.old sink.new (map question_view questions.now) result }
 {
     for (i, question) in questions.iter().enumerate() {
@@ -65,7 +67,7 @@ fn bound_lines(
     question: &Question,
 ) -> Result<Vec<u8>, AllocError>
     requires question { IsQuestion (question_body question.now) }
-    requires few_rows { limits.rows ≤ 65535 }
+    requires few_rows { limits.rows ≤ most_system_rows }
     ensures { IfOk result (λ text. IsTextOf (outer_mode report limits) [] k (question_view question.now) text.items) }
 {
     let replied = reply(alloc, question, limits)?;

@@ -5,6 +5,7 @@ ghost use Rattle.it_question.specs.Questions.{question_body, question_view};
 ghost use Rattle.it_copy.specs.CopyLines.{AreNamed, copy_view};
 ghost use Rattle.it_cli.specs.Copies.{with_copies};
 ghost use Rattle.it_cli.specs.InnerEnds.{EndsForBytes, EndsForItems, IsTextOf, head_mode, questions_with};
+ghost use Rattle.it_question.specs.QuestionLimits.{most_file_bytes};
 
 use crate::answering::tell_fault;
 use crate::copying::answer_text;
@@ -35,7 +36,7 @@ pub fn reply_to_file<K: Sink>(
     bytes: &[u8],
     sink: &mut K,
 ) -> Status
-    requires { length bytes.now ≤ 1048576 }
+    requires { length bytes.now ≤ most_file_bytes }
     ensures { EndsForBytes K.taken K.faults (head_mode wanted report effort) sink.old sink.new bytes.now result }
 {
     match copy_file(alloc, bytes) {

@@ -18,9 +18,10 @@ ghost use Rattle.it_cli.specs.ToldOrigins.{AreToldOrigins, IsToldOrigin, told_re
 
 use it_certificate::{answer_json, derived_json};
 use it_origins::origin;
+use it_problems::Problem;
 use it_question::types::Question;
 use it_rates::problem_of_lines;
-use it_space::{Answer, Certificate, Mark, Problem, Row};
+use it_space::{Answer, Certificate, Mark, Row};
 use std::alloc::{AllocError, Global};
 
 /// The line of an answer in the format `json`.
@@ -130,14 +131,14 @@ fn is_numbered(certificate: &Certificate) -> bool
     certificate.scale != i128::MIN && are_amounts(certificate.weights.as_slice())
 }
 
-/// The same of weights.
+/// Whether a report can have the numbers of `weights`: none is the least of its type.
 fn are_amounts(weights: &[(u32, i128)]) -> bool
     ensures { OnTrue result (All IsNumberedAmount weights.now) }
 {
     weights.iter().all(is_amount)
 }
 
-/// The same of one.
+/// Whether a report can have the number of `weight`.
 fn is_amount(weight: &(u32, i128)) -> bool
     ensures { OnTrue result (IsNumberedAmount weight.now) }
 {

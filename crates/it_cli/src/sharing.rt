@@ -1,7 +1,7 @@
 //! Mode `sharing`: a file that tells who may know a secret, and the answer to what it asks.
 ghost use Rattle.std.specs.Prelude.{◌≡◌, ◌+◌, ◌<◌, ◌≤◌, ◌∷◌, ◌++◌, [], codes, length, IfOk, true, false};
 ghost use Rattle.it_question.specs.Limits.{IsQuestion};
-ghost use Rattle.it_question.specs.QuestionLimits.{most_lines};
+ghost use Rattle.it_question.specs.QuestionLimits.{most_lines, most_file_bytes};
 ghost use Rattle.it_question.specs.Questions.{question_body, question_view};
 ghost use Rattle.it_sharing.specs.Sharings.{IsSharing, made_question, sharing_view, maximal_count, minimal_count};
 ghost use Rattle.it_cli.specs.InnerEnds.{EndsForBytes, EndsForItems, IsTextOf};
@@ -35,7 +35,7 @@ pub fn answer_sharing<K: Sink>(
     bytes: &[u8],
     sink: &mut K,
 ) -> Status
-    requires { length bytes.now ≤ 1048576 }
+    requires { length bytes.now ≤ most_file_bytes }
     ensures { EndsForBytes K.taken K.faults (sharing_mode report effort) sink.old sink.new bytes.now result }
 {
     match sharing(alloc, bytes) {

@@ -21,7 +21,8 @@ pub record IsOnTheWay (n : ℕ) (ds : List Dependence) (s a : ℕ) : Type 0 wher
 pub way_start : (n : ℕ) (ds : List Dependence) (s : ℕ) → All (λ d. d.to < 2 ^ n) ds → s < 2 ^ n → IsOnTheWay n ds s s
 way_start n ds s b l = record { below = l; holds = inside-refl s; inside = (closure_is n ds s b l).holds }
 
-pub way_more : (n : ℕ) (ds : List Dependence) (s a : ℕ) (d : Dependence) → All (λ d. d.to < 2 ^ n) ds → s < 2 ^ n → first_open ds a ≡ Some d → IsOnTheWay n ds s a → IsOnTheWay n ds s (bit_or a d.to)
+pub way_more : (n : ℕ) (ds : List Dependence) (s a : ℕ) (d : Dependence) → All (λ d. d.to < 2 ^ n) ds → s < 2 ^ n → first_open ds a ≡ Some d
+    → IsOnTheWay n ds s a → IsOnTheWay n ds s (bit_or a d.to)
 way_more n ds s a d b l e w =
     let o : IsOpenOf n ds a d = open_where n ds a d b e in
     let is : IsClosureOf n ds s (closure n ds s) = closure_is n ds s b l in
@@ -34,7 +35,8 @@ way_more n ds s a d b l e w =
 pub way_grows : (n : ℕ) (ds : List Dependence) (a : ℕ) (d : Dependence) → All (λ d. d.to < 2 ^ n) ds → first_open ds a ≡ Some d → a < bit_or a d.to
 way_grows n ds a d b e = grows a d.to (open_where n ds a d b e).new
 
-pub way_done : (n : ℕ) (ds : List Dependence) (s a : ℕ) → All (λ d. d.to < 2 ^ n) ds → s < 2 ^ n → first_open ds a ≡ None → IsOnTheWay n ds s a → a ≡ closure n ds s
+pub way_done : (n : ℕ) (ds : List Dependence) (s a : ℕ) → All (λ d. d.to < 2 ^ n) ds → s < 2 ^ n → first_open ds a ≡ None
+    → IsOnTheWay n ds s a → a ≡ closure n ds s
 way_done n ds s a b l e w = inside-antisym a (closure n ds s) w.inside ((closure_is n ds s b l).least a w.below w.holds (closed_where ds a e))
 
 -- among more variables a set of the n variables has the same closure
@@ -49,7 +51,8 @@ closure_among n m ds s k b l =
           let all : ℕ = 2 ^ n - 1 in
           inside-trans (closure n ds s) (bit_and a all) a
           (is.least (bit_and a all) (omega (arith, and_le_r a all, pow_pos n)) (inside_meet s a all i (inside_all n s l)) (λ i d h j.
-          inside_meet (get_or ds i d).to a all (c i d h (inside-trans (get_or ds i d).from (bit_and a all) a j (meet_left a all))) (inside_all n (get_or ds i d).to (b i d h))))
+          inside_meet (get_or ds i d).to a all (c i d h (inside-trans (get_or ds i d).from (bit_and a all) a j (meet_left a all)))
+          (inside_all n (get_or ds i d).to (b i d h))))
           (meet_left a all);
     })
 

@@ -70,7 +70,8 @@ meet_has s w [] h e = h
 meet_has s w (a ∷ bs) h e = inside_meet s a (meet_all w bs) e.0 (meet_has s w bs h e.1)
 
 keeps_meet : (a b : ℕ) (d : Dependence) → Keeps a d → Keeps b d → Keeps (bit_and a b) d
-keeps_meet a b d k l i = inside_meet d.to a b (k (inside-trans d.from (bit_and a b) a i (meet_left a b))) (l (inside-trans d.from (bit_and a b) b i (meet_right a b)))
+keeps_meet a b d k l i = inside_meet d.to a b (k (inside-trans d.from (bit_and a b) a i (meet_left a b)))
+    (l (inside-trans d.from (bit_and a b) b i (meet_right a b)))
 
 meet_keeps : (w : ℕ) (d : Dependence) (bs : List ℕ) → Keeps w d → Every (λ a. Keeps a d) bs → Keeps (meet_all w bs) d
 meet_keeps w d [] h e = h
@@ -88,16 +89,21 @@ meet_in w p from (suc count) a h k e = by_test (p from) refl (same_or_more from 
     rest : ℕ
     rest = meet_all w (filter p (span (from + 1) count))
 
-    by_test : (b : Bool) → p from ≡ b → (from ≡ a) ⊎ (from + 1 ≤ a) → (from + 1 ≤ a → IsInside rest a) → IsInside (meet_all w (cond (p from) (from ∷ filter p (span (from + 1) count)) (filter p (span (from + 1) count)))) a
-    by_test true f (inl s) ih = subst (λ (b : Bool). IsInside (meet_all w (cond b (from ∷ filter p (span (from + 1) count)) (filter p (span (from + 1) count)))) a) (sym f)
+    by_test : (b : Bool) → p from ≡ b → (from ≡ a) ⊎ (from + 1 ≤ a) → (from + 1 ≤ a → IsInside rest a)
+        → IsInside (meet_all w (cond (p from) (from ∷ filter p (span (from + 1) count)) (filter p (span (from + 1) count)))) a
+    by_test true f (inl s) ih = subst (λ (b : Bool). IsInside (meet_all w
+        (cond b (from ∷ filter p (span (from + 1) count)) (filter p (span (from + 1) count)))) a) (sym f)
         (subst (IsInside (bit_and from rest)) s (meet_left from rest))
-    by_test true f (inr l) ih = subst (λ (b : Bool). IsInside (meet_all w (cond b (from ∷ filter p (span (from + 1) count)) (filter p (span (from + 1) count)))) a) (sym f)
+    by_test true f (inr l) ih = subst (λ (b : Bool). IsInside (meet_all w
+        (cond b (from ∷ filter p (span (from + 1) count)) (filter p (span (from + 1) count)))) a) (sym f)
         (inside-trans (bit_and from rest) rest a (meet_right from rest) (ih l))
     by_test false f (inl s) ih = absurd (false≢true (sym f ∙ ap p s ∙ e))
-    by_test false f (inr l) ih = subst (λ (b : Bool). IsInside (meet_all w (cond b (from ∷ filter p (span (from + 1) count)) (filter p (span (from + 1) count)))) a) (sym f) (ih l)
+    by_test false f (inr l) ih = subst (λ (b : Bool). IsInside (meet_all w
+        (cond b (from ∷ filter p (span (from + 1) count)) (filter p (span (from + 1) count)))) a) (sym f) (ih l)
 
 -- what holds of each closed set that contains s
-of_closed : (n : ℕ) (ds : List Dependence) (s : ℕ) (P : ℕ → Type 0) → ((a : ℕ) → IsInside s a → Every (Keeps a) ds → P a) → Every P (filter (λ a. is_inside s a && is_closed ds a) (span 0 (2 ^ n)))
+of_closed : (n : ℕ) (ds : List Dependence) (s : ℕ) (P : ℕ → Type 0) → ((a : ℕ) → IsInside s a → Every (Keeps a) ds → P a)
+    → Every P (filter (λ a. is_inside s a && is_closed ds a) (span 0 (2 ^ n)))
 of_closed n ds s P f = every-filter P (λ a. is_inside s a && is_closed ds a) (span 0 (2 ^ n))
     (every_all (λ a. (is_inside s a && is_closed ds a) ≡ true → P a) (span 0 (2 ^ n)) (λ a e.
     let b = both_true (is_inside s a) (is_closed ds a) e in f a (inside_from_test s a b.0) (closed_by ds a b.1)))
@@ -126,7 +132,8 @@ closure_is n ds s b h =
     record {
       below = omega (arith, pow_pos n, inside_le (meet_all (2 ^ n - 1) sets) (2 ^ n - 1) (meet_in_whole (2 ^ n - 1) sets));
       holds = meet_has s (2 ^ n - 1) sets (inside_all n s h) (of_closed n ds s (λ a. IsInside s a) (λ a i k. i));
-      closed = all_of (Keeps (meet_all (2 ^ n - 1) sets)) ds (each_kept ds (2 ^ n - 1) sets (all_kept n ds (every_of (λ d. d.to < 2 ^ n) ds b)) (of_closed n ds s (λ a. Every (Keeps a) ds) (λ a i k. k)));
+      closed = all_of (Keeps (meet_all (2 ^ n - 1) sets)) ds (each_kept ds (2 ^ n - 1) sets
+          (all_kept n ds (every_of (λ d. d.to < 2 ^ n) ds b)) (of_closed n ds s (λ a. Every (Keeps a) ds) (λ a i k. k)));
       least = λ a l i k. meet_in (2 ^ n - 1) (λ a. is_inside s a && is_closed ds a) 0 (2 ^ n) a (omega arith) (omega arith)
           (ap₂ (λ x y. x && y) (test-true s a i) (by_closed ds a (every_of (Keeps a) ds k)));
     }

@@ -43,7 +43,8 @@ pub closures_keep : ClosuresKeep
 closures_keep n ds h a p m s l = one_value n ds h a.below a.inside p m s l
 
 -- a polymatroid that meets the dependences is spread out
-pub is_spread_out : (n : ℕ) (ds : List Dependence) (h : ℕ → ℤ) → AreDependences n ds → IsPolymatroid n h → MeetsDependences ds h → (c : ℕ) → h (place n ds c) ≡ h c
+pub is_spread_out : (n : ℕ) (ds : List Dependence) (h : ℕ → ℤ) → AreDependences n ds → IsPolymatroid n h → MeetsDependences ds h → (c : ℕ)
+    → h (place n ds c) ≡ h c
 is_spread_out n ds h a p m c = by_cases (cases_lt c (2 ^ n))
   where
     set : c < 2 ^ n → (closure n ds c ≡ closure n ds 0) ⊎ (closure n ds c ≢ closure n ds 0) → h (place n ds c) ≡ h c
@@ -67,7 +68,8 @@ value-placed n ds [] p = refl
 value-placed n ds (t ∷ ts) p = ap (λ y. t.1 *ℤ p (place n ds t.0) +ℤ y) (value-placed n ds ts p)
 
 -- both sets of a dependence have one closure
-one_closure : (n : ℕ) (ds : List Dependence) (d : Dependence) → AreDependences n ds → IsInside d.from d.to → d.to < 2 ^ n → ((c : ℕ) → IsClosed ds c → IsInside d.from c → IsInside d.to c)
+one_closure : (n : ℕ) (ds : List Dependence) (d : Dependence) → AreDependences n ds → IsInside d.from d.to → d.to < 2 ^ n
+    → ((c : ℕ) → IsClosed ds c → IsInside d.from c → IsInside d.to c)
     → closure n ds d.to ≡ closure n ds d.from
 one_closure n ds d a i l k =
     let f : IsClosureOf n ds d.from (closure n ds d.from) = closure_is n ds d.from a.below (omega (arith, inside_le d.from d.to i)) in

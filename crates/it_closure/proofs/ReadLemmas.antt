@@ -3,9 +3,9 @@ use Rattle.std.proofs.Common.{◌≡◌, ◌≢◌, ℕ, zero, suc, ◌^◌, ◌
 use Rattle.std.proofs.lemmas.List.Elements.{All-head, All-tail}
 use Rattle.std.proofs.lemmas.Bool.{lt-ltb, ltb-true, false≢true}
 use Rattle.it_space.specs.declared.spaces.Space.{Space}
-use Rattle.it_space.specs.declared.problems.Kind.{Kind}
-use Rattle.it_space.specs.declared.problems.Kind.TheVariants.{Inequality, Equation}
-use Rattle.it_space.specs.declared.problems.Constraint.{Constraint}
+use Rattle.it_problems.specs.declared.problems.Kind.{Kind}
+use Rattle.it_problems.specs.declared.problems.Kind.TheVariants.{Inequality, Equation}
+use Rattle.it_problems.specs.declared.problems.Constraint.{Constraint}
 use Rattle.it_space.specs.Rows.{Terms, IsOver}
 use Rattle.it_space.proofs.BoolLemmas.{both_true}
 use Rattle.it_space.proofs.OptionLemmas.{some_same, none_is_not_some}
@@ -45,13 +45,19 @@ row_found (t ∷ []) size e u q = by_first_test (is_one t.1) refl
 
     by_second_test : (c : Bool) → is_minus_one t.1 ≡ c → is_one t.1 ≡ false → t ∷ [] ≡ dependence_row e.negated e.from e.to
     by_second_test true g h = subst (λ (f : SetPair). t ∷ [] ≡ dependence_row f.negated f.from f.to)
-        (some_same (record { from = 0; to = t.0; negated = true }) e (sym (ap₂ (λ x y. cond x (Some (record { from = 0; to = t.0; negated = false })) (cond y (Some (record { from = 0; to = t.0; negated = true })) None)) h g) ∙ q))
+        (some_same (record { from = 0; to = t.0; negated = true }) e (sym
+        (ap₂ (λ x y. cond x (Some (record { from = 0; to = t.0; negated = false }))
+        (cond y (Some (record { from = 0; to = t.0; negated = true })) None)) h g) ∙ q))
         (ap (λ a. (t.0, a) ∷ []) (minus_one_is t.1 g) ∙ term_is t.0 (negsuc 0) place_some)
-    by_second_test false g h = absurd (none_is_not_some e (sym (ap₂ (λ x y. cond x (Some (record { from = 0; to = t.0; negated = false })) (cond y (Some (record { from = 0; to = t.0; negated = true })) None)) h g) ∙ q))
+    by_second_test false g h = absurd (none_is_not_some e (sym
+        (ap₂ (λ x y. cond x (Some (record { from = 0; to = t.0; negated = false }))
+        (cond y (Some (record { from = 0; to = t.0; negated = true })) None)) h g) ∙ q))
 
     by_first_test : (b : Bool) → is_one t.1 ≡ b → t ∷ [] ≡ dependence_row e.negated e.from e.to
     by_first_test true g = subst (λ (f : SetPair). t ∷ [] ≡ dependence_row f.negated f.from f.to)
-        (some_same (record { from = 0; to = t.0; negated = false }) e (sym (ap (λ x. cond x (Some (record { from = 0; to = t.0; negated = false })) (cond (is_minus_one t.1) (Some (record { from = 0; to = t.0; negated = true })) None)) g) ∙ q))
+        (some_same (record { from = 0; to = t.0; negated = false }) e (sym
+        (ap (λ x. cond x (Some (record { from = 0; to = t.0; negated = false }))
+        (cond (is_minus_one t.1) (Some (record { from = 0; to = t.0; negated = true })) None)) g) ∙ q))
         (ap (λ a. (t.0, a) ∷ []) (one_is t.1 g) ∙ term_is t.0 (pos 1) place_some)
     by_first_test false g = by_second_test (is_minus_one t.1) refl g
 row_found (t ∷ v ∷ []) size e u q = by_first_test (is_minus_one t.1 && is_one v.1) refl
@@ -65,16 +71,25 @@ row_found (t ∷ v ∷ []) size e u q = by_first_test (is_minus_one t.1 && is_on
     rows : (a b : ℤ) → t.1 ≡ a → v.1 ≡ b → t ∷ v ∷ [] ≡ set_term t.0 a ++ set_term v.0 b
     rows a b g h = ap₂ (λ x y. (t.0, x) ∷ (v.0, y) ∷ []) g h ∙ ap₂ (λ xs ys. xs ++ ys) (term_is t.0 a place_some) (term_is v.0 b some_v)
 
-    by_second_test : (c : Bool) → (is_one t.1 && is_minus_one v.1) ≡ c → (is_minus_one t.1 && is_one v.1) ≡ false → t ∷ v ∷ [] ≡ dependence_row e.negated e.from e.to
+    by_second_test : (c : Bool) → (is_one t.1 && is_minus_one v.1) ≡ c → (is_minus_one t.1 && is_one v.1) ≡ false
+        → t ∷ v ∷ [] ≡ dependence_row e.negated e.from e.to
     by_second_test true g h = subst (λ (f : SetPair). t ∷ v ∷ [] ≡ dependence_row f.negated f.from f.to)
-        (some_same (record { from = t.0; to = v.0; negated = true }) e (sym (ap₂ (λ x y. cond x (Some (record { from = t.0; to = v.0; negated = false })) (cond y (Some (record { from = t.0; to = v.0; negated = true })) None)) h g) ∙ q))
-        (rows (pos 1) (negsuc 0) (one_is t.1 (both_true (is_one t.1) (is_minus_one v.1) g).0) (minus_one_is v.1 (both_true (is_one t.1) (is_minus_one v.1) g).1))
-    by_second_test false g h = absurd (none_is_not_some e (sym (ap₂ (λ x y. cond x (Some (record { from = t.0; to = v.0; negated = false })) (cond y (Some (record { from = t.0; to = v.0; negated = true })) None)) h g) ∙ q))
+        (some_same (record { from = t.0; to = v.0; negated = true }) e (sym
+        (ap₂ (λ x y. cond x (Some (record { from = t.0; to = v.0; negated = false }))
+        (cond y (Some (record { from = t.0; to = v.0; negated = true })) None)) h g) ∙ q))
+        (rows (pos 1) (negsuc 0) (one_is t.1 (both_true (is_one t.1) (is_minus_one v.1) g).0)
+        (minus_one_is v.1 (both_true (is_one t.1) (is_minus_one v.1) g).1))
+    by_second_test false g h = absurd (none_is_not_some e (sym
+        (ap₂ (λ x y. cond x (Some (record { from = t.0; to = v.0; negated = false }))
+        (cond y (Some (record { from = t.0; to = v.0; negated = true })) None)) h g) ∙ q))
 
     by_first_test : (b : Bool) → (is_minus_one t.1 && is_one v.1) ≡ b → t ∷ v ∷ [] ≡ dependence_row e.negated e.from e.to
     by_first_test true g = subst (λ (f : SetPair). t ∷ v ∷ [] ≡ dependence_row f.negated f.from f.to)
-        (some_same (record { from = t.0; to = v.0; negated = false }) e (sym (ap (λ x. cond x (Some (record { from = t.0; to = v.0; negated = false })) (cond (is_one t.1 && is_minus_one v.1) (Some (record { from = t.0; to = v.0; negated = true })) None)) g) ∙ q))
-        (rows (negsuc 0) (pos 1) (minus_one_is t.1 (both_true (is_minus_one t.1) (is_one v.1) g).0) (one_is v.1 (both_true (is_minus_one t.1) (is_one v.1) g).1))
+        (some_same (record { from = t.0; to = v.0; negated = false }) e (sym
+        (ap (λ x. cond x (Some (record { from = t.0; to = v.0; negated = false }))
+        (cond (is_one t.1 && is_minus_one v.1) (Some (record { from = t.0; to = v.0; negated = true })) None)) g) ∙ q))
+        (rows (negsuc 0) (pos 1) (minus_one_is t.1 (both_true (is_minus_one t.1) (is_one v.1) g).0)
+        (one_is v.1 (both_true (is_minus_one t.1) (is_one v.1) g).1))
     by_first_test false g = by_second_test (is_one t.1 && is_minus_one v.1) refl g
 row_found (t ∷ v ∷ w ∷ ts) size e u q = absurd (none_is_not_some e q)
 
@@ -87,7 +102,8 @@ ends_back true (suc f) (suc t) h = refl
 ends_back false (suc f) (suc t) h = refl
 
 -- the test of the sets
-ends_good : (s : Space) (e : SetPair) (g : ℕ) → are_ends s.variables e ≡ true → IsDependenceOf s (record { from = e.from; to = e.to; generator = g; negated = e.negated })
+ends_good : (s : Space) (e : SetPair) (g : ℕ) → are_ends s.variables e ≡ true
+    → IsDependenceOf s (record { from = e.from; to = e.to; generator = g; negated = e.negated })
 ends_good s e g t =
     let p = both_true (nat_lt e.to (2 ^ s.variables)) (is_inside e.from e.to && not (nat_eq e.from e.to)) t in
     let q = both_true (is_inside e.from e.to) (not (nat_eq e.from e.to)) p.1 in
@@ -98,22 +114,26 @@ ends_good s e g t =
     }
 
 good_ends : (s : Space) (d : Dependence) → IsDependenceOf s d → are_ends s.variables (record { from = d.from; to = d.to; negated = d.negated }) ≡ true
-good_ends s d i = ap₂ (λ x y. x && y) (lt-ltb d.to (2 ^ s.variables) i.below) (ap₂ (λ x y. x && not y) (test-true d.from d.to i.inside) (ne_eqb d.from d.to i.more))
+good_ends s d i = ap₂ (λ x y. x && y) (lt-ltb d.to (2 ^ s.variables) i.below)
+    (ap₂ (λ x y. x && not y) (test-true d.from d.to i.inside) (ne_eqb d.from d.to i.more))
 
 equation_is : (k : Kind) → is_equation k ≡ true → k ≡ Equation
 equation_is Inequality e = absurd (false≢true e)
 equation_is Equation e = refl
 
-says_dependence : (s : Space) (size g : ℕ) (c : Constraint) (d : Dependence) → IsOver size c.row → read_one s.variables g c ≡ Some d → SaysDependence s c d × (d.generator ≡ g)
+says_dependence : (s : Space) (size g : ℕ) (c : Constraint) (d : Dependence) → IsOver size c.row → read_one s.variables g c ≡ Some d
+    → SaysDependence s c d × (d.generator ≡ g)
 says_dependence s size g c d u q = by_test (is_given c.origin && is_equation c.kind) refl
   where
-    by_option : (o : Option SetPair) → ends_of c.row ≡ o → (is_given c.origin && is_equation c.kind) ≡ true → with_number s.variables g o ≡ Some d → SaysDependence s c d × (d.generator ≡ g)
+    by_option : (o : Option SetPair) → ends_of c.row ≡ o → (is_given c.origin && is_equation c.kind) ≡ true
+        → with_number s.variables g o ≡ Some d → SaysDependence s c d × (d.generator ≡ g)
     by_option None e t r = absurd (none_is_not_some d r)
     by_option (Some e) f t r = inner (are_ends s.variables e) refl
       where
         inner : (b : Bool) → are_ends s.variables e ≡ b → SaysDependence s c d × (d.generator ≡ g)
         inner true v = subst (λ (x : Dependence). SaysDependence s c x × (x.generator ≡ g))
-            (some_same (record { from = e.from; to = e.to; generator = g; negated = e.negated }) d (sym (ap (λ b. cond b (Some (record { from = e.from; to = e.to; generator = g; negated = e.negated })) None) v) ∙ r)) (
+            (some_same (record { from = e.from; to = e.to; generator = g; negated = e.negated }) d
+            (sym (ap (λ b. cond b (Some (record { from = e.from; to = e.to; generator = g; negated = e.negated })) None) v) ∙ r)) (
               record {
                 given = (both_true (is_given c.origin) (is_equation c.kind) t).0;
                 equation = equation_is c.kind (both_true (is_given c.origin) (is_equation c.kind) t).1;
@@ -122,7 +142,8 @@ says_dependence s size g c d u q = by_test (is_given c.origin && is_equation c.k
               },
               refl,
             )
-        inner false v = absurd (none_is_not_some d (sym (ap (λ b. cond b (Some (record { from = e.from; to = e.to; generator = g; negated = e.negated })) None) v) ∙ r))
+        inner false v = absurd (none_is_not_some d (sym (ap
+            (λ b. cond b (Some (record { from = e.from; to = e.to; generator = g; negated = e.negated })) None) v) ∙ r))
 
     by_test : (b : Bool) → (is_given c.origin && is_equation c.kind) ≡ b → SaysDependence s c d × (d.generator ≡ g)
     by_test true t = by_option (ends_of c.row) refl t (sym (ap (λ b. cond b (with_number s.variables g (ends_of c.row)) None) t) ∙ q)

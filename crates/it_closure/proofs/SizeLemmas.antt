@@ -9,9 +9,9 @@ use Rattle.it_closure.specs.Coordinates.{closed_coordinates, has_row}
 use Rattle.std.proofs.lemmas.List.{drop_all}
 use Rattle.std.proofs.lemmas.Nat.{pow_pos}
 use Rattle.std.proofs.lemmas.List.Sums.{length-filter, count_by-le-length}
-use Rattle.it_space.specs.declared.problems.Kind.{Kind}
-use Rattle.it_space.specs.declared.problems.Kind.TheVariants.{Inequality, Equation}
-use Rattle.it_space.specs.declared.problems.Constraint.{Constraint}
+use Rattle.it_problems.specs.declared.problems.Kind.{Kind}
+use Rattle.it_problems.specs.declared.problems.Kind.TheVariants.{Inequality, Equation}
+use Rattle.it_problems.specs.declared.problems.Constraint.{Constraint}
 use Rattle.it_space.proofs.ListLemmas.{drop_item}
 use Rattle.it_closure.specs.Sizes.{column_count, constraint_columns}
 
@@ -20,7 +20,8 @@ pub record AreCounted (cs : List Constraint) (i columns : ℕ) : Type 0 where
   pub same : columns + constraint_columns (drop i cs) ≡ constraint_columns cs
   pub few : columns ≤ 2 * i
 
-pub counted_next : (cs : List Constraint) (i columns one : ℕ) (c : Constraint) → i < length cs → c ≡ get_or cs i c → one ≡ column_count c.kind → one ≤ 2 → AreCounted cs i columns → AreCounted cs (i + 1) (columns + one)
+pub counted_next : (cs : List Constraint) (i columns one : ℕ) (c : Constraint) → i < length cs → c ≡ get_or cs i c
+    → one ≡ column_count c.kind → one ≤ 2 → AreCounted cs i columns → AreCounted cs (i + 1) (columns + one)
 counted_next cs i columns one c l e k few a =
     let rest : constraint_columns (drop i cs) ≡ column_count c.kind + constraint_columns (drop (i + 1) cs) = ap constraint_columns (drop_item cs i c l e) in
     record { same = omega (arith, a.same, rest, k); few = omega (arith, a.few, few) }
@@ -34,7 +35,18 @@ rows-few n m rates ds h k =
     let all = span 1 (2 ^ n - 1) in
     let sets = filter (has_row n ds) all in
     let most : 2 ^ n ≤ 2 ^ m = pow-le-pow_right (lit< tt) h in
-    omega (arith, length-append sets (span (2 ^ n) rates), length-filter (has_row n ds) all, count_by-le-length (has_row n ds) all, length-span 1 (2 ^ n - 1), length-span (2 ^ n) rates, most, pow_pos m, k)
+    omega (
+      arith,
+      length-append sets (span (2 ^ n) rates),
+      length-filter (has_row n ds) all,
+      count_by-le-length
+          (has_row n ds) all,
+      length-span 1 (2 ^ n - 1),
+      length-span (2 ^ n) rates,
+      most,
+      pow_pos m,
+      k,
+    )
 
 -- a constraint has at most two columns
 pub columns-few : (cs : List Constraint) → constraint_columns cs ≤ 2 * length cs

@@ -15,7 +15,8 @@ pub record IsRowOfSums (n : ℕ) (ds : List Dependence) (terms : Terms) (size : 
   pub collapse : IsCollapseOf n ds terms new
   pub coordinates : IsOver size new
 
-pub row_of_sums : (n : ℕ) (ds : List Dependence) (terms new : Terms) (size : ℕ) (values : List ℤ) → new ≡ terms_from 1 (drop 1 values) → ArePlaced n ds terms (size + 1) values → IsRowOfSums n ds terms size new
+pub row_of_sums : (n : ℕ) (ds : List Dependence) (terms new : Terms) (size : ℕ) (values : List ℤ) → new ≡ terms_from 1 (drop 1 values)
+    → ArePlaced n ds terms (size + 1) values → IsRowOfSums n ds terms size new
 row_of_sums n ds terms new size values e a = rw e (record {
   canonical = row_ascends values a.within;
   coefficients = same_coefficients;

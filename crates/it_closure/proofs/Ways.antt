@@ -28,7 +28,8 @@ some_open P [] a o k e = absurd (none_is_not_some o e)
 some_open P (d ∷ ds) a o k e = by_test (is_open d a) refl (λ f. some_open P ds a o k.1 f)
   where
     by_test : (b : Bool) → is_open d a ≡ b → (first_open ds a ≡ Some o → P o × (is_open o a ≡ true)) → P o × (is_open o a ≡ true)
-    by_test true f ih = let s : d ≡ o = some_same d o (sym (ap (λ x. cond x (Some d) (first_open ds a)) f) ∙ e) in (subst P s k.0, subst (λ (x : Dependence). is_open x a ≡ true) s f)
+    by_test true f ih = let s : d ≡ o = some_same d o (sym (ap (λ x. cond x (Some d) (first_open ds a)) f) ∙ e)
+        in (subst P s k.0, subst (λ (x : Dependence). is_open x a ≡ true) s f)
     by_test false f ih = ih (sym (ap (λ x. cond x (Some d) (first_open ds a)) f) ∙ e)
 
 pub closed_where : (ds : List Dependence) (a : ℕ) → first_open ds a ≡ None → IsClosed ds a
@@ -69,14 +70,16 @@ holds_by_turns n ds s P Q b q l step (suc turns) a h k i j p = by_option (first_
         let o : IsOpenOf n ds a d = open_where n ds a d b e in
         let more : a < bit_or a d.to = grows a d.to o.new in
         ih (bit_or a d.to) (omega arith) (or_lt n a d.to k o.below) (inside-trans s a (bit_or a d.to) i (inside_left a d.to))
-        (or_inside a d.to (closure n ds s) j (o.kept (closure n ds s) closure_of_set.closed (inside-trans d.from a (closure n ds s) o.known j))) (step a d k i o (some_open Q ds a d (every_of Q ds q) e).0 p)
+        (or_inside a d.to (closure n ds s) j (o.kept (closure n ds s) closure_of_set.closed
+        (inside-trans d.from a (closure n ds s) o.known j))) (step a d k i o (some_open Q ds a d (every_of Q ds q) e).0 p)
 
 pub holds_of_closure : (n : ℕ) (ds : List Dependence) (s : ℕ) (P : ℕ → Type 0) (Q : Dependence → Type 0) → All (λ d. d.to < 2 ^ n) ds → All Q ds → s < 2 ^ n
     → ((a : ℕ) (d : Dependence) → a < 2 ^ n → IsInside s a → IsOpenOf n ds a d → Q d → P a → P (bit_or a d.to)) → P s → P (closure n ds s)
 holds_of_closure n ds s P Q b q l step p = holds_by_turns n ds s P Q b q l step (2 ^ n) s (omega arith) l (inside-refl s) (closure_is n ds s b l).holds p
 
 -- the way, set by set
-enough_turns : (n : ℕ) (ds : List Dependence) → All (λ d. d.to < 2 ^ n) ds → (t u a : ℕ) → a < 2 ^ n → 2 ^ n ≤ a + t → 2 ^ n ≤ a + u → way_for t ds a ≡ way_for u ds a
+enough_turns : (n : ℕ) (ds : List Dependence) → All (λ d. d.to < 2 ^ n) ds → (t u a : ℕ) → a < 2 ^ n → 2 ^ n ≤ a + t → 2 ^ n ≤ a + u
+    → way_for t ds a ≡ way_for u ds a
 enough_turns n ds b zero u a l h k = absurd (omega arith)
 enough_turns n ds b (suc t) zero a l h k = absurd (omega arith)
 enough_turns n ds b (suc t) (suc u) a l h k = by_option (first_open ds a) refl (λ c. enough_turns n ds b t u c)
@@ -97,7 +100,8 @@ way-end n ds a l e = for_each (2 ^ n) (omega arith)
     for_each zero h = absurd (omega arith)
     for_each (suc t) h = rw e refl
 
-pub way-more : (n : ℕ) (ds : List Dependence) (a : ℕ) (d : Dependence) → All (λ d. d.to < 2 ^ n) ds → a < 2 ^ n → first_open ds a ≡ Some d → way n ds a ≡ (a, d) ∷ way n ds (bit_or a d.to)
+pub way-more : (n : ℕ) (ds : List Dependence) (a : ℕ) (d : Dependence) → All (λ d. d.to < 2 ^ n) ds → a < 2 ^ n → first_open ds a ≡ Some d
+    → way n ds a ≡ (a, d) ∷ way n ds (bit_or a d.to)
 unfolding way
 way-more n ds a d b l e = for_each (2 ^ n) (omega arith) (omega arith)
   where

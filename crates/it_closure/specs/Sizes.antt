@@ -1,9 +1,9 @@
 -- The size of the table with which the run about a problem begins.
 use Rattle.std.specs.Prelude.{ℕ, ◌+◌, ◌*◌, List, [], ◌∷◌, length}
-use Rattle.it_space.specs.declared.problems.Kind.{Kind}
-use Rattle.it_space.specs.declared.problems.Kind.TheVariants.{Inequality, Equation}
-use Rattle.it_space.specs.declared.problems.Constraint.{Constraint}
-use Rattle.it_space.specs.Problems.{ProblemView}
+use Rattle.it_problems.specs.declared.problems.Kind.{Kind}
+use Rattle.it_problems.specs.declared.problems.Kind.TheVariants.{Inequality, Equation}
+use Rattle.it_problems.specs.declared.problems.Constraint.{Constraint}
+use Rattle.it_problems.specs.Problems.{ProblemView}
 use Rattle.it_polymatroid.specs.Elementals.{elementals}
 use Rattle.it_closure.specs.Coordinates.{closed_coordinates}
 use Rattle.it_closure.specs.Reading.{dependences_of}

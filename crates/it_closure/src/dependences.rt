@@ -6,7 +6,8 @@ ghost use Rattle.it_closure.specs.Reading.{dependences_of};
 
 use crate::reading::read_all;
 use it_elemental::count;
-use it_space::{Problem, Space, VarSet};
+use it_problems::Problem;
+use it_space::{Space, VarSet};
 use std::alloc::{AllocError, Global};
 use std::marker::Model;
 

@@ -3,9 +3,11 @@
 ghost use Rattle.std.specs.Prelude.{◌≡◌, ◌<◌, ◌≤◌, ◌+◌, ◌^◌, length, Option, Some, None, IfOk};
 ghost use Rattle.it_elemental.specs.Generators.{is_equation};
 ghost use Rattle.it_closure.specs.Reading.{are_ends, ends_of, is_given, is_minus_one, is_one, read_from, read_one, with_number};
+ghost use Rattle.it_space.specs.Spaces.{most_variables};
 
 use crate::dependences::Dependence;
-use it_space::{Constraint, Kind, Origin, VarSet};
+use it_problems::{Constraint, Kind, Origin};
+use it_space::VarSet;
 use std::alloc::{AllocError, Global};
 
 /// The sets of a row h(to) - h(from), or of its negation, by their coordinates.
@@ -23,7 +25,7 @@ pub fn read_all(
     first: u32,
     constraints: &[Constraint],
 ) -> Result<Vec<Dependence>, AllocError>
-    requires few { n ≤ 10 }
+    requires few { n ≤ most_variables }
     requires count { first + length constraints.now < 2 ^ 32 }
     ensures { IfOk result (λ v. v.items ≡ read_from n first constraints.now) }
 {
@@ -39,7 +41,7 @@ pub fn read_all(
 
 /// The dependence that `constraint`, generator number `generator`, states, if it states one.
 fn read_one(n: u8, generator: u32, constraint: &Constraint) -> Option<Dependence>
-    requires few { n ≤ 10 }
+    requires few { n ≤ most_variables }
     ensures { result ≡ read_one n generator constraint.now }
 {
     if is_given(constraint.origin) {
@@ -73,7 +75,7 @@ fn is_equation(kind: Kind) -> bool
 /// The dependence of two sets, with its generator's number, if they are sets of the `n` variables and the first is strictly inside the
 /// second.
 fn with_number(n: u8, generator: u32, ends: Option<SetPair>) -> Option<Dependence>
-    requires few { n ≤ 10 }
+    requires few { n ≤ most_variables }
     ensures { result ≡ with_number n generator ends }
 {
     match ends {
@@ -95,7 +97,7 @@ fn with_number(n: u8, generator: u32, ends: Option<SetPair>) -> Option<Dependenc
 
 /// Whether the two are sets of the `n` variables, the first strictly inside the second.
 fn are_ends(n: u8, ends: SetPair) -> bool
-    requires few { n ≤ 10 }
+    requires few { n ≤ most_variables }
     ensures { result ≡ are_ends n ends }
 {
     if ends.to < 1u32 << n {

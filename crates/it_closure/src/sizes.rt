@@ -1,10 +1,11 @@
 //! The size of the table with which the run about a problem begins.
 ghost use Rattle.std.specs.Prelude.{◌≡◌, ◌≤◌, ◌*◌, length, IfOk};
 ghost use Rattle.it_closure.specs.Sizes.{column_count, constraint_columns, table_size};
+ghost use Rattle.it_problems.specs.Problems.{most_constraints};
 
 use crate::dependences::Dependences;
 use it_elemental::count;
-use it_space::{Constraint, Kind, Problem};
+use it_problems::{Constraint, Kind, Problem};
 use std::alloc::{AllocError, Global};
 
 /// The number of entries, rows times columns, of the table with which the run about `problem` begins. Each closed set other than the
@@ -25,7 +26,7 @@ pub fn size(alloc: Global, problem: &Problem) -> Result<u64, AllocError>
 
 /// The number of columns of `constraints`.
 fn constraint_columns(constraints: &[Constraint]) -> u64
-    requires few { length constraints.now ≤ 1048576 }
+    requires few { length constraints.now ≤ most_constraints }
     ensures value { result ≡ constraint_columns constraints.now }
     ensures few { result ≤ 2 * length constraints.now }
 {

@@ -55,7 +55,8 @@ set_step q m variables i v set place total lt is inv =
     ∙ inv
 
 -- the functions of the variable at a place
-pub item_functions : (variables : List Variable) (i : ℕ) (v : Variable) → i < length variables → v ≡ get_or variables i v → functions_of v ≡ get_or (map functions_of variables) i (functions_of v)
+pub item_functions : (variables : List Variable) (i : ℕ) (v : Variable) → i < length variables → v ≡ get_or variables i v
+    → functions_of v ≡ get_or (map functions_of variables) i (functions_of v)
 item_functions variables i v lt is = ap functions_of is ∙ sym (get_or-map functions_of variables i v (functions_of v) lt)
 
 -- a code has at most ten

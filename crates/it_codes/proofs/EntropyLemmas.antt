@@ -18,7 +18,8 @@ grows count size h j some le = let positive : 0 < size = omega arith in mul-le-m
 
 -- the next power
 pub next_power : (count size h reached : ℕ) → reached ≡ count * size ^ h → reached * size ≡ count * size ^ (h + 1)
-next_power count size h reached is = ap (λ n. n * size) is ∙ mul_assoc count (size ^ h) size ∙ ap (λ n. count * n) (sym (pow-suc size h) ∙ ap (λ n. size ^ n) (suc-eq-add-one h))
+next_power count size h reached is = ap (λ n. n * size) is ∙ mul_assoc count (size ^ h) size
+    ∙ ap (λ n. count * n) (sym (pow-suc size h) ∙ ap (λ n. size ^ n) (suc-eq-add-one h))
 
 -- the powers before the next one are below a total, where those before this one and this one are
 pub below_next : (count size total h reached : ℕ) → reached ≡ count * size ^ h → reached < total → ((j : ℕ) → j < h → count * size ^ j < total)
@@ -78,7 +79,8 @@ zero_set_count q k variables = length-map (range_with_len 0 (q ^ k)) (λ m. zero
 
 -- a set of variables has one entropy at most
 pub one_entropy : (code : CodeView) (s h j : ℕ) → IsEntropy code s h → IsEntropy code s j → h ≡ j
-one_entropy code s h j e f = one_power (kernel_size code s) (size code.field) (size code.field ^ code.symbols) h j (two_elements code.field) (some_message code.field code.symbols) e f
+one_entropy code s h j e f = one_power (kernel_size code s) (size code.field) (size code.field ^ code.symbols) h j (two_elements code.field)
+    (some_message code.field code.symbols) e f
 
 -- what is true of all sets below one and of that is true of all up to it
 pub one_more_set : (P : ℕ → Type 0) (n : ℕ) → ((s : ℕ) → 1 ≤ s → s < n → P s) → P n → (s : ℕ) → 1 ≤ s → s < n + 1 → P s
@@ -90,9 +92,11 @@ one_more_set P n before here s from below = by_order (cases_order s n)
     by_order (inr (inr more)) = absurd (omega arith)
 
 -- the entropy of a further set is appended
-pub more_entropies : (code : CodeView) (values : List ℤ) (n h : ℕ) → length values + 1 ≡ n → ((s : ℕ) → 1 ≤ s → s < n → HasEntropy code 1 values s) → IsEntropy code n h
+pub more_entropies : (code : CodeView) (values : List ℤ) (n h : ℕ) → length values + 1 ≡ n
+    → ((s : ℕ) → 1 ≤ s → s < n → HasEntropy code 1 values s) → IsEntropy code n h
     → (s : ℕ) → 1 ≤ s → s < n + 1 → HasEntropy code 1 (values ++ pos h ∷ []) s
-more_entropies code values n h len before is = one_more_set (HasEntropy code 1 (values ++ pos h ∷ [])) n (λ s from below. kept s from below (before s from below)) (here n len is)
+more_entropies code values n h len before is = one_more_set (HasEntropy code 1 (values ++ pos h ∷ [])) n
+    (λ s from below. kept s from below (before s from below)) (here n len is)
   where
     kept : (s : ℕ) → 1 ≤ s → s < n → HasEntropy code 1 values s → HasEntropy code 1 (values ++ pos h ∷ []) s
     kept zero from below (x, e, holds) = absurd (omega arith)
@@ -103,6 +107,7 @@ more_entropies code values n h len before is = one_more_set (HasEntropy code 1 (
     here (suc c) e holds = (h, get_or_push values (pos h) (pos 0) c (omega arith) ∙ ap pos (sym (one-mul h)), holds)
 
 -- a value that is no multiple of a set's entropy
-pub other_value : (code : CodeView) (times : ℕ) (values : List ℤ) (s h : ℕ) (value : ℤ) → value ≡ point_of values s → IsEntropy code s h → (value ≡ pos (times * h) → ⊥) → HasEntropy code times values s → ⊥
+pub other_value : (code : CodeView) (times : ℕ) (values : List ℤ) (s h : ℕ) (value : ℤ) → value ≡ point_of values s → IsEntropy code s h
+    → (value ≡ pos (times * h) → ⊥) → HasEntropy code times values s → ⊥
 other_value code times values s h value at holds differs has =
     differs (at ∙ has.1 ∙ ap (λ j. pos (times * j)) (sym (one_entropy code s h has.0 holds has.2)))

@@ -83,14 +83,17 @@ module _ (code : CodeView) (times : ℕ) (values : List ℤ) where
   has_or_not : (s : ℕ) → HasEntropy code times values s ⊎ ¬ HasEntropy code times values s
   has_or_not s = by_power (power_or_none (kernel_size code s) (size code.field) (size code.field ^ code.symbols) (size code.field ^ code.symbols))
     where
-      by_value : (h : ℕ) → IsEntropy code s h → (point_of values s ≡ pos (times * h)) ⊎ ¬ (point_of values s ≡ pos (times * h)) → HasEntropy code times values s ⊎ ¬ HasEntropy code times values s
+      by_value : (h : ℕ) → IsEntropy code s h → (point_of values s ≡ pos (times * h)) ⊎ ¬ (point_of values s ≡ pos (times * h))
+          → HasEntropy code times values s ⊎ ¬ HasEntropy code times values s
       by_value h is (inl e) = inl (h, e, is)
       by_value h is (inr differs) = inr (other_value code times values s h (point_of values s) refl is differs)
 
-      by_power : PowerOrNone (kernel_size code s) (size code.field) (size code.field ^ code.symbols) (size code.field ^ code.symbols) → HasEntropy code times values s ⊎ ¬ HasEntropy code times values s
+      by_power : PowerOrNone (kernel_size code s) (size code.field) (size code.field ^ code.symbols) (size code.field ^ code.symbols)
+          → HasEntropy code times values s ⊎ ¬ HasEntropy code times values s
       by_power (inl found) = by_value found.0 found.1 (value_or_not (point_of values s) (times * found.0))
       by_power (inr none) = inr (λ has. none has.0
-          (exponent_below (kernel_size code s) (size code.field) (size code.field ^ code.symbols) has.0 (two_elements code.field) (some_message code.field code.symbols) has.2) has.2)
+          (exponent_below (kernel_size code s) (size code.field) (size code.field ^ code.symbols) has.0 (two_elements code.field)
+          (some_message code.field code.symbols) has.2) has.2)
 
   -- a first set up to one, or none
   abbrev FoundUpTo : ℕ → Type 0
@@ -99,7 +102,8 @@ module _ (code : CodeView) (times : ℕ) (values : List ℤ) where
   abbrev AllUpTo : ℕ → Type 0
   AllUpTo m = (s : ℕ) → 1 ≤ s → s < suc m → HasEntropy code times values s
 
-  one_set_more : (m : ℕ) → FoundUpTo m ⊎ AllUpTo m → HasEntropy code times values (suc m) ⊎ ¬ HasEntropy code times values (suc m) → FoundUpTo (suc m) ⊎ AllUpTo (suc m)
+  one_set_more : (m : ℕ) → FoundUpTo m ⊎ AllUpTo m → HasEntropy code times values (suc m) ⊎ ¬ HasEntropy code times values (suc m)
+      → FoundUpTo (suc m) ⊎ AllUpTo (suc m)
   one_set_more m (inl found) here = inl (found.0, found.1, (let lt = found.2 in omega (arith, lt)), found.3, found.4)
   one_set_more m (inr all) (inl has) = inr (λ s from below. one_more_set (HasEntropy code times values) (suc m) all has s from (omega (arith, below)))
   one_set_more m (inr all) (inr other) = inl (suc m, omega arith, omega arith, all, other)

@@ -7,6 +7,7 @@ use Rattle.it_codes.specs.declared.codes.LinearCode.{LinearCode}
 use Rattle.it_codes.specs.declared.codes.Field.{Field}
 use Rattle.it_codes.specs.declared.codes.Field.TheVariants.{Two, Three}
 use Rattle.it_codes.specs.declared.codes.Variable.{Variable}
+use Rattle.it_space.specs.Spaces.{most_variables}
 
 -- a linear code as contracts see it: its field, the number of a message's symbols, and of each variable its functions' coefficients
 pub record CodeView : Type 0 where
@@ -101,5 +102,5 @@ most_messages = 4096
 -- the codes that functions accept: of 1 to 10 variables, with at most most_messages messages
 pub record IsCode (code : CodeView) : Type 0 where
   pub some : 1 ≤ variables_of code
-  pub few : variables_of code ≤ 10
+  pub few : variables_of code ≤ most_variables
   pub messages : size code.field ^ code.symbols ≤ most_messages

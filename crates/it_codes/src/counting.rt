@@ -2,6 +2,7 @@
 ghost use Rattle.std.specs.Prelude.{◌≡◌, ◌+◌, ◌*◌, ◌≤◌, ◌^◌, ◌<◌, cond, length, map, IfOk};
 ghost use Rattle.std.specs.List.{list_all, range_with_len};
 ghost use Rattle.it_codes.specs.Codes.{IsCode, code_sets, code_view, count_around, functions_of, is_zero_at, size, vanishes, zero_set};
+ghost use Rattle.it_space.specs.Spaces.{most_variables};
 
 use crate::codes::{LinearCode, Variable};
 use std::alloc::{AllocError, Global};
@@ -55,7 +56,7 @@ fn with_place(set: u16, place: u16, is_member: bool) -> u16
 fn zero_set(size: u32, message: u32, variables: &[Variable]) -> u16
     requires some { 1 ≤ size }
     requires few { size ≤ 3 }
-    requires variables { length variables.now ≤ 10 }
+    requires variables { length variables.now ≤ most_variables }
     ensures { result ≡ zero_set size message (map functions_of variables.now) }
 {
     let mut set = 0;
@@ -84,7 +85,7 @@ fn sets_at(
 ) -> Result<Vec<u16>, AllocError>
     requires some { 1 ≤ size }
     requires few { size ≤ 3 }
-    requires variables { length variables.now ≤ 10 }
+    requires variables { length variables.now ≤ most_variables }
     ensures { IfOk result (λ v. v.items ≡ map (λ message. zero_set size message (map functions_of variables.now)) (range_with_len 0 count)) }
 {
     (0..count)

@@ -21,7 +21,8 @@ pub record AreScaled (l : ℕ) (qs : List Rational) (i : ℕ) (out : List ℤ) :
   pub fits : Every (λ q. IsWithin (scaled_number l q)) (drop i qs) ↔ Every (λ q. IsWithin (scaled_number l q)) qs
   pub same : out ++ map (scaled_number l) (drop i qs) ≡ map (scaled_number l) qs
 
-pub scale_more : (qs : List Rational) (i scale next : ℕ) (q : Rational) → i < length qs → q ≡ get_or qs i q → IsWithin (pos (lcm scale q.den)) × (next ≡ lcm scale q.den) → IsScale qs i scale → IsScale qs (i + 1) next
+pub scale_more : (qs : List Rational) (i scale next : ℕ) (q : Rational) → i < length qs → q ≡ get_or qs i q
+    → IsWithin (pos (lcm scale q.den)) × (next ≡ lcm scale q.den) → IsScale qs i scale → IsScale qs (i + 1) next
 unfolding scale_from
 scale_more qs i scale next q h is w s = subst (IsScale qs (i + 1)) (sym w.1) (record {
   same = subst (λ xs. scale_from scale xs ≡ scale_from 1 qs) (drop_item qs i q h is) s.same;
@@ -36,11 +37,14 @@ scale_done qs i scale h s =
     (subst (λ (l : ℕ). IsWithin (pos l)) e s.within, e)
 
 -- a multiple on the way that is past the limit takes the scale past it
-pub scale_wide : (qs : List Rational) (i scale : ℕ) (q : Rational) → i < length qs → q ≡ get_or qs i q → ¬ (IsWithin (pos (lcm scale q.den))) → IsScale qs i scale → ¬ (IsWithin (pos (scale_of qs)))
+pub scale_wide : (qs : List Rational) (i scale : ℕ) (q : Rational) → i < length qs → q ≡ get_or qs i q
+    → ¬ (IsWithin (pos (lcm scale q.den))) → IsScale qs i scale → ¬ (IsWithin (pos (scale_of qs)))
 unfolding scale_from
 scale_wide qs i scale q h is n s w =
-    let e : scale_from (lcm scale q.den) (drop (i + 1) qs) ≡ scale_of qs = subst (λ xs. scale_from scale xs ≡ scale_from 1 qs) (drop_item qs i q h is) s.same ∙ scale_from_one qs in
-    let least : lcm scale q.den ≤ scale_from (lcm scale q.den) (drop (i + 1) qs) = scale_least (lcm scale q.den) (drop (i + 1) qs) (lcm-pos scale q.den s.some q.positive) in
+    let e : scale_from (lcm scale q.den) (drop (i + 1) qs) ≡ scale_of qs = subst (λ xs. scale_from scale xs ≡ scale_from 1 qs)
+    (drop_item qs i q h is) s.same ∙ scale_from_one qs in
+    let least : lcm scale q.den ≤ scale_from (lcm scale q.den) (drop (i + 1) qs) = scale_least (lcm scale q.den) (drop (i + 1) qs)
+    (lcm-pos scale q.den s.some q.positive) in
     n (smaller_within (lcm scale q.den) (scale_of qs) (omega (arith, e, least)) w)
   where
     smaller_within : (m l : ℕ) → m ≤ l → IsWithin (pos l) → IsWithin (pos m)

@@ -32,7 +32,11 @@ scale_divides k qs = start_divides k (map (λ (q : Rational). q.den) qs)
 denominators_divide_from : (k : ℕ) (qs : List Rational) → Every (λ q. q.den ∣ scale_from k qs) qs
 unfolding scale_from
 denominators_divide_from k [] = tt
-denominators_divide_from k (q ∷ qs) = (dvd_trans q.den {b = lcm k q.den} {c = scale_from (lcm k q.den) qs} (lcm_is k q.den).1 (scale_divides (lcm k q.den) qs), denominators_divide_from (lcm k q.den) qs)
+denominators_divide_from k (q ∷ qs) = (
+  dvd_trans q.den {b = lcm k q.den} {c = scale_from (lcm k q.den) qs} (lcm_is k q.den).1
+      (scale_divides (lcm k q.den) qs),
+  denominators_divide_from (lcm k q.den) qs,
+)
 
 -- each denominator divides the scale
 pub denominators_divide : (qs : List Rational) → Every (λ q. q.den ∣ scale_of qs) qs

@@ -39,13 +39,15 @@ whole_minus a = ap₂ Q.quotient (ap neg_ℤ (sym (whole_parts a).0)) (sym (whol
 pub whole_scaled : (l : ℕ) (q : Rational) → q.den ∣ l → Q.integer (scaled_number l q) ≡ Q.times (Q.integer (pos l)) q
 unfolding scaled_number
 whole_scaled l q h =
-    same_value (Q.integer (q.num *ℤ pos (l / q.den))) (Q.times (Q.integer (pos l)) q) (q.num *ℤ pos (l / q.den)) (pos l *ℤ q.num) 1 (1 * q.den) (omega arith) (omega (arith, q.positive))
+    same_value (Q.integer (q.num *ℤ pos (l / q.den))) (Q.times (Q.integer (pos l)) q) (q.num *ℤ pos (l / q.den)) (pos l *ℤ q.num) 1
+    (1 * q.den) (omega arith) (omega (arith, q.positive))
     (quotient_names (q.num *ℤ pos (l / q.den)) 1 (omega arith))
     (times_names (Q.integer (pos l)) q (pos l) q.num 1 q.den (omega arith) q.positive (quotient_names (pos l) 1 (omega arith)) (own_name q))
     (cross_products q.num (l / q.den) q.den l (div-mul_cancel q.den h))
   where
     cross_products : (n : ℤ) (k d l : ℕ) → k * d ≡ l → (n *ℤ pos k) *ℤ pos (1 * d) ≡ (pos l *ℤ n) *ℤ pos 1
-    cross_products n k d l e = ap (λ m. (n *ℤ pos k) *ℤ pos m) (one-mul d) ∙ mul_assoc n (pos k) (pos d) ∙ mul_comm n (pos (k * d)) ∙ ap (λ m. pos m *ℤ n) e ∙ times_one (pos l *ℤ n)
+    cross_products n k d l e = ap (λ m. (n *ℤ pos k) *ℤ pos m) (one-mul d) ∙ mul_assoc n (pos k) (pos d) ∙ mul_comm n (pos (k * d))
+        ∙ ap (λ m. pos m *ℤ n) e ∙ times_one (pos l *ℤ n)
       where
         times_one : (x : ℤ) → x ≡ x *ℤ pos 1
         times_one x = omega (arith, ints)
@@ -79,7 +81,8 @@ scaled_above l q h d a = product q.num (l / q.den) (above_num q a) (factor_some 
 -- ---- values at a point times the scale
 
 module _ (l : ℕ) (p : ℕ → ℤ) (h : ℕ → Rational) where
-  pub value_scaled : (row : Terms) → Every (λ t. Q.integer (p t.0) ≡ Q.times (Q.integer (pos l)) (h t.0)) row → Q.integer (value row p) ≡ Q.times (Q.integer (pos l)) (rational_value row h)
+  pub value_scaled : (row : Terms) → Every (λ t. Q.integer (p t.0) ≡ Q.times (Q.integer (pos l)) (h t.0)) row
+      → Q.integer (value row p) ≡ Q.times (Q.integer (pos l)) (rational_value row h)
   value_scaled [] e = sym (ring ring_ℚ (Q.integer (pos l) ∷ []) (times (v 0) nil) nil refl)
   value_scaled (t ∷ ts) e =
       whole_plus (t.1 *ℤ p t.0) (value ts p)
@@ -93,17 +96,22 @@ module _ (l : ℕ) (p : ℕ → ℤ) (h : ℕ → Rational) where
 
     pub least_scaled : is_at_least_zero (rational_value row h) ≡ true → pos 0 ≤ℤ value row p
     least_scaled a =
-        let scale_least : is_at_least_zero (Q.integer (pos l)) ≡ true = sign_of_least (Q.integer (pos l)).num (subst (λ (z : ℤ). pos 0 ≤ℤ z) (sym (whole_parts (pos l)).0) (omega (arith, ints))) in
+        let scale_least : is_at_least_zero (Q.integer (pos l))
+        ≡ true = sign_of_least (Q.integer (pos l)).num (subst (λ (z : ℤ). pos 0 ≤ℤ z) (sym (whole_parts (pos l)).0)
+        (omega (arith, ints))) in
         subst (λ (z : ℤ). pos 0 ≤ℤ z) (whole_parts (value row p)).0
-        (least_by_sign (Q.integer (value row p)).num (ap is_at_least_zero (value_scaled row e) ∙ field_ℚ.order.mul-least (Q.integer (pos l)) (rational_value row h) scale_least a))
+        (least_by_sign (Q.integer (value row p)).num (ap is_at_least_zero (value_scaled row e)
+        ∙ field_ℚ.order.mul-least (Q.integer (pos l)) (rational_value row h) scale_least a))
 
     pub below_scaled : is_at_least_zero (rational_value row h) ≡ false → value row p ≤ℤ neg_ℤ (pos 1)
     below_scaled b =
         let above : IsAboveZero field_ℚ (Q.times (Q.integer (pos l)) (Q.minus (rational_value row h))) =
         mul-above field_ℚ (Q.integer (pos l)) (Q.minus (rational_value row h)) scale_above (neg-above field_ℚ (rational_value row h) b) in
         let is : Q.times (Q.integer (pos l)) (Q.minus (rational_value row h)) ≡ Q.integer (neg_ℤ (value row p)) =
-        ring ring_ℚ (Q.integer (pos l) ∷ rational_value row h ∷ []) (times (v 0) (minus (v 1))) (minus (times (v 0) (v 1))) refl ∙ ap Q.minus (sym (value_scaled row e)) ∙ sym (whole_minus (value row p)) in
-        at_most_minus_one (value row p) (subst (λ (z : ℤ). pos 0 <ℤ z) (ap (λ (q : Rational). q.num) is ∙ (whole_parts (neg_ℤ (value row p))).0) (above_num (Q.times (Q.integer (pos l)) (Q.minus (rational_value row h))) above))
+        ring ring_ℚ (Q.integer (pos l) ∷ rational_value row h ∷ []) (times (v 0) (minus (v 1))) (minus (times (v 0) (v 1))) refl
+        ∙ ap Q.minus (sym (value_scaled row e)) ∙ sym (whole_minus (value row p)) in
+        at_most_minus_one (value row p) (subst (λ (z : ℤ). pos 0 <ℤ z) (ap (λ (q : Rational). q.num) is
+        ∙ (whole_parts (neg_ℤ (value row p))).0) (above_num (Q.times (Q.integer (pos l)) (Q.minus (rational_value row h))) above))
       where
         at_most_minus_one : (x : ℤ) → pos 0 <ℤ neg_ℤ x → x ≤ℤ neg_ℤ (pos 1)
         at_most_minus_one x h = omega (arith, ints)

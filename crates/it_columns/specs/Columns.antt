@@ -2,8 +2,8 @@
 -- given for generators by numbers given for their columns.
 use Rattle.std.specs.Prelude.{ℕ, ◌+◌, List, [], ◌∷◌}
 use Rattle.std.specs.List.{flat_map}
-use Rattle.it_space.specs.declared.problems.Kind.{Kind}
-use Rattle.it_space.specs.declared.problems.Kind.TheVariants.{Inequality, Equation}
+use Rattle.it_problems.specs.declared.problems.Kind.{Kind}
+use Rattle.it_problems.specs.declared.problems.Kind.TheVariants.{Inequality, Equation}
 use Rattle.it_space.specs.Rows.{Terms, negated_terms}
 use Rattle.it_elemental.specs.Generators.{Generator}
 use Rattle.it_closure.specs.Sizes.{column_count}

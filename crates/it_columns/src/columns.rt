@@ -3,7 +3,8 @@ ghost use Rattle.std.specs.Prelude.{◌≡◌, ◌++◌, OnOk};
 ghost use Rattle.it_columns.specs.Columns.{columns_by};
 
 use crate::rows::opposite_row;
-use it_space::{Kind, Row};
+use it_problems::Kind;
+use it_space::Row;
 use std::alloc::{AllocError, Global};
 
 /// Appends the columns of a generator of this kind with `row`: for an inequality the row, for an equation also the negated row.

@@ -5,7 +5,8 @@ ghost use Rattle.it_space.specs.Rows.{IsCanonical, negated_terms};
 ghost use Rattle.it_elemental.specs.Generators.{generators, generator_at};
 
 use it_elemental::{count, row};
-use it_space::{Problem, Row};
+use it_problems::Problem;
+use it_space::Row;
 use std::alloc::{AllocError, Global};
 
 /// The negated term.

@@ -65,7 +65,8 @@ pub own_takes : {B : Type 0} (pending : B → List Candidate) (xs : List B) (i :
 own_takes pending xs i b d r lt at takes =
     let long : i < length (map pending xs) = omega (arith, length-map xs pending) in
     let before : pending d ≡ get_or (map pending xs) i [] = ap pending at ∙ sym (get_or-map pending xs i d [] lt) in
-    let after : pending b ≡ get_or (map pending (set xs i b)) i [] = sym (get_or-set_same (map pending xs) i (pending b) [] long) ∙ ap (λ zs. get_or zs i []) (sym (map-set pending xs i b)) in
+    let after : pending b ≡ get_or (map pending (set xs i b)) i [] = sym (get_or-set_same (map pending xs) i (pending b) [] long)
+    ∙ ap (λ zs. get_or zs i []) (sym (map-set pending xs i b)) in
     subst (λ z. Takes (get_or (map pending xs) i []) r z) after (subst (λ z. Takes z r (pending b)) before takes)
 
 pub same_length : {B C P : Type 0} (f : B → P) (g : C → P) (xs : List B) (ys : List C) → map f xs ≡ map g ys → length xs ≡ length ys

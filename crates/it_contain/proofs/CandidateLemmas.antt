@@ -16,7 +16,8 @@ four_of f (a ∷ b ∷ c ∷ d ∷ []) n = refl
 four_of f (a ∷ b ∷ c ∷ d ∷ e ∷ r) n = absurd (omega arith)
 
 map_keeps_padding : (f : ℕ → ℕ) (ds : List ℕ) → f 0 ≡ 0 → map f (take 4 (ds ++ (0 ∷ 0 ∷ 0 ∷ 0 ∷ []))) ≡ take 4 (map f ds ++ (0 ∷ 0 ∷ 0 ∷ 0 ∷ []))
-map_keeps_padding f ds none = sym (take-map f 4 (ds ++ (0 ∷ 0 ∷ 0 ∷ 0 ∷ []))) ∙ ap (take 4) (map-append f ds (0 ∷ 0 ∷ 0 ∷ 0 ∷ []) ∙ ap (λ z. map f ds ++ (z ∷ z ∷ z ∷ z ∷ [])) none)
+map_keeps_padding f ds none = sym (take-map f 4 (ds ++ (0 ∷ 0 ∷ 0 ∷ 0 ∷ [])))
+    ∙ ap (take 4) (map-append f ds (0 ∷ 0 ∷ 0 ∷ 0 ∷ []) ∙ ap (λ z. map f ds ++ (z ∷ z ∷ z ∷ z ∷ [])) none)
 
 -- four sets by the digits are the candidate
 pub candidate_made : (xs : List ℕ) (m a at : ℕ) (r : List ℕ) (s t u v : ℕ) → length xs ≡ m → get_or xs 0 0 ≡ 0
@@ -33,7 +34,8 @@ candidate_made xs m a at r s t u v n none is es et eu ev =
     ∙ ap (λ z. get_or xs (get_or r 0 0) 0 ∷ get_or xs (get_or r 1 0) 0 ∷ get_or xs (get_or r 2 0) 0 ∷ z ∷ []) ev
     ∙ four_of (λ d. get_or xs d 0) r four in
     let all : s ∷ t ∷ u ∷ v ∷ [] ≡ take 4 (map (λ d. get_or xs d 0) (digits (length xs) a at) ++ (0 ∷ 0 ∷ 0 ∷ 0 ∷ [])) =
-    sets ∙ ap (map (λ d. get_or xs d 0)) is ∙ map_keeps_padding (λ d. get_or xs d 0) (digits m a at) none ∙ ap (λ k. take 4 (map (λ d. get_or xs d 0) (digits k a at) ++ (0 ∷ 0 ∷ 0 ∷ 0 ∷ []))) (sym n) in
+    sets ∙ ap (map (λ d. get_or xs d 0)) is ∙ map_keeps_padding (λ d. get_or xs d 0) (digits m a at) none
+    ∙ ap (λ k. take 4 (map (λ d. get_or xs d 0) (digits k a at) ++ (0 ∷ 0 ∷ 0 ∷ 0 ∷ []))) (sym n) in
     ap (λ zs. record { count = a; parts = zs }) all
 
 -- ---- the candidates from number k on

@@ -8,7 +8,8 @@ use Rattle.it_region.specs.declared.types.Candidate.{Candidate}
 use Rattle.it_contain.specs.Search.{Goal, IsUnproved, IsOpen}
 use Rattle.it_contain.proofs.SearchLemmas.{open_whole}
 
-open_at : (goal : Goal) (tries : ℕ) (xs ys : List Candidate) (t u : ℕ) → IsOpen goal tries xs t → IsOpen goal (tries - t) ys u → (t < tries) ⊎ (tries ≤ t) → IsOpen goal tries (xs ++ ys) (t + u)
+open_at : (goal : Goal) (tries : ℕ) (xs ys : List Candidate) (t u : ℕ) → IsOpen goal tries xs t → IsOpen goal (tries - t) ys u
+    → (t < tries) ⊎ (tries ≤ t) → IsOpen goal tries (xs ++ ys) (t + u)
 open_at goal tries xs ys t u o p (inl lt) =
     let w = open_whole goal tries xs t o lt in
     let at : length xs + (tries - t) ≡ tries = omega (arith, w.1) in
@@ -27,5 +28,6 @@ open_at goal tries xs ys t u o p (inr ge) =
       tried_is = omega (arith, is, also, length-append xs ys);
     }
 
-pub open_more : (goal : Goal) (tries : ℕ) (xs ys : List Candidate) (t u : ℕ) → IsOpen goal tries xs t → IsOpen goal (tries - t) ys u → IsOpen goal tries (xs ++ ys) (t + u)
+pub open_more : (goal : Goal) (tries : ℕ) (xs ys : List Candidate) (t u : ℕ) → IsOpen goal tries xs t → IsOpen goal (tries - t) ys u
+    → IsOpen goal tries (xs ++ ys) (t + u)
 open_more goal tries xs ys t u o p = open_at goal tries xs ys t u o p (cases_lt t tries)

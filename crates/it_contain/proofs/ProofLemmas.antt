@@ -7,7 +7,7 @@ use Rattle.it_space.specs.declared.answers.Cause.{Cause}
 use Rattle.it_space.specs.declared.answers.Certificate.{Certificate}
 use Rattle.it_space.specs.Answers.{CertificateView, certificate_view}
 use Rattle.it_space.proofs.ListLemmas.{drop_item}
-use Rattle.it_space.specs.Problems.{ProblemView}
+use Rattle.it_problems.specs.Problems.{ProblemView}
 use Rattle.it_space.specs.Rows.{Terms}
 use Rattle.it_space.specs.Spaces.{size_of}
 use Rattle.it_demand.specs.RowsOfForms.{terms_of_form}
@@ -38,19 +38,26 @@ module _ (q : ProblemView) (t : Terms) (effort : Effort) (p : Proof) (end : Ends
 pub record AreUnderWay (q : ProblemView) (effort : Effort) (ts : List Terms) (found : List CertificateView) (i : ℕ) : Type 0 where
   pub all : (more : List CertificateView) → AreProofsOf q effort (drop i ts) more → AreProofsOf q effort ts (found ++ more)
 
-pub proofs_end : (q : ProblemView) (effort : Effort) (ts : List Terms) (found : List CertificateView) (i : ℕ) → length ts ≤ i → AreUnderWay q effort ts found i → AreProofsOf q effort ts found
-proofs_end q effort ts found i l u = subst (λ (ws : List CertificateView). AreProofsOf q effort ts ws) (append-nil found) (u.all [] (subst (λ (xs : List Terms). AreProofsOf q effort xs []) (sym (drop_all i ts l)) tt))
+pub proofs_end : (q : ProblemView) (effort : Effort) (ts : List Terms) (found : List CertificateView) (i : ℕ) → length ts ≤ i
+    → AreUnderWay q effort ts found i → AreProofsOf q effort ts found
+proofs_end q effort ts found i l u = subst (λ (ws : List CertificateView). AreProofsOf q effort ts ws) (append-nil found)
+    (u.all [] (subst (λ (xs : List Terms). AreProofsOf q effort xs []) (sym (drop_all i ts l)) tt))
 
-pub none_at : (q : ProblemView) (effort : Effort) (ts : List Terms) (i : ℕ) (t : Terms) → i < length ts → t ≡ get_or ts i t → ProvesOne q effort t None → ProvesAll q effort ts None
+pub none_at : (q : ProblemView) (effort : Effort) (ts : List Terms) (i : ℕ) (t : Terms) → i < length ts → t ≡ get_or ts i t
+    → ProvesOne q effort t None → ProvesAll q effort ts None
 none_at q effort ts i t l is n = (t, n.0, subst (Contains ts) (sym is) (Contains-get_or ts i t l), n.1, n.2)
 
 -- one target more is proved
-pub under_way_more : (q : ProblemView) (effort : Effort) (ts : List Terms) (proofs all : List Certificate) (c : Certificate) (i : ℕ) (t : Terms) → i < length ts → t ≡ get_or ts i t → EndsWith q t effort (Yes (certificate_view c))
+pub under_way_more : (q : ProblemView) (effort : Effort) (ts : List Terms) (proofs all : List Certificate) (c : Certificate) (i : ℕ)
+    (t : Terms) → i < length ts → t ≡ get_or ts i t → EndsWith q t effort (Yes (certificate_view c))
     → all ≡ proofs ++ c ∷ [] → AreUnderWay q effort ts (map certificate_view proofs) i → AreUnderWay q effort ts (map certificate_view all) (i + 1)
 under_way_more q effort ts proofs all c i t l is e pushed u = record {
   all = λ more a. subst (λ (ws : List CertificateView). AreProofsOf q effort ts ws)
-      (sym (ap (λ (cs : List Certificate). map certificate_view cs ++ more) pushed ∙ ap (λ (ws : List CertificateView). ws ++ more) (map-append certificate_view proofs (c ∷ [])) ∙ append_assoc (map certificate_view proofs) (certificate_view c ∷ []) more))
-      (u.all (certificate_view c ∷ more) (subst (λ (xs : List Terms). AreProofsOf q effort xs (certificate_view c ∷ more)) (sym (drop_item ts i t l is)) (e, a)));
+      (sym (ap (λ (cs : List Certificate). map certificate_view cs ++ more) pushed
+      ∙ ap (λ (ws : List CertificateView). ws ++ more) (map-append certificate_view proofs (c ∷ []))
+      ∙ append_assoc (map certificate_view proofs) (certificate_view c ∷ []) more))
+      (u.all (certificate_view c ∷ more) (subst (λ (xs : List Terms). AreProofsOf q effort xs (certificate_view c ∷ more))
+      (sym (drop_item ts i t l is)) (e, a)));
 }
 
 -- ---- a candidate
@@ -59,10 +66,13 @@ module _ (p : Pair) (effort : Effort) (c : Candidate) where
   pub not_fitting : (FitsPair p c → ⊥) → Judges (pair_goal p effort) c None
   not_fitting n fits = absurd (n fits)
 
-  pub proofs_judge : (rows : List Terms) (o : Option Proofs) → FitsPair p c → ArePulledRows p.first.space (pair_obligations p c) rows → ProvesAll p.first effort rows o → Judges (pair_goal p effort) c o
+  pub proofs_judge : (rows : List Terms) (o : Option Proofs) → FitsPair p c → ArePulledRows p.first.space (pair_obligations p c) rows
+      → ProvesAll p.first effort rows o → Judges (pair_goal p effort) c o
   unfolding IsProof
-  proofs_judge rows o f a proves = by_option o (subst (λ (ts : List Terms). ProvesAll p.first effort ts o) (pulled_rows_are p.first.space (pair_obligations p c) rows a) proves)
+  proofs_judge rows o f a proves = by_option o (subst (λ (ts : List Terms). ProvesAll p.first effort ts o)
+      (pulled_rows_are p.first.space (pair_obligations p c) rows a) proves)
     where
-      by_option : (o : Option Proofs) → ProvesAll p.first effort (map (terms_of_form (size_of p.first.space)) (pair_obligations p c)) o → Judges (pair_goal p effort) c o
+      by_option : (o : Option Proofs) → ProvesAll p.first effort (map (terms_of_form (size_of p.first.space)) (pair_obligations p c)) o
+          → Judges (pair_goal p effort) c o
       by_option (Some w) h = record { fits = f; proofs = h }
       by_option None n = λ fits. n

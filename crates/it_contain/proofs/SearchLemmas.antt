@@ -48,7 +48,8 @@ open_whole goal tries xs t o lt =
     let long : length xs ≤ tries = omega (arith, is) in
     (All-same (IsUnproved goal) _ _ (sym (take_all tries xs long)) o.unproved, n)
 
-pub first_later : (goal : Goal) (tries : ℕ) (xs ys : List Candidate) (t : ℕ) (c : Candidate) → IsOpen goal tries xs t → IsFirstProved goal (tries - t) ys c → IsFirstProved goal tries (xs ++ ys) c
+pub first_later : (goal : Goal) (tries : ℕ) (xs ys : List Candidate) (t : ℕ) (c : Candidate) → IsOpen goal tries xs t
+    → IsFirstProved goal (tries - t) ys c → IsFirstProved goal tries (xs ++ ys) c
 first_later goal tries xs ys t c o f =
     let within = f.within in
     let lt : t < tries = omega arith in
@@ -68,11 +69,16 @@ passed_all goal tries whole rest t p none le =
     let same : whole ≡ p.passed = p.parts ∙ ap (λ (zs : List Candidate). p.passed ++ zs) none ∙ append-nil p.passed in
     let n : length whole ≡ t = ap length same ∙ p.count in
     let long : length whole ≤ tries = omega (arith, n, le) in
-    record { unproved = subst (λ (cs : List Candidate). All (IsUnproved goal) cs) (sym same ∙ sym (take_all tries whole long)) p.unproved; tried_is = omega (arith, n, le) }
+    record {
+      unproved = subst (λ (cs : List Candidate). All (IsUnproved goal) cs)
+          (sym same ∙ sym (take_all tries whole long)) p.unproved;
+      tried_is = omega (arith, n, le);
+    }
 
 pub passed_most : (goal : Goal) (tries : ℕ) (whole rest : List Candidate) (t : ℕ) → IsPast goal whole rest t → t ≡ tries → IsOpen goal tries whole t
 passed_most goal tries whole rest t p most =
-    let first : take tries whole ≡ p.passed = ap₂ (λ (k : ℕ) (cs : List Candidate). take k cs) (sym (p.count ∙ most)) p.parts ∙ take-append_seam p.passed rest in
+    let first : take tries whole ≡ p.passed = ap₂ (λ (k : ℕ) (cs : List Candidate). take k cs) (sym (p.count ∙ most)) p.parts
+    ∙ take-append_seam p.passed rest in
     let parts : length whole ≡ length p.passed + length rest = ap length p.parts ∙ length-append p.passed rest in
     let count = p.count in
     record { unproved = subst (λ (cs : List Candidate). All (IsUnproved goal) cs) (sym first) p.unproved; tried_is = omega (arith, parts, count, most) }

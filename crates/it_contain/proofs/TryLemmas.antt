@@ -6,16 +6,22 @@ use Rattle.it_contain.specs.Search.{Goal, Proofs, IsProof, IsUnproved, IsFirstPr
 use Rattle.it_contain.specs.SearchSteps.{IsPast, Judges, KeepsPending, plans_after_try}
 use Rattle.it_contain.proofs.SearchLemmas.{passed_found, passed_more}
 
-pub try_finds : (goal : Goal) (tries : ℕ) (whole rest rest_after : List Candidate) (c : Candidate) (t : ℕ) (w : Proofs) (o : Option Proofs) (plans plans_after plans_first : List Plan)
+pub try_finds : (goal : Goal) (tries : ℕ) (whole rest rest_after : List Candidate) (c : Candidate) (t : ℕ) (w : Proofs) (o : Option Proofs)
+    (plans plans_after plans_first : List Plan)
     → Judges goal c o → plans_after ≡ plans_after_try c o plans → o ≡ Some w
     → IsPast goal whole rest t → rest ≡ c ∷ rest_after → t < tries → plans ≡ plans_first
     → IsFirstProved goal tries whole c × IsProof goal c w × (plans_after ≡ map (plan_after c) plans_first)
 try_finds goal tries whole rest rest_after c t w o plans plans_after plans_first judges after is passed parts lt same =
-    let proof : IsProof goal c w = subst (λ z. Judges goal c z) is judges in
-    (passed_found goal tries whole rest rest_after c t w passed parts proof lt, proof, after ∙ ap (λ z. plans_after_try c z plans) is ∙ ap (map (plan_after c)) same)
+    let proof : IsProof goal c w = subst (λ z. Judges goal c z) is judges in (
+      passed_found goal tries whole rest rest_after c t w passed parts proof lt,
+      proof,
+      after ∙ ap (λ z. plans_after_try c z plans) is
+          ∙ ap (map (plan_after c)) same,
+    )
 
 pub try_fails : (goal : Goal) (c : Candidate) (o : Option Proofs) (lists lists_after : List (List Candidate)) (plans plans_after : List Plan)
-    → Judges goal c o → KeepsPending o lists lists_after → plans_after ≡ plans_after_try c o plans → o ≡ None → IsUnproved goal c × (lists_after ≡ lists) × (plans_after ≡ plans)
+    → Judges goal c o → KeepsPending o lists lists_after → plans_after ≡ plans_after_try c o plans → o ≡ None
+    → IsUnproved goal c × (lists_after ≡ lists) × (plans_after ≡ plans)
 try_fails goal c o lists lists_after plans plans_after judges keeps after is =
     (subst (λ z. Judges goal c z) is judges, subst (λ z. KeepsPending z lists lists_after) is keeps, after ∙ ap (λ z. plans_after_try c z plans) is)
 

@@ -21,7 +21,8 @@ cons_inside xs x (t ∷ ts) =
     ∙ ap (λ zs. map (λ y. (x ∷ t) ++ y ∷ []) xs ++ zs) (cons_inside xs x ts)
 
 cons_outside : (xs ys : List ℕ) (ts : List (List ℕ))
-    → flat_map (λ x. map (λ t. x ∷ t) (flat_map (λ t. map (λ y. t ++ y ∷ []) xs) ts)) ys ≡ flat_map (λ t. map (λ y. t ++ y ∷ []) xs) (flat_map (λ x. map (λ t. x ∷ t) ts) ys)
+    → flat_map (λ x. map (λ t. x ∷ t) (flat_map (λ t. map (λ y. t ++ y ∷ []) xs) ts)) ys
+    ≡ flat_map (λ t. map (λ y. t ++ y ∷ []) xs) (flat_map (λ x. map (λ t. x ∷ t) ts) ys)
 cons_outside xs [] ts = refl
 cons_outside xs (z ∷ ys) ts =
     ap (λ zs. zs ++ flat_map (λ x. map (λ t. x ∷ t) (flat_map (λ t. map (λ y. t ++ y ∷ []) xs) ts)) ys) (cons_inside xs z ts)
@@ -71,7 +72,8 @@ at_tuples xs (suc a) k some lt =
     let parts : k ≡ k / length xs * length xs + k % length xs = omega (arith, mod-add-div' k (length xs)) in
     ap (λ ts. get_or ts k []) (tuples_by_last xs a)
     ∙ ap (λ n. get_or (flat_map (λ t. map (λ y. t ++ y ∷ []) xs) (tuples xs a)) n []) parts
-    ∙ at_blocks (λ t. map (λ y. t ++ y ∷ []) xs) (length xs) (λ t. length-map xs (λ y. t ++ y ∷ [])) (tuples xs a) (k / length xs) (k % length xs) [] [] far small
+    ∙ at_blocks (λ t. map (λ y. t ++ y ∷ []) xs) (length xs) (λ t. length-map xs (λ y. t ++ y ∷ [])) (tuples xs a) (k / length xs)
+    (k % length xs) [] [] far small
     ∙ get_or-map (λ y. get_or (tuples xs a) (k / length xs) [] ++ y ∷ []) xs (k % length xs) 0 [] small
     ∙ ap (λ t. t ++ get_or xs (k % length xs) 0 ∷ []) (at_tuples xs a (k / length xs) some prefix)
     ∙ sym (map-append (λ d. get_or xs d 0) (digits (length xs) a (k / length xs)) (k % length xs ∷ []))

@@ -3,7 +3,7 @@ use Rattle.std.specs.Prelude.{◌≡◌, ℕ, List, [], ◌++◌, map, get_or, l
 use Rattle.std.specs.List.{flat_map}
 use Rattle.it_space.specs.declared.answers.Certificate.{Certificate}
 use Rattle.it_space.specs.Answers.{certificate_view}
-use Rattle.it_space.specs.Problems.{ProblemView}
+use Rattle.it_problems.specs.Problems.{ProblemView}
 use Rattle.it_space.specs.Rows.{Terms}
 use Rattle.it_prove.specs.ClosedProblems.{IsClosedProblem}
 use Rattle.it_prove.specs.ProofViews.{ProofView, Yes, EndsWith, AreProofsOf}

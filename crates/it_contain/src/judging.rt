@@ -7,9 +7,10 @@ ghost use Rattle.it_contain.specs.Search.{pair_goal};
 ghost use Rattle.it_contain.specs.SearchSteps.{ProvesOne, ProvesAll, Judges, AreOutcomes};
 
 use crate::outcomes::{Outcomes, copy_outcome};
+use it_problems::Problem;
 use it_prove::Effort;
 use it_region::{Candidate, Pair, fits, obligations};
-use it_space::{Certificate, Problem, Row};
+use it_space::{Certificate, Row};
 use std::alloc::{AllocError, Global};
 
 /// The certificate with which the run about `target` ends, if it does. There is no run if its outcome is kept in `outcomes`.

@@ -7,8 +7,9 @@ ghost use Rattle.it_space.specs.Spaces.{size_of};
 ghost use Rattle.it_contain.specs.SearchSteps.{AreOutcomes, IsKept, ProvesOne};
 
 use indexmap::IndexMap;
+use it_problems::Problem;
 use it_prove::{ClosedProblem, Effort, Proof};
-use it_space::{Certificate, Problem, Row};
+use it_space::{Certificate, Row};
 use std::alloc::{AllocError, Global};
 
 /// The most rows that are kept.

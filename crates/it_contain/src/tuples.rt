@@ -2,6 +2,7 @@
 ghost use Rattle.std.specs.Prelude.{◌≡◌, ◌<◌, ◌≤◌, ◌++◌, ◌∷◌, ℕ, List, [], length, get_or, take, drop};
 ghost use Rattle.it_contain.specs.Digits.{digits, tuple_at, AreBelow, IsShapeWithin};
 ghost use Rattle.it_contain.specs.Shapes.{candidate_of, tuple_candidates};
+ghost use Rattle.it_space.specs.Spaces.{most_variables};
 
 use crate::proposer::Proposer;
 use crate::types::Shape;
@@ -16,7 +17,7 @@ pub trait PartSets {
 
     /// The number of sets in the list.
     fn count(variables: u8) -> u64
-        requires { variables ≤ 10 }
+        requires { variables ≤ most_variables }
         ensures value { result ≡ length (sets variables) }
         ensures some { 0 < result }
         ensures few { result ≤ 1024 }
@@ -24,7 +25,7 @@ pub trait PartSets {
 
     /// Set number `number` of the list, counted from 0.
     fn set_at(variables: u8, number: u64) -> VarSet
-        requires few { variables ≤ 10 }
+        requires few { variables ≤ most_variables }
         requires within { number < length (sets variables) }
         ensures { result ≡ get_or (sets variables) number 0 };
 }

@@ -69,19 +69,25 @@ copy_file_has_one bytes = elim (form_has_one copy_file _ copy_file_has copy_file
 ]
 
 -- a file whose letters were read
-pub copy_file_read : (bytes : List ℕ) (lines : List LineView) (copies : List CopyView) (ys : List BodyView) (r : List Letter) (qs : List QuestionView) → AreLinesOf bytes lines → read copy_file (letters_of_lines lines) ≡ Ok ((copies, ys), r) → qs ≡ with_texts (drop (length copies) lines) ys → IsCopyFile bytes copies qs
-copy_file_read bytes lines copies ys r qs cut e are = subst (IsCopyFile bytes copies) (sym are) (read_says copy_file _ copy_file_has copy_file_ends copies_with_questions bytes lines (copies, ys) r cut e)
+pub copy_file_read : (bytes : List ℕ) (lines : List LineView) (copies : List CopyView) (ys : List BodyView) (r : List Letter)
+    (qs : List QuestionView) → AreLinesOf bytes lines → read copy_file (letters_of_lines lines) ≡ Ok ((copies, ys), r)
+    → qs ≡ with_texts (drop (length copies) lines) ys → IsCopyFile bytes copies qs
+copy_file_read bytes lines copies ys r qs cut e are = subst (IsCopyFile bytes copies) (sym are)
+    (read_says copy_file _ copy_file_has copy_file_ends copies_with_questions bytes lines (copies, ys) r cut e)
 
 -- ---- the limits of questions
 
 -- questions that are read keep the limits
 pub bodies_keep_limits : (bodies : List Body) (ls r : List Letter) → read file ls ≡ Ok (map body_view bodies, r) → All (λ b. IsQuestion (body_view b)) bodies
-bodies_keep_limits bodies ls r e = from_map IsQuestion body_view bodies (All-weaker IsRead IsQuestion (λ q h. h.limits) (map body_view bodies) (file_limited ls r (map body_view bodies) e))
+bodies_keep_limits bodies ls r e = from_map IsQuestion body_view bodies
+    (All-weaker IsRead IsQuestion (λ q h. h.limits) (map body_view bodies) (file_limited ls r (map body_view bodies) e))
 
 -- with their texts too
 pub texts_keep_limits : (lines : List LineView) (ys : List BodyView) → All IsQuestion ys → All (λ (q : QuestionView). IsQuestion q.body) (with_texts lines ys)
 texts_keep_limits lines ys h = from_map IsQuestion (λ (q : QuestionView). q.body) (with_texts lines ys) (subst (All IsQuestion) (sym (body_again lines ys)) h)
 
-pub questions_keep_limits : (qs : List Question) (lines : List LineView) (ys : List BodyView) → All IsQuestion ys → map question_view qs ≡ with_texts lines ys → All (λ q. IsQuestion (question_body q)) qs
+pub questions_keep_limits : (qs : List Question) (lines : List LineView) (ys : List BodyView) → All IsQuestion ys
+    → map question_view qs ≡ with_texts lines ys → All (λ q. IsQuestion (question_body q)) qs
 questions_keep_limits qs lines ys h are =
-    from_map (λ (q : QuestionView). IsQuestion q.body) question_view qs (subst (All (λ (q : QuestionView). IsQuestion q.body)) (sym are) (texts_keep_limits lines ys h))
+    from_map (λ (q : QuestionView). IsQuestion q.body) question_view qs (subst (All (λ (q : QuestionView). IsQuestion q.body)) (sym are)
+    (texts_keep_limits lines ys h))

@@ -16,7 +16,8 @@ member_has n = has_take _ (Word []) refl
 
 over_has : Has over (record { begins = Zero ∷ WordBut [] ∷ []; skips = false; goes = Punctuation Comma ∷ [] })
 unfolding over more_members
-over_has = has_if _ _ _ _ _ (λ u. has_give _) (has_then _ _ _ _ (member_has _) (λ w. has_while _ _ _ _ _ (λ names u. has_then _ _ _ _ (member_has _) (λ w. has_give _) refl) refl) refl) refl
+over_has = has_if _ _ _ _ _ (λ u. has_give _) (has_then _ _ _ _ (member_has _)
+    (λ w. has_while _ _ _ _ _ (λ names u. has_then _ _ _ _ (member_has _) (λ w. has_give _) refl) refl) refl) refl
 
 copy_has : Has copy (record { begins = WordBut [] ∷ []; skips = false; goes = Punctuation Comma ∷ [] })
 unfolding copy
@@ -26,7 +27,8 @@ copy_has =
 
 pub copies_has : (cs : List CopyView) → Has (more_copies cs) (repeated (Keyword (codes "copy") ∷ []) (one_then (one_of (WordBut [] ∷ [])) nothing))
 unfolding more_copies
-copies_has cs = has_while _ _ _ _ _ (λ cs u. has_then _ _ _ _ (has_then _ _ _ _ copy_has (λ c. has_then _ _ _ _ end_has (λ u. has_give _) refl) refl) (λ c. has_give _) refl) refl
+copies_has cs = has_while _ _ _ _ _ (λ cs u. has_then _ _ _ _ (has_then _ _ _ _ copy_has
+    (λ c. has_then _ _ _ _ end_has (λ u. has_give _) refl) refl) (λ c. has_give _) refl) refl
 
 pub copy_file_has : Has copy_file (one_of (Keyword (codes "copy") ∷ Keyword (codes "vars") ∷ FileEnd ∷ []))
 unfolding copy_file

@@ -18,11 +18,13 @@ abbrev body_by : NamesView → List GivenView → List RelationView → VerbView
 body_by v g rows verb = record { names = v; lines = record { givens = g; rows = rows }; verb = verb }
 
 -- by its parts it is the question with copies
-pub built_is : (q : BodyView) (cs : List CopyView) (v : NamesView) (g : List GivenView) (rows : List RelationView) (verb : VerbView) → v ≡ with_copies q.names cs → g ≡ q.lines.givens ++ equations_of q.names cs → rows ≡ q.lines.rows → verb ≡ q.verb
+pub built_is : (q : BodyView) (cs : List CopyView) (v : NamesView) (g : List GivenView) (rows : List RelationView) (verb : VerbView)
+    → v ≡ with_copies q.names cs → g ≡ q.lines.givens ++ equations_of q.names cs → rows ≡ q.lines.rows → verb ≡ q.verb
     → body_by v g rows verb ≡ extended q cs
 built_is q cs v g rows verb ev eg er e =
     ap (λ (u : NamesView). body_by u g rows verb) ev ∙ ap (λ (h : List GivenView). body_by (with_copies q.names cs) h rows verb) eg
-    ∙ ap (λ (r : List RelationView). body_by (with_copies q.names cs) (q.lines.givens ++ equations_of q.names cs) r verb) er ∙ ap (body_by (with_copies q.names cs) (q.lines.givens ++ equations_of q.names cs) q.lines.rows) e
+    ∙ ap (λ (r : List RelationView). body_by (with_copies q.names cs) (q.lines.givens ++ equations_of q.names cs) r verb) er
+    ∙ ap (body_by (with_copies q.names cs) (q.lines.givens ++ equations_of q.names cs) q.lines.rows) e
 
 proof_of : (q : BodyView) (r : RelationView) → q.verb ≡ Prove r → IsProof q.verb
 proof_of q r e = subst IsProof (sym e) tt
@@ -31,25 +33,30 @@ made_of : (q : BodyView) (cs : List CopyView) (r : RelationView) → q.verb ≡ 
 made_of q cs r e placed = record { proof = proof_of q r e; placed = placed }
 
 -- the question with copies keeps the limits where it has few constraints
-pub few_is_question : (q : BodyView) (cs : List CopyView) (r : RelationView) (e : Question) → IsQuestion q → q.verb ≡ Prove r → first_unplaced 1 q.names cs ≡ None → question_body e ≡ extended q cs → length e.lines.givens.items ≤ 64 → IsQuestion (question_body e)
+pub few_is_question : (q : BodyView) (cs : List CopyView) (r : RelationView) (e : Question) → IsQuestion q → q.verb ≡ Prove r
+    → first_unplaced 1 q.names cs ≡ None → question_body e ≡ extended q cs → length e.lines.givens.items ≤ 64 → IsQuestion (question_body e)
 few_is_question q cs r e limits verb placed is few =
     let counted : length (question_body e).lines.givens ≤ 64 = omega (arith, length-map e.lines.givens.items given_view, few) in
     subst IsQuestion (sym is) (extended_is_question q cs limits (made_of q cs r verb placed) (subst (λ (b : BodyView). length b.lines.givens ≤ 64) is counted))
 
 -- and then it is the extension
-pub extension_of : (q : BodyView) (cs : List CopyView) (r : RelationView) (e : Question) → q.verb ≡ Prove r → first_unplaced 1 q.names cs ≡ None → question_body e ≡ extended q cs → length e.lines.givens.items ≤ 64 → IsLargeBy (question_body e) false
+pub extension_of : (q : BodyView) (cs : List CopyView) (r : RelationView) (e : Question) → q.verb ≡ Prove r
+    → first_unplaced 1 q.names cs ≡ None → question_body e ≡ extended q cs → length e.lines.givens.items ≤ 64
+    → IsLargeBy (question_body e) false
     → IsExtension q cs (question_body e)
 unfolding IsLargeBy
 extension_of q cs r e verb placed is few small =
     record { made = made_of q cs r verb placed; few = omega (arith, length-map e.lines.givens.items given_view, few); small = small; is = is }
 
-pub past_is_misfit : (q : BodyView) (cs : List CopyView) (r : RelationView) (e : Question) (f : CopyFault) → q.verb ≡ Prove r → first_unplaced 1 q.names cs ≡ None → question_body e ≡ extended q cs → IsPastLimits (question_body e) f → IsMisfit q cs f
+pub past_is_misfit : (q : BodyView) (cs : List CopyView) (r : RelationView) (e : Question) (f : CopyFault) → q.verb ≡ Prove r
+    → first_unplaced 1 q.names cs ≡ None → question_body e ≡ extended q cs → IsPastLimits (question_body e) f → IsMisfit q cs f
 unfolding IsLargeBy
 past_is_misfit q cs r e Memory verb placed is past = tt
 past_is_misfit q cs r e Verb verb placed is past = absurd past
 past_is_misfit q cs r e (Copy k) verb placed is past = absurd past
 past_is_misfit q cs r e Many verb placed is past = (made_of q cs r verb placed, subst (λ (b : BodyView). 64 < length b.lines.givens) is past)
-past_is_misfit q cs r e Large verb placed is past = let moved = subst (λ (b : BodyView). IsPastLimits b Large) is past in (made_of q cs r verb placed, moved.0, moved.1)
+past_is_misfit q cs r e Large verb placed is past = let moved = subst (λ (b : BodyView). IsPastLimits b Large) is past
+    in (made_of q cs r verb placed, moved.0, moved.1)
 
 pub unplaced_is_misfit : (q : BodyView) (cs : List CopyView) (r : RelationView) (f : CopyFault) → q.verb ≡ Prove r → IsUnplaced q.names cs f → IsMisfit q cs f
 unplaced_is_misfit q cs r Memory verb h = tt

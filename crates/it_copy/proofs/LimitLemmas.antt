@@ -15,13 +15,14 @@ use Rattle.it_syntax.specs.Givens.{GivenView, IsGivenOf, IsRelationOf}
 use Rattle.it_closure.specs.Closures.{is_inside}
 use Rattle.it_question.specs.Questions.{BodyView, VerbView, Prove, Eliminate, Contain}
 use Rattle.it_question.specs.Limits.{IsQuestion, IsVerbOver}
-use Rattle.it_question.specs.QuestionLimits.{most_lines, most_variables}
+use Rattle.it_question.specs.QuestionLimits.{most_lines}
 use Rattle.it_number.specs.Gcd.{gcd, gcd_within, lcm}
 use Rattle.it_demand.proofs.LimitLemmas.{wider_given, wider_relation}
 use Rattle.it_copy.specs.CopyLines.{CopyView}
 use Rattle.it_copy.specs.Equations.{apart_equation, copy_equations, inside_equation, term_of}
 use Rattle.it_copy.specs.Extensions.{CanBeMade, IsProof, equations_of, extended, first_unplaced, placed, with_copies, with_copy}
 use Rattle.it_copy.proofs.PlaceLemmas.{first_has_place, place_told}
+use Rattle.it_space.specs.Spaces.{most_variables}
 
 -- ---- the equations of one copy
 
@@ -70,7 +71,9 @@ module _ (n a over : ℕ) (old : a < n) (inside : over < 2 ^ n) where
   equations_are_givens =
       All-append (IsGivenOf (n + 1)) (map (inside_equation n a) (filter (λ s. is_inside s over) (span 0 (over + 1)))) (apart_equation n over ∷ [])
       (All-map (IsGivenOf (n + 1)) (inside_equation n a) (filter (λ s. is_inside s over) (span 0 (over + 1)))
-      (All-weaker (λ s. s < over + 1) (λ s. IsGivenOf (n + 1) (inside_equation n a s)) inside_is_given (filter (λ s. is_inside s over) (span 0 (over + 1))) (All-filter (λ s. is_inside s over) (λ s. s < over + 1) (span 0 (over + 1)) numbers_below)))
+      (All-weaker (λ s. s < over + 1) (λ s. IsGivenOf (n + 1) (inside_equation n a s)) inside_is_given
+      (filter (λ s. is_inside s over) (span 0 (over + 1))) (All-filter (λ s. is_inside s over) (λ s. s < over + 1)
+      (span 0 (over + 1)) numbers_below)))
       (All-cons (IsGivenOf (n + 1)) (apart_equation n over) [] apart_is_given (All-nil (IsGivenOf (n + 1))))
 
 -- ---- the equations of all copies, over all variables
@@ -82,7 +85,8 @@ pub record AreAdded (v all : NamesView) (equations : List GivenView) : Type 0 wh
   pub rates : all.rates ≡ v.rates
   pub givens : All (IsGivenOf (length all.variables)) equations
 
-copies_are_added : (k : ℕ) (v : NamesView) (cs : List CopyView) → length v.variables ≤ most_variables → first_unplaced k v cs ≡ None → AreAdded v (with_copies v cs) (equations_of v cs)
+copies_are_added : (k : ℕ) (v : NamesView) (cs : List CopyView) → length v.variables ≤ most_variables → first_unplaced k v cs ≡ None
+    → AreAdded v (with_copies v cs) (equations_of v cs)
 copies_are_added k v [] few e = record { more = omega arith; few = few; rates = refl; givens = All-nil (IsGivenOf (length v.variables)) }
 copies_are_added k v (c ∷ cs) few e =
     let x = first_has_place k v c cs (placed v c) refl e in
@@ -91,25 +95,31 @@ copies_are_added k v (c ∷ cs) few e =
     let later = copies_are_added (k + 1) (with_copy v c) cs (omega (arith, counted, p.room)) x.3 in
     let all = with_copies (with_copy v c) cs in
     let own : All (IsGivenOf (length all.variables)) (copy_equations (length v.variables) x.0 x.1) =
-    All-weaker (IsGivenOf (length v.variables + 1)) (IsGivenOf (length all.variables)) (λ g h. wider_given (length v.variables + 1) (length all.variables) (omega (arith, counted, later.more)) g h)
+    All-weaker (IsGivenOf (length v.variables + 1)) (IsGivenOf (length all.variables))
+    (λ g h. wider_given (length v.variables + 1) (length all.variables) (omega (arith, counted, later.more)) g h)
     (copy_equations (length v.variables) x.0 x.1) (equations_are_givens (length v.variables) x.0 x.1 p.old p.over) in
     record {
       more = omega (arith, counted, later.more);
       few = later.few;
       rates = later.rates;
-      givens = All-append (IsGivenOf (length all.variables)) (option_map_or (λ (x : ℕ × ℕ). copy_equations (length v.variables) x.0 x.1) (placed v c) []) (equations_of (with_copy v c) cs)
-          (subst (λ (o : Option (ℕ × ℕ)). All (IsGivenOf (length all.variables)) (option_map_or (λ (x : ℕ × ℕ). copy_equations (length v.variables) x.0 x.1) o [])) (sym x.2) own) later.givens;
+      givens = All-append (IsGivenOf (length all.variables)) (option_map_or (λ (x : ℕ × ℕ). copy_equations (length v.variables) x.0 x.1)
+          (placed v c) []) (equations_of (with_copy v c) cs)
+          (subst (λ (o : Option (ℕ × ℕ)). All (IsGivenOf (length all.variables))
+          (option_map_or (λ (x : ℕ × ℕ). copy_equations (length v.variables) x.0 x.1) o [])) (sym x.2) own) later.givens;
     }
 
 -- ---- the question with copies
 
-proof_over : (q : BodyView) (cs : List CopyView) (added : AreAdded q.names (with_copies q.names cs) (equations_of q.names cs)) (verb : VerbView) → IsProof verb → IsVerbOver q.names verb → IsVerbOver (with_copies q.names cs) verb
+proof_over : (q : BodyView) (cs : List CopyView) (added : AreAdded q.names (with_copies q.names cs) (equations_of q.names cs))
+    (verb : VerbView) → IsProof verb → IsVerbOver q.names verb → IsVerbOver (with_copies q.names cs) verb
 proof_over q cs added (Prove r) proof h =
-    subst (λ (m : ℕ). IsRelationOf (length (with_copies q.names cs).variables) m r) (sym (ap length added.rates)) (wider_relation (length q.names.variables) (length (with_copies q.names cs).variables) (length q.names.rates) added.more r h)
+    subst (λ (m : ℕ). IsRelationOf (length (with_copies q.names cs).variables) m r) (sym (ap length added.rates))
+    (wider_relation (length q.names.variables) (length (with_copies q.names cs).variables) (length q.names.rates) added.more r h)
 proof_over q cs added (Eliminate rates) proof h = absurd proof
 proof_over q cs added (Contain first second tries) proof h = absurd proof
 
-pub extended_is_question : (q : BodyView) (cs : List CopyView) → IsQuestion q → CanBeMade q cs → length (extended q cs).lines.givens ≤ most_lines → IsQuestion (extended q cs)
+pub extended_is_question : (q : BodyView) (cs : List CopyView) → IsQuestion q → CanBeMade q cs
+    → length (extended q cs).lines.givens ≤ most_lines → IsQuestion (extended q cs)
 extended_is_question q cs k made few =
     let added = copies_are_added 1 q.names cs k.few made.placed in
     let n = length q.names.variables in
@@ -120,9 +130,11 @@ extended_is_question q cs k made few =
       lines = record {
         few_givens = few;
         few_rows = k.lines.few_rows;
-        givens = All-append (IsGivenOf m) q.lines.givens (equations_of q.names cs) (All-weaker (IsGivenOf n) (IsGivenOf m) (λ g h. wider_given n m added.more g h) q.lines.givens k.lines.givens) added.givens;
+        givens = All-append (IsGivenOf m) q.lines.givens (equations_of q.names cs)
+            (All-weaker (IsGivenOf n) (IsGivenOf m) (λ g h. wider_given n m added.more g h) q.lines.givens k.lines.givens) added.givens;
         rows = All-weaker (IsRelationOf n (length q.names.rates)) (IsRelationOf m (length (with_copies q.names cs).rates))
-            (λ r h. subst (λ (rates : ℕ). IsRelationOf m rates r) (sym (ap length added.rates)) (wider_relation n m (length q.names.rates) added.more r h)) q.lines.rows k.lines.rows;
+            (λ r h. subst (λ (rates : ℕ). IsRelationOf m rates r) (sym (ap length added.rates))
+            (wider_relation n m (length q.names.rates) added.more r h)) q.lines.rows k.lines.rows;
       };
       verb = proof_over q cs added q.verb made.proof k.verb;
     }

@@ -19,4 +19,5 @@ yes_by_copies q e cs r limits verb extension holds p h =
     let n = length q.names.variables in
     let m = length e.names.variables in
     let relation : IsRelationOf n (length q.names.rates) r = subst (IsVerbOver q.names) verb limits.verb in
-    holds_same n (length q.names.rates) m n h.image p (turned n (length q.names.rates) n m p h.image h.agree) r relation (holds h.image h.polymatroid h.lines_hold)
+    holds_same n (length q.names.rates) m n h.image p (turned n (length q.names.rates) n m p h.image h.agree) r relation
+    (holds h.image h.polymatroid h.lines_hold)

@@ -1,7 +1,7 @@
 -- What the size of its table says of a question.
 use Rattle.std.proofs.Common.{◌≡◌, ℕ, ◌≤◌, Bool, true, false, nat_lt, arith}
 use Rattle.std.proofs.lemmas.Bool.Decides.{nat_tests}
-use Rattle.it_space.specs.Problems.{ProblemView}
+use Rattle.it_problems.specs.Problems.{ProblemView}
 use Rattle.it_closure.specs.Sizes.{table_size}
 use Rattle.it_question.specs.Questions.{BodyView}
 use Rattle.it_question.specs.TableSizes.{most_entries}

@@ -11,11 +11,15 @@ use Rattle.it_question.specs.Cursors.{line_view}
 use Rattle.it_question.specs.Lines.{LineView, letters_of_lines}
 
 -- what is read from the first of the lines on is read of their letters
-pub items_are_read : {A : Type 0} (f : Form A) (items lines : List Line) (start : List Letter) (read : Reads A) → start ≡ letters_of_lines (map line_view lines) → lines ≡ items → forms.read f start ≡ read → forms.read f (letters_of_lines (map line_view items)) ≡ read
+pub items_are_read : {A : Type 0} (f : Form A) (items lines : List Line) (start : List Letter) (read : Reads A)
+    → start ≡ letters_of_lines (map line_view lines) → lines ≡ items → forms.read f start ≡ read
+    → forms.read f (letters_of_lines (map line_view items)) ≡ read
 items_are_read f items lines start read h e r = sym (ap (forms.read f) (h ∙ ap (λ (ls : List Line). letters_of_lines (map line_view ls)) e)) ∙ r
 
 -- and so for a fault
-pub begun_stop : {A : Type 0} (f : Form A) (items lines : List Line) (start : List Letter) (stop : Stop) (rest : List Letter) → start ≡ letters_of_lines (map line_view lines) → lines ≡ items → StopsAs stop rest (forms.read f start) → StopsAs stop rest (forms.read f (letters_of_lines (map line_view items)))
+pub begun_stop : {A : Type 0} (f : Form A) (items lines : List Line) (start : List Letter) (stop : Stop) (rest : List Letter)
+    → start ≡ letters_of_lines (map line_view lines) → lines ≡ items → StopsAs stop rest (forms.read f start)
+    → StopsAs stop rest (forms.read f (letters_of_lines (map line_view items)))
 begun_stop f items lines start stop rest h e s = subst (StopsAs stop rest) (sym (items_are_read f items lines start (forms.read f start) h e refl)) s
 
 -- what holds of lines holds of equal lines

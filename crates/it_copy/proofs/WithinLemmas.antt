@@ -21,7 +21,8 @@ abbrev IfKept : Reads (List CopyView × List BodyView) → Type 0
 IfKept (Ok w) = All IsRead w.0.1
 IfKept (Err e) = Unit {0}
 
-by_file : (cs : List CopyView) (x : Reads (List BodyView)) → ((z : List BodyView × List Letter) → x ≡ Ok z → All IsRead z.0) → IfKept (x >>= λ z. Ok ((cs, z.0), z.1))
+by_file : (cs : List CopyView) (x : Reads (List BodyView)) → ((z : List BodyView × List Letter) → x ≡ Ok z → All IsRead z.0)
+    → IfKept (x >>= λ z. Ok ((cs, z.0), z.1))
 by_file cs (Ok z) h = h z refl
 by_file cs (Err e) h = tt
 

@@ -7,12 +7,13 @@ use Rattle.it_syntax.specs.NamesViews.{NamesView, index_of}
 use Rattle.it_syntax.specs.Givens.{GivenView}
 use Rattle.it_question.specs.NewNames.{Variable, is_taken, with_name}
 use Rattle.it_question.specs.Questions.{VerbView, Prove, Eliminate, Contain, BodyView}
-use Rattle.it_question.specs.QuestionLimits.{most_lines, most_variables}
+use Rattle.it_question.specs.QuestionLimits.{most_lines}
 use Rattle.it_question.specs.TableSizes.{HasSmallTable}
 use Rattle.it_copy.specs.declared.types.CopyFault.{CopyFault}
 use Rattle.it_copy.specs.declared.types.CopyFault.TheVariants as faults
 use Rattle.it_copy.specs.CopyLines.{CopyView}
 use Rattle.it_copy.specs.Equations.{copy_equations}
+use Rattle.it_space.specs.Spaces.{most_variables}
 
 -- the set s with the variables of these names; none if a name isn't that of a variable
 abbrev pub set_with : List (List ℕ) → ℕ → List (List ℕ) → Option ℕ

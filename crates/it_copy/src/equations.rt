@@ -5,6 +5,7 @@ ghost use Rattle.it_syntax.specs.Givens.{given_view};
 ghost use Rattle.it_polymatroid.specs.Elementals.{span};
 ghost use Rattle.it_closure.specs.Closures.{is_inside};
 ghost use Rattle.it_copy.specs.Equations.{apart_equation, copy_equations, equal_atoms, term_of, inside_equations};
+ghost use Rattle.it_space.specs.Spaces.{most_variables};
 
 use it_space::VarSet;
 use it_syntax::types::{Atom, Expr, Given, Relation, Sign, Term};
@@ -104,7 +105,7 @@ fn add_inside(
 
 /// The equation that the copy is independent, given `over`, of the variables before it that aren't in `over`.
 fn apart(alloc: Global, fresh: u8, over: VarSet) -> Result<Given, AllocError>
-    requires fresh { fresh ≤ 10 }
+    requires fresh { fresh ≤ most_variables }
     requires inside { over < 2 ^ fresh }
     ensures { IfOk result (λ g. given_view g ≡ apart_equation fresh over) }
 {
@@ -118,7 +119,7 @@ fn apart(alloc: Global, fresh: u8, over: VarSet) -> Result<Given, AllocError>
 
 /// The variables before `fresh` that aren't in `over`.
 fn others(fresh: u8, over: VarSet) -> VarSet
-    requires fresh { fresh ≤ 10 }
+    requires fresh { fresh ≤ most_variables }
     requires inside { over < 2 ^ fresh }
     ensures { result ≡ (2 ^ fresh - 1) - over }
 {
@@ -127,7 +128,7 @@ fn others(fresh: u8, over: VarSet) -> VarSet
 
 /// The set of the variables before `fresh`.
 fn before(fresh: u8) -> VarSet
-    requires { fresh ≤ 10 }
+    requires { fresh ≤ most_variables }
     ensures { result ≡ 2 ^ fresh - 1 }
 {
     VarSet::from_number((1u16 << fresh) - 1)
@@ -142,7 +143,7 @@ pub fn add_equations(
     old: u8,
     over: VarSet,
 ) -> Result<(), AllocError>
-    requires fresh { fresh ≤ 10 }
+    requires fresh { fresh ≤ most_variables }
     requires old { old < 16 }
     requires inside { over < 2 ^ fresh }
     ensures { OnOk result (map given_view givens.new.items ≡ map given_view givens.old.items ++ copy_equations fresh old over) }

@@ -6,8 +6,8 @@ use Rattle.std.proofs.lemmas.List.Elements.{All-head, All-tail}
 use Rattle.std.proofs.lemmas.Nat.{or_lt, pow_pos}
 use Rattle.it_space.proofs.ListLemmas.{drop_item}
 use Rattle.it_space.specs.declared.spaces.Space.{Space}
-use Rattle.it_space.specs.declared.problems.Origin.TheVariants.{Given}
-use Rattle.it_space.specs.declared.problems.Constraint.{Constraint}
+use Rattle.it_problems.specs.declared.problems.Origin.TheVariants.{Given}
+use Rattle.it_problems.specs.declared.problems.Constraint.{Constraint}
 use Rattle.it_syntax.specs.declared.types.Atom.{Atom}
 use Rattle.it_syntax.specs.declared.types.Atom.TheVariants.{Mutual}
 use Rattle.it_syntax.specs.Meaning.{atom_at}
@@ -59,13 +59,17 @@ pub record IsChained (space : Space) (line parts : ℕ) (sets : List ℕ) (past 
       → ArePartsFrom 1 space line parts (equations space.variables (links sets)) (constraints ++ more)
 
 -- one link further
-pub chained-more : (space : Space) (line parts : ℕ) (sets : List ℕ) (past i here next : ℕ) (old new : List Constraint) (c : Constraint) → i + 1 < length sets → here ≡ get_or sets i here → next ≡ get_or sets (i + 1) next
-    → here < 2 ^ space.variables → States space (equation (λ p. atom_at space.variables p (Mutual past next here))) c → ComesFrom (Given line i parts) c → new ≡ old ++ c ∷ []
+pub chained-more : (space : Space) (line parts : ℕ) (sets : List ℕ) (past i here next : ℕ) (old new : List Constraint) (c : Constraint)
+    → i + 1 < length sets → here ≡ get_or sets i here → next ≡ get_or sets (i + 1) next
+    → here < 2 ^ space.variables → States space (equation (λ p. atom_at space.variables p (Mutual past next here))) c
+    → ComesFrom (Given line i parts) c → new ≡ old ++ c ∷ []
     → IsChained space line parts sets past i old → IsChained space line parts sets (bit_or past here) (i + 1) new
 chained-more space line parts sets past i here next old new c h is was low states comes e u = record {
   below = or_lt space.variables past here u.below low;
-  all = λ more m. subst (λ (cs : List Constraint). ArePartsFrom 1 space line parts (equations space.variables (links sets)) cs) (sym (ap (λ (cs : List Constraint). cs ++ more) e ∙ append_assoc old (c ∷ []) more))
-      (u.all (c ∷ more) (subst (λ (ls : List Atom). ArePartsFrom i space line parts (equations space.variables ls) (c ∷ more)) (sym (links-more past sets i here next h is was)) (record { placed = (comes, m.placed); stated = (states, m.stated) })));
+  all = λ more m. subst (λ (cs : List Constraint). ArePartsFrom 1 space line parts (equations space.variables (links sets)) cs)
+      (sym (ap (λ (cs : List Constraint). cs ++ more) e ∙ append_assoc old (c ∷ []) more))
+      (u.all (c ∷ more) (subst (λ (ls : List Atom). ArePartsFrom i space line parts (equations space.variables ls) (c ∷ more))
+      (sym (links-more past sets i here next h is was)) (record { placed = (comes, m.placed); stated = (states, m.stated) })));
 }
 
 -- after the last link
@@ -74,5 +78,8 @@ pub chained-end : (space : Space) (line parts : ℕ) (sets : List ℕ) (past i :
 chained-end space line parts sets past i constraints h e u =
     let count : parts ≡ length (equations space.variables (links sets)) = e ∙ sym (chain-length space.variables sets) in
     let whole : ArePartsFrom 1 space line parts (equations space.variables (links sets)) (constraints ++ []) =
-    u.all [] (subst (λ (ls : List Atom). ArePartsFrom i space line parts (equations space.variables ls) []) (sym (links-end past sets i h)) (record { placed = tt; stated = tt })) in
-    subst (λ (n : ℕ). ArePartsFrom 1 space line n (equations space.variables (links sets)) constraints) count (subst (λ (cs : List Constraint). ArePartsFrom 1 space line parts (equations space.variables (links sets)) cs) (append-nil constraints) whole)
+    u.all [] (subst (λ (ls : List Atom). ArePartsFrom i space line parts (equations space.variables ls) []) (sym (links-end past sets i h))
+    (record { placed = tt; stated = tt })) in
+    subst (λ (n : ℕ). ArePartsFrom 1 space line n (equations space.variables (links sets)) constraints) count
+    (subst (λ (cs : List Constraint). ArePartsFrom 1 space line parts (equations space.variables (links sets)) cs)
+    (append-nil constraints) whole)

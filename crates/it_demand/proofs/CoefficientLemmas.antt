@@ -19,11 +19,13 @@ set-largest [] i y = omega arith
 set-largest (x ∷ xs) zero y = omega (arith, ints)
 set-largest (x ∷ xs) (suc i) y = omega (arith, set-largest xs i y)
 
-set-total : (first : ℕ) (xs : List ℤ) (i : ℕ) (y : ℤ) (p : ℕ → ℤ) → i < length xs → dense_form_from first (set xs i (get_or xs i (pos 0) +ℤ y)) p ≡ dense_form_from first xs p +ℤ y *ℤ p (first + i)
+set-total : (first : ℕ) (xs : List ℤ) (i : ℕ) (y : ℤ) (p : ℕ → ℤ) → i < length xs
+    → dense_form_from first (set xs i (get_or xs i (pos 0) +ℤ y)) p ≡ dense_form_from first xs p +ℤ y *ℤ p (first + i)
 set-total first [] i y p h = absurd (omega arith)
 set-total first (x ∷ xs) zero y p h =
     let e : first ≡ first + 0 = omega arith in
-    let step : (x +ℤ y) *ℤ p first +ℤ dense_form_from (first + 1) xs p ≡ (x *ℤ p first +ℤ dense_form_from (first + 1) xs p) +ℤ y *ℤ p first = omega (arith, zring) in
+    let step : (x +ℤ y) *ℤ p first +ℤ dense_form_from (first + 1) xs p ≡ (x *ℤ p first +ℤ dense_form_from (first + 1) xs p)
+    +ℤ y *ℤ p first = omega (arith, zring) in
     step ∙ ap (λ n. (x *ℤ p first +ℤ dense_form_from (first + 1) xs p) +ℤ y *ℤ p n) e
 set-total first (x ∷ xs) (suc i) y p h =
     let e : first + 1 + i ≡ first + suc i = omega arith in
@@ -49,7 +51,8 @@ same_lists (x ∷ xs) (y ∷ ys) e h = ap₂ (λ z zs. z ∷ zs) (h 0) (same_lis
 pub form_added : (xs ys : List ℤ) (i : ℕ) (y : ℤ) → i < length xs → IsAdded xs ys i y → IsFormAdded xs ys (unsigned_abs y) (λ p. y *ℤ p i)
 form_added xs ys i y h a =
     let there : IsAdded xs (set xs i (number_at xs i +ℤ y)) i y = added-set xs i y (number_at xs i +ℤ y) h refl a.fits in
-    let e : ys ≡ set xs i (number_at xs i +ℤ y) = same_lists (set xs i (number_at xs i +ℤ y)) ys (a.complete ∙ sym there.complete) (λ k. ap (λ (f : ℕ → ℤ). f k) a.same ∙ sym (ap (λ (f : ℕ → ℤ). f k) there.same)) in
+    let e : ys ≡ set xs i (number_at xs i +ℤ y) = same_lists (set xs i (number_at xs i +ℤ y)) ys (a.complete ∙ sym there.complete)
+    (λ k. ap (λ (f : ℕ → ℤ). f k) a.same ∙ sym (ap (λ (f : ℕ → ℤ). f k) there.same)) in
     subst (λ (zs : List ℤ). IsFormAdded xs zs (unsigned_abs y) (λ p. y *ℤ p i)) (sym e) (with_set xs i y h)
 
 -- the sum stays within 128 bits
@@ -82,17 +85,22 @@ added-same xs ys m n f g h same a = record {
 }
 
 -- a subtracted value
-pub added_negated : (xs ys : List ℤ) (t : ℤ) (a : ℕ) → IsFormAdded xs ys (unsigned_abs (neg_ℤ t)) (λ p. neg_ℤ t *ℤ p a) → IsFormAdded xs ys (unsigned_abs t) (λ p. neg_ℤ t *ℤ p a)
-added_negated xs ys t a f = added-same xs ys (unsigned_abs (neg_ℤ t)) (unsigned_abs t) (λ p. neg_ℤ t *ℤ p a) (λ p. neg_ℤ t *ℤ p a) (omega (arith, ints)) (λ p. refl) f
+pub added_negated : (xs ys : List ℤ) (t : ℤ) (a : ℕ) → IsFormAdded xs ys (unsigned_abs (neg_ℤ t)) (λ p. neg_ℤ t *ℤ p a)
+    → IsFormAdded xs ys (unsigned_abs t) (λ p. neg_ℤ t *ℤ p a)
+added_negated xs ys t a f = added-same xs ys (unsigned_abs (neg_ℤ t)) (unsigned_abs t) (λ p. neg_ℤ t *ℤ p a) (λ p. neg_ℤ t *ℤ p a)
+    (omega (arith, ints)) (λ p. refl) f
 
 times_difference : (t x y : ℤ) → t *ℤ x +ℤ neg_ℤ t *ℤ y ≡ t *ℤ (x -ℤ y)
 times_difference t x y = omega (arith, zring)
 
 -- H(A|B), where s is A and B
-pub added_entropy : (xs ys zs : List ℤ) (t : ℤ) (s given : ℕ) → IsFormAdded xs ys (unsigned_abs t) (λ p. t *ℤ p s) → IsFormAdded ys zs (unsigned_abs t) (λ p. neg_ℤ t *ℤ p given)
+pub added_entropy : (xs ys zs : List ℤ) (t : ℤ) (s given : ℕ) → IsFormAdded xs ys (unsigned_abs t) (λ p. t *ℤ p s)
+    → IsFormAdded ys zs (unsigned_abs t) (λ p. neg_ℤ t *ℤ p given)
     → IsFormAdded xs zs (2 * unsigned_abs t) (λ p. t *ℤ (p s -ℤ p given))
-added_entropy xs ys zs t s given a b = added-same xs zs (unsigned_abs t + unsigned_abs t) (2 * unsigned_abs t) (λ p. t *ℤ p s +ℤ neg_ℤ t *ℤ p given) (λ p. t *ℤ (p s -ℤ p given))
-    (omega arith) (λ p. times_difference t (p s) (p given)) (added-trans xs ys zs (unsigned_abs t) (unsigned_abs t) (λ p. t *ℤ p s) (λ p. neg_ℤ t *ℤ p given) a b)
+added_entropy xs ys zs t s given a b = added-same xs zs (unsigned_abs t + unsigned_abs t) (2 * unsigned_abs t)
+    (λ p. t *ℤ p s +ℤ neg_ℤ t *ℤ p given) (λ p. t *ℤ (p s -ℤ p given))
+    (omega arith) (λ p. times_difference t (p s) (p given)) (added-trans xs ys zs (unsigned_abs t) (unsigned_abs t) (λ p. t *ℤ p s)
+    (λ p. neg_ℤ t *ℤ p given) a b)
 
 -- I(A;B|C), where a is A and C, b is B and C, and s all three
 pub added_mutual : (vs ws xs ys zs : List ℤ) (t : ℤ) (a b s given : ℕ)
@@ -101,7 +109,8 @@ pub added_mutual : (vs ws xs ys zs : List ℤ) (t : ℤ) (a b s given : ℕ)
     → IsFormAdded vs zs (4 * unsigned_abs t) (λ p. t *ℤ ((p a +ℤ p b) -ℤ (p s +ℤ p given)))
 added_mutual vs ws xs ys zs t a b s given f g h k =
     let m : ℕ = unsigned_abs t in
-    added-same vs zs (m + m + m + m) (4 * m) (λ p. ((t *ℤ p a +ℤ t *ℤ p b) +ℤ neg_ℤ t *ℤ p s) +ℤ neg_ℤ t *ℤ p given) (λ p. t *ℤ ((p a +ℤ p b) -ℤ (p s +ℤ p given)))
+    added-same vs zs (m + m + m + m) (4 * m) (λ p. ((t *ℤ p a +ℤ t *ℤ p b) +ℤ neg_ℤ t *ℤ p s) +ℤ neg_ℤ t *ℤ p given)
+    (λ p. t *ℤ ((p a +ℤ p b) -ℤ (p s +ℤ p given)))
     (omega arith) (λ p. times_mutual t (p a) (p b) (p s) (p given))
     (added-trans vs ys zs (m + m + m) m (λ p. (t *ℤ p a +ℤ t *ℤ p b) +ℤ neg_ℤ t *ℤ p s) (λ p. neg_ℤ t *ℤ p given)
     (added-trans vs xs ys (m + m) m (λ p. t *ℤ p a +ℤ t *ℤ p b) (λ p. neg_ℤ t *ℤ p s) (added-trans vs ws xs m m (λ p. t *ℤ p a) (λ p. t *ℤ p b) f g) h) k)

@@ -3,8 +3,8 @@ use Rattle.std.proofs.Common.{◌≡◌, ℕ, ◌+◌, sym, ap, subst, ◌∙◌
 use Rattle.std.specs.List.{flat_map}
 use Rattle.std.proofs.lemmas.List.{map-append}
 use Rattle.std.proofs.lemmas.List.Concat.{flat_map-append}
-use Rattle.it_space.specs.declared.problems.Constraint.{Constraint}
-use Rattle.it_space.specs.declared.problems.Origin.{Origin}
+use Rattle.it_problems.specs.declared.problems.Constraint.{Constraint}
+use Rattle.it_problems.specs.declared.problems.Origin.{Origin}
 use Rattle.it_space.specs.declared.spaces.Space.{Space}
 use Rattle.it_polymatroid.specs.Certificates.{Form}
 use Rattle.it_syntax.specs.declared.types.Given.{Given}
@@ -38,13 +38,16 @@ abbrev pub forms_wanted : ℕ → ℕ → List Relation → List Form
 forms_wanted n i relations = system_forms n (map relation_view relations)
 
 -- constraints of the lines before place i, which go before those of the lines from there on
-pub record AreStatedSoFar {X : Type 0} (s : Space) (places : ℕ → List X → List Origin) (wanted : ℕ → List X → List Demand) (xs : List X) (i : ℕ) (found : List Constraint) : Type 0 where
+pub record AreStatedSoFar {X : Type 0} (s : Space) (places : ℕ → List X → List Origin) (wanted : ℕ → List X → List Demand) (xs : List X)
+    (i : ℕ) (found : List Constraint) : Type 0 where
   pub placed : AreMatched ComesFrom places xs i found
   pub stated : AreMatched (States s) wanted xs i found
 
 -- one line further
-pub stated-more : {X : Type 0} (s : Space) (places : ℕ → List X → List Origin) (wanted : ℕ → List X → List Demand) (xs : List X) (i : ℕ) (x : X) (own_places : List Origin) (own_demands : List Demand) (old new own : List Constraint)
-    → i < length xs → x ≡ get_or xs i x → places i (x ∷ drop (i + 1) xs) ≡ own_places ++ places (i + 1) (drop (i + 1) xs) → wanted i (x ∷ drop (i + 1) xs) ≡ own_demands ++ wanted (i + 1) (drop (i + 1) xs)
+pub stated-more : {X : Type 0} (s : Space) (places : ℕ → List X → List Origin) (wanted : ℕ → List X → List Demand) (xs : List X) (i : ℕ)
+    (x : X) (own_places : List Origin) (own_demands : List Demand) (old new own : List Constraint)
+    → i < length xs → x ≡ get_or xs i x → places i (x ∷ drop (i + 1) xs) ≡ own_places ++ places (i + 1) (drop (i + 1) xs)
+    → wanted i (x ∷ drop (i + 1) xs) ≡ own_demands ++ wanted (i + 1) (drop (i + 1) xs)
     → AreStated s own_places own_demands own → new ≡ old ++ own → AreStatedSoFar s places wanted xs i old → AreStatedSoFar s places wanted xs (i + 1) new
 stated-more s places wanted xs i x own_places own_demands old new own below is placed stated a e u = record {
   placed = matched-more ComesFrom places xs i x own_places old new own below is placed a.placed e u.placed;
@@ -52,39 +55,49 @@ stated-more s places wanted xs i x own_places own_demands old new own below is p
 }
 
 -- after the last line
-pub stated-end : {X : Type 0} (s : Space) (places : ℕ → List X → List Origin) (wanted : ℕ → List X → List Demand) (xs : List X) (i : ℕ) (found : List Constraint) → length xs ≤ i → places i [] ≡ [] → wanted i [] ≡ []
+pub stated-end : {X : Type 0} (s : Space) (places : ℕ → List X → List Origin) (wanted : ℕ → List X → List Demand) (xs : List X) (i : ℕ)
+    (found : List Constraint) → length xs ≤ i → places i [] ≡ [] → wanted i [] ≡ []
     → AreStatedSoFar s places wanted xs i found → AreStated s (places 0 xs) (wanted 0 xs) found
 stated-end s places wanted xs i found h none nothing u = record {
   placed = matched-end ComesFrom places xs i found h none u.placed;
   stated = matched-end (States s) wanted xs i found h nothing u.stated;
 }
 
-pub given_origins-split : (n first i : ℕ) (g : Given) (gs : List Given) → given_origins_wanted n first i (g ∷ gs) ≡ line_parts (first + i) (demands n (given_view g)) ++ given_origins_wanted n first (i + 1) gs
-given_origins-split n first i g gs = let e : first + i + 1 ≡ first + (i + 1) = omega arith in ap (λ (l : ℕ). line_parts (first + i) (demands n (given_view g)) ++ given_origins n l (map given_view gs)) e
+pub given_origins-split : (n first i : ℕ) (g : Given) (gs : List Given)
+    → given_origins_wanted n first i (g ∷ gs) ≡ line_parts (first + i) (demands n (given_view g)) ++ given_origins_wanted n first (i + 1) gs
+given_origins-split n first i g gs = let e : first + i + 1 ≡ first + (i + 1) = omega arith
+    in ap (λ (l : ℕ). line_parts (first + i) (demands n (given_view g)) ++ given_origins n l (map given_view gs)) e
 
-pub row_origins-split : (first i : ℕ) (r : Relation) (rs : List Relation) → row_origins_wanted first i (r ∷ rs) ≡ row_origins (first + i) (relation_view r ∷ []) ++ row_origins_wanted first (i + 1) rs
-row_origins-split first i r rs = let e : first + i + 1 ≡ first + (i + 1) = omega arith in ap (λ (l : ℕ). row_origins (first + i) (relation_view r ∷ []) ++ row_origins l (map relation_view rs)) e
+pub row_origins-split : (first i : ℕ) (r : Relation) (rs : List Relation)
+    → row_origins_wanted first i (r ∷ rs) ≡ row_origins (first + i) (relation_view r ∷ []) ++ row_origins_wanted first (i + 1) rs
+row_origins-split first i r rs = let e : first + i + 1 ≡ first + (i + 1) = omega arith
+    in ap (λ (l : ℕ). row_origins (first + i) (relation_view r ∷ []) ++ row_origins l (map relation_view rs)) e
 
 -- ---- lines put together
 
-pub stated-append : (s : Space) (places others : List Origin) (ds es : List Demand) (cs ts all : List Constraint) → AreStated s places ds cs → AreStated s others es ts → all ≡ cs ++ ts → AreStated s (places ++ others) (ds ++ es) all
+pub stated-append : (s : Space) (places others : List Origin) (ds es : List Demand) (cs ts all : List Constraint) → AreStated s places ds cs
+    → AreStated s others es ts → all ≡ cs ++ ts → AreStated s (places ++ others) (ds ++ es) all
 stated-append s places others ds es cs ts all a b e = subst (λ (x : List Constraint). AreStated s (places ++ others) (ds ++ es) x) (sym e) (record {
   placed = zip-append ComesFrom places others cs ts a.placed b.placed;
   stated = zip-append (States s) ds es cs ts a.stated b.stated;
 })
 
-given_origins-append : (n line : ℕ) (cs ds : List GivenView) → given_origins n line (cs ++ ds) ≡ given_origins n line cs ++ given_origins n (line + length cs) ds
+given_origins-append : (n line : ℕ) (cs ds : List GivenView) → given_origins n line (cs ++ ds) ≡ given_origins n line cs
+    ++ given_origins n (line + length cs) ds
 given_origins-append n line [] ds = let e : line ≡ line + 0 = omega arith in ap (λ (l : ℕ). given_origins n l ds) e
 given_origins-append n line (c ∷ cs) ds =
     let e : line + 1 + length cs ≡ line + length (c ∷ cs) = omega arith in
     let parts : List Origin = line_parts line (demands n c) in
-    ap (λ (xs : List Origin). parts ++ xs) (given_origins-append n (line + 1) cs ds ∙ ap (λ (l : ℕ). given_origins n (line + 1) cs ++ given_origins n l ds) e) ∙ sym (append_assoc parts (given_origins n (line + 1) cs) (given_origins n (line + length (c ∷ cs)) ds))
+    ap (λ (xs : List Origin). parts ++ xs) (given_origins-append n (line + 1) cs ds
+    ∙ ap (λ (l : ℕ). given_origins n (line + 1) cs ++ given_origins n l ds) e)
+    ∙ sym (append_assoc parts (given_origins n (line + 1) cs) (given_origins n (line + length (c ∷ cs)) ds))
 
 row_origins-append : (line : ℕ) (rs ts : List RelationView) → row_origins line (rs ++ ts) ≡ row_origins line rs ++ row_origins (line + length rs) ts
 row_origins-append line [] ts = let e : line ≡ line + 0 = omega arith in ap (λ (l : ℕ). row_origins l ts) e
 row_origins-append line (r ∷ rs) ts =
     let e : line + 1 + length rs ≡ line + length (r ∷ rs) = omega arith in
-    ap (λ (xs : List Origin). row_origins line (r ∷ []) ++ xs) (row_origins-append (line + 1) rs ts ∙ ap (λ (l : ℕ). row_origins (line + 1) rs ++ row_origins l ts) e)
+    ap (λ (xs : List Origin). row_origins line (r ∷ []) ++ xs) (row_origins-append (line + 1) rs ts
+    ∙ ap (λ (l : ℕ). row_origins (line + 1) rs ++ row_origins l ts) e)
 
 -- the constraints of givens, and of more givens after them
 pub givens-append : (s : Space) (n next : ℕ) (gs more : List GivenView) (cs ts all : List Constraint) → next ≡ 1 + length gs

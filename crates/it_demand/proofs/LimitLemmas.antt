@@ -32,7 +32,12 @@ wider_relation n w m h r a = record {
 }
 
 wider_sets : (n w least most : ℕ) → n ≤ w → (sets : List ℕ) → AreSetsOf n least most sets → AreSetsOf w least most sets
-wider_sets n w least most h sets a = record { some = a.some; few = a.few; within = All-weaker (λ s. s < 2 ^ n) (λ s. s < 2 ^ w) (λ s l. wider_set n w s h l) sets a.within }
+wider_sets n w least most h sets a = record {
+  some = a.some;
+  few = a.few;
+  within = All-weaker (λ s. s < 2 ^ n) (λ s. s < 2 ^ w)
+      (λ s l. wider_set n w s h l) sets a.within;
+}
 
 pub wider_given : (n w : ℕ) → n ≤ w → (c : GivenView) → IsGivenOf n c → IsGivenOf w c
 wider_given n w h (Relation r) a = wider_relation n w 0 h r a
@@ -66,7 +71,13 @@ parts-few n (Function value argument) a = omega arith
 pub givens-few : (n : ℕ) (cs : List GivenView) → All (IsGivenOf n) cs → length (flat_map (demands n) cs) ≤ 14 * length cs
 givens-few n [] a = omega arith
 givens-few n (c ∷ cs) a =
-    omega (arith, length-append (demands n c) (flat_map (demands n) cs), parts-few n c (All-head (IsGivenOf n) c cs a), givens-few n cs (All-tail (IsGivenOf n) c cs a))
+    omega (
+      arith,
+      length-append (demands n c) (flat_map (demands n) cs),
+      parts-few n c (All-head (IsGivenOf n) c cs a),
+      givens-few n cs
+          (All-tail (IsGivenOf n) c cs a),
+    )
 
 -- there is an origin for each demand
 parts-length : (line parts part count : ℕ) → length (part_origins line parts part count) ≡ count

@@ -15,7 +15,8 @@ pub record IsUnderWay {X : Type 0} (form : List X → Form) (bound : ℕ) (old n
   pub sum : (p : ℕ → ℤ) → dense_form now p +ℤ form (drop i items) p ≡ dense_form old p +ℤ form items p
 
 -- one item further
-pub under_way-more : {X : Type 0} (form : List X → Form) (one : Form) (bound m : ℕ) (old now new : List ℤ) (items : List X) (i : ℕ) (x : X) → i < length items → x ≡ get_or items i x
+pub under_way-more : {X : Type 0} (form : List X → Form) (one : Form) (bound m : ℕ) (old now new : List ℤ) (items : List X) (i : ℕ) (x : X)
+    → i < length items → x ≡ get_or items i x
     → ((p : ℕ → ℤ) → form (x ∷ drop (i + 1) items) p ≡ one p +ℤ form (drop (i + 1) items) p) → m ≤ bound → IsFormAdded now new m one
     → IsUnderWay form bound old now items i → IsUnderWay form bound old new items (i + 1)
 under_way-more form one bound m old now new items i x h is splits small a u = record {
@@ -32,7 +33,8 @@ under_way-more form one bound m old now new items i x h is splits small a u = re
 abbrev pub side_form : ℕ → ℕ → Bool → List Term → Form
 side_form n m negative terms p = signed_by negative (side_at n p m terms)
 
-pub side-splits : (n m : ℕ) (negative : Bool) (t : Term) (ts : List Term) (times : ℤ) → times ≡ signed_by negative (signed_by t.negative (pos (multiplicity m t)))
+pub side-splits : (n m : ℕ) (negative : Bool) (t : Term) (ts : List Term) (times : ℤ)
+    → times ≡ signed_by negative (signed_by t.negative (pos (multiplicity m t)))
     → (p : ℕ → ℤ) → side_form n m negative (t ∷ ts) p ≡ times *ℤ atom_at n p t.atom +ℤ side_form n m negative ts p
 side-splits n m negative t ts times e p = signed_sum negative times (signed_by t.negative (pos (multiplicity m t))) (atom_at n p t.atom) (side_at n p m ts) e
   where

@@ -4,10 +4,10 @@ use Rattle.std.specs.List.{flat_map}
 use Rattle.std.proofs.lemmas.Int.{ints}
 use Rattle.std.proofs.lemmas.List.Elements.{All-nil, All-cons, All-head, All-tail, All-append}
 use Rattle.it_space.specs.declared.spaces.Space.{Space}
-use Rattle.it_space.specs.declared.problems.Kind.{Kind}
-use Rattle.it_space.specs.declared.problems.Origin.{Origin}
-use Rattle.it_space.specs.declared.problems.Constraint.{Constraint}
-use Rattle.it_space.specs.Problems.{Meets, IsMet, AreMet}
+use Rattle.it_problems.specs.declared.problems.Kind.{Kind}
+use Rattle.it_problems.specs.declared.problems.Origin.{Origin}
+use Rattle.it_problems.specs.declared.problems.Constraint.{Constraint}
+use Rattle.it_problems.specs.Problems.{Meets, IsMet, AreMet}
 use Rattle.it_space.specs.Rows.{Terms, value}
 use Rattle.it_syntax.specs.declared.types.Atom.{Atom}
 use Rattle.it_syntax.specs.declared.types.Sign.{Sign}
@@ -34,7 +34,8 @@ states_same s d c p z h = (
 )
 
 -- constraints are met where what they state is
-pub stated_met : (s : Space) (places : List Origin) (ds : List Demand) (cs : List Constraint) (p : ℕ → ℤ) → p 0 ≡ pos 0 → AreStated s places ds cs → AreMet p cs ↔ All (IsSatisfied p) ds
+pub stated_met : (s : Space) (places : List Origin) (ds : List Demand) (cs : List Constraint) (p : ℕ → ℤ) → p 0 ≡ pos 0
+    → AreStated s places ds cs → AreMet p cs ↔ All (IsSatisfied p) ds
 stated_met s places ds cs p z h = zip-same (States s) (IsSatisfied p) (IsMet p) (λ d c t. states_same s d c p z t) ds cs h.stated
 
 -- one demand alone
@@ -54,21 +55,27 @@ links_met n p [] = (λ m. All-nil (λ link. atom_at n p link ≡ pos 0), λ m. A
 links_met n p (l ∷ ls) =
     let rest = links_met n p ls in
     let one : Demand = equation (λ q. atom_at n q l) in (
-      λ m. All-cons (λ link. atom_at n p link ≡ pos 0) l ls (All-head (IsSatisfied p) one (equations n ls) m) (rest.0 (All-tail (IsSatisfied p) one (equations n ls) m)),
-      λ m. All-cons (IsSatisfied p) one (equations n ls) (All-head (λ link. atom_at n p link ≡ pos 0) l ls m) (rest.1 (All-tail (λ link. atom_at n p link ≡ pos 0) l ls m)),
+      λ m. All-cons (λ link. atom_at n p link ≡ pos 0) l ls (All-head (IsSatisfied p) one (equations n ls) m)
+          (rest.0 (All-tail (IsSatisfied p) one (equations n ls) m)),
+      λ m. All-cons (IsSatisfied p) one (equations n ls) (All-head (λ link. atom_at n p link ≡ pos 0) l ls m)
+          (rest.1 (All-tail (λ link. atom_at n p link ≡ pos 0) l ls m)),
     )
 
 pub iff_trans : {A B C : Type 0} → A ↔ B → B ↔ C → A ↔ C
 iff_trans f g = (λ a. g.0 (f.0 a), λ c. f.1 (g.1 c))
 
 demands_satisfied : (n : ℕ) (p : ℕ → ℤ) (c : GivenView) → All (IsSatisfied p) (demands n c) ↔ IsTrueAt n p c
-demands_satisfied n p (Relation r) = iff_trans (one_demand_met p _) (demand_compares r.sign (side_at n p (common_denominator r) r.left) (side_at n p (common_denominator r) r.right))
+demands_satisfied n p (Relation r) = iff_trans (one_demand_met p _) (demand_compares r.sign (side_at n p (common_denominator r) r.left)
+    (side_at n p (common_denominator r) r.right))
 demands_satisfied n p (Markov sets) = links_met n p (links sets)
-demands_satisfied n p (Independent members given) = iff_trans (one_demand_met p _) (difference_is_zero (sum_of_conditionals n p members given) (atom_at n p (Entropy (union_of members) given)))
+demands_satisfied n p (Independent members given) = iff_trans (one_demand_met p _)
+    (difference_is_zero (sum_of_conditionals n p members given) (atom_at n p (Entropy (union_of members) given)))
 demands_satisfied n p (Function value argument) = one_demand_met p _
 
-pub given_met : (s : Space) (line : ℕ) (c : GivenView) (cs : List Constraint) → AreParts s line (demands s.variables c) cs → (p : ℕ → ℤ) → p 0 ≡ pos 0 → AreMet p cs ↔ IsTrueAt s.variables p c
-given_met s line c cs h p z = iff_trans (stated_met s (line_parts line (demands s.variables c)) (demands s.variables c) cs p z h) (demands_satisfied s.variables p c)
+pub given_met : (s : Space) (line : ℕ) (c : GivenView) (cs : List Constraint) → AreParts s line (demands s.variables c) cs → (p : ℕ → ℤ)
+    → p 0 ≡ pos 0 → AreMet p cs ↔ IsTrueAt s.variables p c
+given_met s line c cs h p z = iff_trans (stated_met s (line_parts line (demands s.variables c)) (demands s.variables c) cs p z h)
+    (demands_satisfied s.variables p c)
 
 -- those of several lines, where each is true
 pub givens_satisfied : (n : ℕ) (cs : List GivenView) (p : ℕ → ℤ) → All (IsSatisfied p) (flat_map (demands n) cs) ↔ All (IsTrueAt n p) cs
@@ -92,7 +99,8 @@ rows_satisfied n (r ∷ rs) p =
     )
 
 -- the rows of a relation are at least 0 where it holds
-pub targets_met : (s : Sign) (x y : ℤ) (form : Form) (p : ℕ → ℤ) → form p ≡ signed_difference s (x -ℤ y) → All (λ (f : Form). pos 0 ≤ℤ f p) (inequalities_of (kind_of s) form) ↔ Relates s x y
+pub targets_met : (s : Sign) (x y : ℤ) (form : Form) (p : ℕ → ℤ) → form p ≡ signed_difference s (x -ℤ y)
+    → All (λ (f : Form). pos 0 ≤ℤ f p) (inequalities_of (kind_of s) form) ↔ Relates s x y
 targets_met AtLeast x y form p e = (
   λ m. omega (arith, ints, e, All-head (λ (f : Form). pos 0 ≤ℤ f p) form [] m),
   λ h. All-cons (λ (f : Form). pos 0 ≤ℤ f p) form [] (omega (arith, ints, e, h)) (All-nil (λ (f : Form). pos 0 ≤ℤ f p)),
@@ -118,7 +126,10 @@ forms_met n (r ∷ rs) p =
       λ m. All-append P (targets n r) (system_forms n rs) (one.1 (All-head (Holds n p) r rs m)) (rest.1 (All-tail (Holds n p) r rs m)),
     )
 
-pub system_met : (s : Space) (rs : List RelationView) (rows : List Terms) → AreRowsOf s (system_forms s.variables rs) rows → (p : ℕ → ℤ) → p 0 ≡ pos 0 → AreAtLeastZero p rows ↔ All (Holds s.variables p) rs
+pub system_met : (s : Space) (rs : List RelationView) (rows : List Terms) → AreRowsOf s (system_forms s.variables rs) rows → (p : ℕ → ℤ)
+    → p 0 ≡ pos 0 → AreAtLeastZero p rows ↔ All (Holds s.variables p) rs
 system_met s rs rows h p z = iff_trans
-    (zip-same (IsRowOf s) (λ (f : Form). pos 0 ≤ℤ f p) (λ row. pos 0 ≤ℤ value row p) (λ f row t. (λ m. subst (λ (x : ℤ). pos 0 ≤ℤ x) (t.same p z) m, λ m. subst (λ (x : ℤ). pos 0 ≤ℤ x) (sym (t.same p z)) m)) (system_forms s.variables rs) rows h)
+    (zip-same (IsRowOf s) (λ (f : Form). pos 0 ≤ℤ f p) (λ row. pos 0 ≤ℤ value row p)
+    (λ f row t. (λ m. subst (λ (x : ℤ). pos 0 ≤ℤ x) (t.same p z) m, λ m. subst (λ (x : ℤ). pos 0 ≤ℤ x) (sym (t.same p z)) m))
+    (system_forms s.variables rs) rows h)
     (forms_met s.variables rs p)

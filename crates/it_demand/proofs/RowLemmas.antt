@@ -9,9 +9,11 @@ use Rattle.it_polymatroid.specs.Certificates.{Form}
 use Rattle.it_demand.specs.Coefficients.{dense_form, largest, IsFormAdded, IsNoLarger}
 use Rattle.it_demand.specs.Canonical.{IsRowOf}
 
-pub row_of_sums : {E : Type 0} (s : Space) (old new : List ℤ) (m : ℕ) (form : Form) (row : Result Terms E) → length old ≡ size_of s + 1 → length old ≤ 1040 → largest old ≡ 0
+pub row_of_sums : {E : Type 0} (s : Space) (old new : List ℤ) (m : ℕ) (form : Form) (row : Result Terms E) → length old ≡ size_of s + 1
+    → length old ≤ 1040 → largest old ≡ 0
     → ((p : ℕ → ℤ) → dense_form old p ≡ pos 0) → m ≤ 2 ^ 106 → IsFormAdded old new m form
-    → IfOk row (λ r. (p : ℕ → ℤ) → p 0 ≡ pos 0 → value r p ≡ dense_form new p) → IfOk row (IsOver (length new - 1)) → IfOk row IsCanonical → IfOk row (IsNoLarger new) → IfOk row (IsRowOf s form)
+    → IfOk row (λ r. (p : ℕ → ℤ) → p 0 ≡ pos 0 → value r p ≡ dense_form new p) → IfOk row (IsOver (length new - 1)) → IfOk row IsCanonical
+    → IfOk row (IsNoLarger new) → IfOk row (IsRowOf s form)
 row_of_sums s old new m form (Err e) size few null none below a same up can fit = tt
 row_of_sums s old new m form (Ok row) size few null none below a same up can fit = record {
   same = λ p z. same p z ∙ a.sum p ∙ ap (λ x. x +ℤ form p) (none p) ∙ omega (arith, ints);
@@ -19,6 +21,7 @@ row_of_sums s old new m form (Ok row) size few null none below a same up can fit
   canonical = can;
   small = record {
     few = omega (arith, fit.few, a.complete, few);
-    each = All-weaker (λ (t : ℕ × ℤ). unsigned_abs t.1 ≤ largest new) (λ t. unsigned_abs t.1 ≤ 2 ^ 106) (λ t h. omega (arith, h, a.small, null, below)) row fit.each;
+    each = All-weaker (λ (t : ℕ × ℤ). unsigned_abs t.1 ≤ largest new) (λ t. unsigned_abs t.1 ≤ 2 ^ 106)
+        (λ t h. omega (arith, h, a.small, null, below)) row fit.each;
   };
 }

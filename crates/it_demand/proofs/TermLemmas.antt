@@ -10,7 +10,8 @@ use Rattle.it_space.proofs.SumLemmas.{terms_up_to}
 
 pub terms_canonical : (first : ℕ) (xs : List ℤ) → largest xs < 2 ^ 127 → Ascends first (terms_from first xs)
 terms_canonical first [] h = tt
-terms_canonical first (pos zero ∷ xs) h = ascends_lower first (first + 1) (terms_from (first + 1) xs) (omega arith) (terms_canonical (first + 1) xs (omega arith))
+terms_canonical first (pos zero ∷ xs) h = ascends_lower first (first + 1) (terms_from (first + 1) xs) (omega arith)
+    (terms_canonical (first + 1) xs (omega arith))
 terms_canonical first (pos (suc n) ∷ xs) h = (omega arith, λ e. absurd (omega (arith, ints)), omega (arith, ints), terms_canonical (first + 1) xs (omega arith))
 terms_canonical first (negsuc n ∷ xs) h = (omega arith, λ e. absurd (omega (arith, ints)), omega (arith, ints), terms_canonical (first + 1) xs (omega arith))
 
@@ -43,8 +44,10 @@ terms-few first (negsuc n ∷ xs) = omega (arith, terms-few (first + 1) xs)
 terms_below : (m first : ℕ) (xs : List ℤ) → largest xs ≤ m → All (λ t. unsigned_abs t.1 ≤ m) (terms_from first xs)
 terms_below m first [] h = All-nil (λ t. unsigned_abs t.1 ≤ m)
 terms_below m first (pos zero ∷ xs) h = terms_below m (first + 1) xs (omega arith)
-terms_below m first (pos (suc n) ∷ xs) h = All-cons (λ t. unsigned_abs t.1 ≤ m) (first, pos (suc n)) (terms_from (first + 1) xs) (omega arith) (terms_below m (first + 1) xs (omega arith))
-terms_below m first (negsuc n ∷ xs) h = All-cons (λ t. unsigned_abs t.1 ≤ m) (first, negsuc n) (terms_from (first + 1) xs) (omega arith) (terms_below m (first + 1) xs (omega arith))
+terms_below m first (pos (suc n) ∷ xs) h = All-cons (λ t. unsigned_abs t.1 ≤ m) (first, pos (suc n)) (terms_from (first + 1) xs)
+    (omega arith) (terms_below m (first + 1) xs (omega arith))
+terms_below m first (negsuc n ∷ xs) h = All-cons (λ t. unsigned_abs t.1 ≤ m) (first, negsuc n) (terms_from (first + 1) xs) (omega arith)
+    (terms_below m (first + 1) xs (omega arith))
 
 pub row_no_larger : (xs : List ℤ) (ts : Terms) → ts ≡ terms_from 1 (drop 1 xs) → IsNoLarger xs ts
 row_no_larger [] ts e = rw e (record { few = omega arith; each = All-nil (λ t. unsigned_abs t.1 ≤ 0) })

@@ -1,9 +1,9 @@
 -- Rows and constraints are determined by what they state.
 use Rattle.std.proofs.Common.{◌≡◌, ℕ, zero, suc, ◌≤◌, ℤ, pos, [], ◌∷◌, List, refl, sym, ap, ap₂, ◌∙◌, arith}
 use Rattle.std.specs.List.{AllZip, zip, AllByRecursion as Every}
-use Rattle.it_space.specs.declared.problems.Kind.{Kind}
-use Rattle.it_space.specs.declared.problems.Origin.{Origin}
-use Rattle.it_space.specs.declared.problems.Constraint.{Constraint}
+use Rattle.it_problems.specs.declared.problems.Kind.{Kind}
+use Rattle.it_problems.specs.declared.problems.Origin.{Origin}
+use Rattle.it_problems.specs.declared.problems.Constraint.{Constraint}
 use Rattle.it_space.specs.Rows.{Terms, IsCanonical, IsOver, coefficient, one_at, value}
 use Rattle.it_space.specs.Spaces.{size_of}
 use Rattle.it_space.proofs.CanonicalRows.{rows_by_coefficients, other_is}
@@ -21,7 +21,8 @@ none_at_zero size [] u = refl
 none_at_zero size (t ∷ ts) u = other_is t ts 0 (λ e. omega (arith, u.0.0, e)) ∙ none_at_zero size ts u.1
 
 -- two canonical rows over the coordinates with one value at every map that is 0 at the empty set
-pub told_by_values : (size : ℕ) (r t : Terms) → IsOver size r → IsOver size t → IsCanonical r → IsCanonical t → ((p : ℕ → ℤ) → p 0 ≡ pos 0 → value r p ≡ value t p) → r ≡ t
+pub told_by_values : (size : ℕ) (r t : Terms) → IsOver size r → IsOver size t → IsCanonical r → IsCanonical t
+    → ((p : ℕ → ℤ) → p 0 ≡ pos 0 → value r p ≡ value t p) → r ≡ t
 told_by_values size r t up up_also canonical also_canonical values = rows_by_coefficients 0 r t canonical also_canonical same_coefficients
   where
     zero_at : (x : Terms) → IsOver size x → coefficient x 0 ≡ pos 0
@@ -35,7 +36,8 @@ pub one_row : OneRow
 one_row s form r t a b = told_by_values (size_of s) r t a.coordinates b.coordinates a.canonical b.canonical (λ p z. a.same p z ∙ sym (b.same p z))
 
 -- lists are determined if each item is
-pub zip-told : {A B : Type 0} (R : A → B → Type 0) → ((x : A) (y z : B) → R x y → R x z → y ≡ z) → (xs : List A) (ys zs : List B) → AllZip R xs ys → AllZip R xs zs → ys ≡ zs
+pub zip-told : {A B : Type 0} (R : A → B → Type 0) → ((x : A) (y z : B) → R x y → R x z → y ≡ z) → (xs : List A) (ys zs : List B)
+    → AllZip R xs ys → AllZip R xs zs → ys ≡ zs
 zip-told R f [] [] [] a b = refl
 zip-told R f [] [] (z ∷ zs) a b = absurd b
 zip-told R f [] (y ∷ ys) zs a b = absurd a
@@ -55,5 +57,6 @@ same_constraint r t j k o p e f g = ap₂ (λ x y. constraint x y o) e f ∙ ap 
 
 pub one_constraint_list : OneConstraintList
 one_constraint_list s places ds cs others a b = zip-told (λ (d : Origin × Demand) (c : Constraint). ComesFrom d.0 c × States s d.1 c)
-    (λ d x y h k. same_constraint x.row y.row x.kind y.kind x.origin y.origin (one_row s d.1.form x.row y.row h.1.row k.1.row) (h.1.kind ∙ sym k.1.kind) (h.0 ∙ sym k.0)) (zip places ds) cs others
+    (λ d x y h k. same_constraint x.row y.row x.kind y.kind x.origin y.origin (one_row s d.1.form x.row y.row h.1.row k.1.row)
+    (h.1.kind ∙ sym k.1.kind) (h.0 ∙ sym k.0)) (zip places ds) cs others
     (zip-both ComesFrom (States s) places ds cs a.placed a.stated) (zip-both ComesFrom (States s) places ds others b.placed b.stated)

@@ -1,7 +1,7 @@
 -- The targets of a relation: the forms that it says to be at least 0.
 use Rattle.std.specs.Prelude.{ℕ, neg_ℤ, List, [], ◌∷◌}
-use Rattle.it_space.specs.declared.problems.Kind.{Kind}
-use Rattle.it_space.specs.declared.problems.Kind.TheVariants.{Inequality, Equation}
+use Rattle.it_problems.specs.declared.problems.Kind.{Kind}
+use Rattle.it_problems.specs.declared.problems.Kind.TheVariants.{Inequality, Equation}
 use Rattle.it_polymatroid.specs.Certificates.{Form}
 use Rattle.it_syntax.specs.Meaning.{RelationView}
 use Rattle.it_demand.specs.Canonical.{form_of}

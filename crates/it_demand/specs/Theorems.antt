@@ -1,11 +1,11 @@
 -- A form has one row, and demands have one list of constraints.
 use Rattle.std.specs.Prelude.{◌≡◌, List}
 use Rattle.it_space.specs.declared.spaces.Space.{Space}
-use Rattle.it_space.specs.declared.problems.Constraint.{Constraint}
+use Rattle.it_problems.specs.declared.problems.Constraint.{Constraint}
 use Rattle.it_space.specs.Rows.{Terms}
 use Rattle.it_polymatroid.specs.Certificates.{Form}
 use Rattle.it_demand.specs.Canonical.{IsRowOf}
-use Rattle.it_space.specs.declared.problems.Origin.{Origin}
+use Rattle.it_problems.specs.declared.problems.Origin.{Origin}
 use Rattle.it_demand.specs.Demands.{Demand}
 use Rattle.it_demand.specs.Origins.{AreStated}
 use Rattle.it_demand.specs.SystemForms.{AreRowsOf}

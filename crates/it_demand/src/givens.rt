@@ -1,6 +1,6 @@
 //! The constraints of `given` lines.
 ghost use Rattle.std.specs.Prelude.{◌≡◌, ℕ, ℤ, pos, ◌+◌, ◌*◌, ◌-◌, ◌^◌, ◌<◌, ◌↔◌, [], ◌∷◌, length, IfOk};
-ghost use Rattle.it_space.specs.Problems.{AreMet};
+ghost use Rattle.it_problems.specs.Problems.{AreMet};
 ghost use Rattle.it_space.specs.Spaces.{IsSpace, size_of};
 ghost use Rattle.it_syntax.specs.Givens.{Markov, given_view, union_of, sum_of_conditionals, IsTrueAt, AreSetsOf, IsGivenOf};
 ghost use Rattle.it_syntax.specs.Meaning.{IsAtomOf, atom_at};
@@ -11,7 +11,8 @@ ghost use Rattle.it_demand.specs.Coefficients.{IsFormAdded, largest};
 
 use crate::coefficients::Coefficients;
 use crate::relations::canon;
-use it_space::{Constraint, Kind, Origin, Row, Space, VarSet};
+use it_problems::{Constraint, Kind, Origin};
+use it_space::{Row, Space, VarSet};
 use it_syntax::types::{Atom, Given, Sign};
 use std::alloc::{AllocError, Global};
 

@@ -8,7 +8,8 @@ ghost use Rattle.it_demand.specs.Origins.{AreStated, given_origins, row_origins}
 
 use crate::givens::{canon_given, kind_of};
 use crate::relations::canon;
-use it_space::{Constraint, Origin, Space};
+use it_problems::{Constraint, Origin};
+use it_space::Space;
 use it_syntax::types::{Given, Relation};
 use std::alloc::{AllocError, Global};
 

@@ -2,8 +2,8 @@
 use Rattle.std.proofs.Common.{◌≡◌, ℕ, zero, suc, ◌+◌, ◌-◌, ◌*◌, ◌/◌, ◌^◌, ◌<◌, ◌≤◌, ℤ, pos, List, [], ◌∷◌, length, map, get_or, refl, sym, ap, subst, ◌∙◌, arith, length-append, All}
 use Rattle.std.proofs.lemmas.List.{get_or_default, get_or-map, get_or_append_left, get_or-append_right, length-map}
 use Rattle.std.proofs.Math.Pow.{pow_mono}
-use Rattle.it_space.specs.declared.problems.Kind.TheVariants.{Inequality}
-use Rattle.it_space.specs.declared.problems.Constraint.{Constraint}
+use Rattle.it_problems.specs.declared.problems.Kind.TheVariants.{Inequality}
+use Rattle.it_problems.specs.declared.problems.Constraint.{Constraint}
 use Rattle.it_space.specs.Rows.{Terms, coefficient, IsOver}
 use Rattle.std.proofs.lemmas.List.Elements.{All-head, All-tail}
 use Rattle.it_space.proofs.CanonicalRows.{other_is}
@@ -21,7 +21,8 @@ pub length-listed : (n : ℕ) (cs : List Constraint) → length (generator_list 
 unfolding generator_list
 length-listed n cs = simp (length-append, length-map)
 
-pub front_is_elemental : (n : ℕ) (cs : List Constraint) (i : ℕ) → i < length (elementals n) → generator_at (generator_list n cs) i ≡ of_elemental n (elemental_at n i)
+pub front_is_elemental : (n : ℕ) (cs : List Constraint) (i : ℕ) → i < length (elementals n)
+    → generator_at (generator_list n cs) i ≡ of_elemental n (elemental_at n i)
 unfolding generator_list
 front_is_elemental n cs i h =
     get_or_append_left (map (of_elemental n) (elementals n)) (map of_constraint cs) (record { kind = Inequality; row = [] }) i (simp length-map h)
@@ -31,7 +32,8 @@ pub after_is_constraint : (n : ℕ) (cs : List Constraint) (i : ℕ) (d : Constr
     → generator_at (generator_list n cs) i ≡ of_constraint (get_or cs (i - length (elementals n)) d)
 unfolding generator_list
 after_is_constraint n cs i d h l =
-    get_or-append_right (map (of_elemental n) (elementals n)) (map of_constraint cs) (length (elementals n)) i (record { kind = Inequality; row = [] }) (simp length-map) h
+    get_or-append_right (map (of_elemental n) (elementals n)) (map of_constraint cs) (length (elementals n)) i
+    (record { kind = Inequality; row = [] }) (simp length-map) h
     ∙ get_or-map of_constraint cs (i - length (elementals n)) d (record { kind = Inequality; row = [] }) (omega (arith, length-listed n cs, l))
 
 -- there are few elemental inequalities
@@ -39,7 +41,8 @@ pub few_elementals : (n : ℕ) → n ≤ 10 → length (elementals n) ≤ 20000
 few_elementals n h =
     let power : 2 ^ n ≤ 2 ^ 10 = pow_mono {i = n} {j = 10} h in
     let square : n * (n - 1) ≤ 10 * 10 = product n (n - 1) 10 10 h (omega arith) in
-    let both : length (index_pairs n) * (2 ^ n / 4) ≤ 50 * 256 = product (length (index_pairs n)) (2 ^ n / 4) 50 256 (omega (arith, length-index_pairs n)) (omega arith) in
+    let both : length (index_pairs n) * (2 ^ n / 4) ≤ 50 * 256 = product (length (index_pairs n)) (2 ^ n / 4) 50 256
+    (omega (arith, length-index_pairs n)) (omega arith) in
     omega (arith, length-elementals n)
   where
     product : (a b c d : ℕ) → a ≤ c → b ≤ d → a * b ≤ c * d
@@ -49,10 +52,12 @@ few_elementals n h =
 pub no_coefficient_beyond : (size : ℕ) (ts : Terms) (c : ℕ) → IsOver size ts → size < c → coefficient ts c ≡ pos 0
 no_coefficient_beyond size [] c u h = refl
 no_coefficient_beyond size (t ∷ ts) c u h =
-    other_is t ts c (λ e. omega (arith, (All-head (λ (t : ℕ × ℤ). (1 ≤ t.0) × (t.0 ≤ size)) t ts u).1)) ∙ no_coefficient_beyond size ts c (All-tail (λ (t : ℕ × ℤ). (1 ≤ t.0) × (t.0 ≤ size)) t ts u) h
+    other_is t ts c (λ e. omega (arith, (All-head (λ (t : ℕ × ℤ). (1 ≤ t.0) × (t.0 ≤ size)) t ts u).1))
+    ∙ no_coefficient_beyond size ts c (All-tail (λ (t : ℕ × ℤ). (1 ≤ t.0) × (t.0 ≤ size)) t ts u) h
 
 -- the same as code reads them, with the count of the elemental inequalities and the constraint that it found
-pub front_is : (n : ℕ) (cs : List Constraint) (i k : ℕ) → k ≡ length (elementals n) → i < k → generator_at (generator_list n cs) i ≡ of_elemental n (elemental_at n i)
+pub front_is : (n : ℕ) (cs : List Constraint) (i k : ℕ) → k ≡ length (elementals n) → i < k
+    → generator_at (generator_list n cs) i ≡ of_elemental n (elemental_at n i)
 front_is n cs i k e h = front_is_elemental n cs i (omega (arith, e))
 
 pub after_is : (n : ℕ) (cs : List Constraint) (i k : ℕ) (d : Constraint) → k ≡ length (elementals n) → k ≤ i → i < length (generator_list n cs)
@@ -63,12 +68,15 @@ up_to_greater : (n m : ℕ) (row : Terms) → n ≤ m → IsOver n row → IsOve
 up_to_greater n m row h u i d l = let k = u i d l in (k.0, omega (arith, k.1))
 
 -- the rows of the generators are of the space
-pub rows_of_space : (n : ℕ) (size : ℕ) (cs : List Constraint) → 2 ^ n ≤ size + 1 → All (λ c. IsOver size c.row) cs → Every (λ g. IsOver size g.row) (generator_list n cs)
+pub rows_of_space : (n : ℕ) (size : ℕ) (cs : List Constraint) → 2 ^ n ≤ size + 1 → All (λ c. IsOver size c.row) cs
+    → Every (λ g. IsOver size g.row) (generator_list n cs)
 unfolding generator_list
 rows_of_space n size cs h a = every-append (λ (g : Generator). IsOver size g.row) (map (of_elemental n) (elementals n)) (map of_constraint cs)
     (every-map (λ (g : Generator). IsOver size g.row) (of_elemental n) (elementals n) (every_of (λ e. IsOver size (elemental_row n e)) (elementals n)
     (λ i d l. let same : get_or (elementals n) i (Conditional 0) ≡ get_or (elementals n) i d = get_or_default (elementals n) i (Conditional 0) d l in
-    up_to_greater (2 ^ n - 1) size (elemental_row n (get_or (elementals n) i d)) (omega arith) (subst (λ e. IsOver (2 ^ n - 1) (elemental_row n e)) same (within-row n (get_or (elementals n) i (Conditional 0)) (is_elemental n i l))))))
+    up_to_greater (2 ^ n - 1) size (elemental_row n (get_or (elementals n) i d)) (omega arith)
+    (subst (λ e. IsOver (2 ^ n - 1) (elemental_row n e)) same (within-row n (get_or (elementals n) i (Conditional 0))
+    (is_elemental n i l))))))
     (every-map (λ (g : Generator). IsOver size g.row) of_constraint cs (every_of (λ (c : Constraint). IsOver size c.row) cs a))
 
 -- what holds of each item holds at each place, where it holds of what is read past the end

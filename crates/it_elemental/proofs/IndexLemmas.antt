@@ -13,7 +13,8 @@ use Rattle.it_elemental.specs.Indexes.{pairs_before, elemental_index, IndexesAre
 pairs_are_counted : (n i : ℕ) → i ≤ n → IsCounted n i (pairs_before n i)
 pairs_are_counted n zero h = counted-start n
 pairs_are_counted n (suc i) h = let e : i + 1 ≡ suc i = omega arith in
-    subst (λ (m : ℕ). IsCounted n m (pairs_before n i + (n - (i + 1)))) e (counted-more n i (pairs_before n i) (omega arith) (pairs_are_counted n i (omega arith)))
+    subst (λ (m : ℕ). IsCounted n m (pairs_before n i + (n - (i + 1)))) e
+    (counted-more n i (pairs_before n i) (omega arith) (pairs_are_counted n i (omega arith)))
 
 pub at_index : (n : ℕ) (e : Elemental) → IsElemental n e → (elemental_index n e < length (elementals n)) × (elemental_at n (elemental_index n e) ≡ e)
 unfolding elemental_index
@@ -26,9 +27,11 @@ at_index n (Mutual i j k) h =
 abbrev number_of_pair : ℕ → ℕ × ℕ → ℕ
 number_of_pair n p = pairs_before n p.0 + (p.1 - p.0 - 1)
 
-number_by_walk : (n place turns left rest : ℕ) → n ≤ left + turns → IsWalk n place left rest → pairs_before n left + rest ≡ place → number_of_pair n (get_or (index_pairs n) place (0, 0)) ≡ place
+number_by_walk : (n place turns left rest : ℕ) → n ≤ left + turns → IsWalk n place left rest → pairs_before n left + rest ≡ place
+    → number_of_pair n (get_or (index_pairs n) place (0, 0)) ≡ place
 number_by_walk n place zero left rest h w e = absurd (omega (arith, w.below))
-number_by_walk n place (suc turns) left rest h w e = by_order (cases_lt rest (n - (left + 1))) (λ next. number_by_walk n place turns (left + 1) next (omega arith))
+number_by_walk n place (suc turns) left rest h w e = by_order (cases_lt rest (n - (left + 1)))
+    (λ next. number_by_walk n place turns (left + 1) next (omega arith))
   where
     next_is_suc : left + 1 ≡ suc left
     next_is_suc = omega arith
@@ -37,7 +40,8 @@ number_by_walk n place (suc turns) left rest h w e = by_order (cases_lt rest (n 
     difference_is_rest = omega arith
 
     by_order : (rest < n - (left + 1)) ⊎ (n - (left + 1) ≤ rest)
-        → ((next : ℕ) → IsWalk n place (left + 1) next → pairs_before n (left + 1) + next ≡ place → number_of_pair n (get_or (index_pairs n) place (0, 0)) ≡ place)
+        → ((next : ℕ) → IsWalk n place (left + 1) next → pairs_before n (left + 1) + next ≡ place
+        → number_of_pair n (get_or (index_pairs n) place (0, 0)) ≡ place)
         → number_of_pair n (get_or (index_pairs n) place (0, 0)) ≡ place
     by_order (inl l) ih = ap (number_of_pair n) (walk-end n place left rest w l) ∙ ap (λ m. pairs_before n left + m) difference_is_rest ∙ e
     by_order (inr l) ih = ih (rest - (n - (left + 1))) (walk-more n place left rest (rest - (n - (left + 1))) w (omega arith))
@@ -61,9 +65,11 @@ without_digit-with_zero j k =
     remainder_below_next = omega (arith, remainder_below, native.Mathlib.Nat.two-pow-succ j)
 
     low_digits_stay : 2 ^ suc j ≡ 2 ^ j * 2 → with_zero j k % 2 ^ j ≡ k % 2 ^ j
-    low_digits_stay s = let e : with_zero j k ≡ (k / 2 ^ j * 2) * 2 ^ j + k % 2 ^ j = ap (λ m. k / 2 ^ j * m + k % 2 ^ j) s ∙ omega arith in ap (λ m. m % 2 ^ j) e ∙ mod-mul-add (k / 2 ^ j * 2) (2 ^ j) (k % 2 ^ j) remainder_below
+    low_digits_stay s = let e : with_zero j k ≡ (k / 2 ^ j * 2) * 2 ^ j + k % 2 ^ j = ap (λ m. k / 2 ^ j * m + k % 2 ^ j) s ∙ omega arith
+        in ap (λ m. m % 2 ^ j) e ∙ mod-mul-add (k / 2 ^ j * 2) (2 ^ j) (k % 2 ^ j) remainder_below
 
-in_block : (n q r : ℕ) (p : ℕ × ℕ) → q < length (index_pairs n) → r < 2 ^ n / 4 → get_or (index_pairs n) q (0, 0) ≡ p → p.0 < p.1 → p.1 < n → number_of_pair n p ≡ q
+in_block : (n q r : ℕ) (p : ℕ × ℕ) → q < length (index_pairs n) → r < 2 ^ n / 4 → get_or (index_pairs n) q (0, 0) ≡ p → p.0 < p.1 → p.1 < n
+    → number_of_pair n p ≡ q
     → elemental_index n (elemental_at n (n + (q * (2 ^ n / 4) + r))) ≡ n + (q * (2 ^ n / 4) + r)
 unfolding elemental_index
 in_block n q r p h l is a b e =
@@ -78,7 +84,8 @@ conditional_back n i l = ap (elemental_index n) (elemental_at-conditional n i l)
 pub index_back : (n i : ℕ) → i < length (elementals n) → elemental_index n (elemental_at n i) ≡ i
 index_back n i h = by_kind (cases_lt i n)
   where
-    ascends : (q : ℕ) → q < length (index_pairs n) → ((get_or (index_pairs n) q (0, 0)).0 < (get_or (index_pairs n) q (0, 0)).1) × ((get_or (index_pairs n) q (0, 0)).1 < n)
+    ascends : (q : ℕ) → q < length (index_pairs n) → ((get_or (index_pairs n) q (0, 0)).0 < (get_or (index_pairs n) q (0, 0)).1)
+        × ((get_or (index_pairs n) q (0, 0)).1 < n)
     ascends q l = all_of (λ p. (p.0 < p.1) × (p.1 < n)) (index_pairs n) (pairs_ascend n) q (0, 0) l
 
     by_kind : (i < n) ⊎ (n ≤ i) → elemental_index n (elemental_at n i) ≡ i
@@ -89,7 +96,8 @@ index_back n i h = by_kind (cases_lt i n)
         let p = quotient_and_rest place (length (index_pairs n)) size (omega (arith, length-elementals n)) in
         let e : i ≡ n + ((place / size) * size + place % size) = omega (arith, p.1.1.1) in
         let a = ascends (place / size) p.1.0 in
-        ap (λ m. elemental_index n (elemental_at n m)) e ∙ in_block n (place / size) (place % size) (get_or (index_pairs n) (place / size) (0, 0)) p.1.0 p.1.1.0 refl a.0 a.1 (pair_number n (place / size) p.1.0) ∙ sym e
+        ap (λ m. elemental_index n (elemental_at n m)) e ∙ in_block n (place / size) (place % size)
+        (get_or (index_pairs n) (place / size) (0, 0)) p.1.0 p.1.1.0 refl a.0 a.1 (pair_number n (place / size) p.1.0) ∙ sym e
 
 pub indexes_are_told : IndexesAreTold
 indexes_are_told n = (at_index n, index_back n)

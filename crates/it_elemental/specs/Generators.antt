@@ -1,9 +1,9 @@
 -- The generators of a problem: the elemental inequalities, then the constraints, numbered from 0.
 use Rattle.std.specs.Prelude.{ℕ, List, [], ◌++◌, length, map, slice_index_or, Bool, true, false}
-use Rattle.it_space.specs.declared.problems.Kind.{Kind}
-use Rattle.it_space.specs.declared.problems.Kind.TheVariants.{Inequality, Equation}
-use Rattle.it_space.specs.declared.problems.Constraint.{Constraint}
-use Rattle.it_space.specs.Problems.{ProblemView}
+use Rattle.it_problems.specs.declared.problems.Kind.{Kind}
+use Rattle.it_problems.specs.declared.problems.Kind.TheVariants.{Inequality, Equation}
+use Rattle.it_problems.specs.declared.problems.Constraint.{Constraint}
+use Rattle.it_problems.specs.Problems.{ProblemView}
 use Rattle.it_space.specs.Rows.{Terms, value}
 use Rattle.it_polymatroid.specs.Certificates.{Generators}
 use Rattle.it_polymatroid.specs.Elementals.{Elemental, elementals}

@@ -4,10 +4,12 @@ ghost use Rattle.it_space.specs.Rows.{coefficient};
 ghost use Rattle.it_polymatroid.specs.Elementals.{elementals, elemental_at};
 ghost use Rattle.it_elemental.specs.Rows.{elemental_row};
 ghost use Rattle.it_elemental.specs.Generators.{generators, generator_at, is_equation};
+ghost use Rattle.it_space.specs.Spaces.{most_variables};
 
 use crate::inequalities::count;
 use crate::rows::coefficient;
-use it_space::{Kind, Problem, VarSet};
+use it_problems::{Kind, Problem};
+use it_space::VarSet;
 
 /// The number of generators of `problem`.
 pub fn generator_count(problem: &Problem) -> u32
@@ -58,7 +60,7 @@ pub fn coefficient_at(problem: &Problem, index: u32, coordinate: u32) -> i128
 /// The coefficient of elemental inequality `index` at `coordinate`, which is 0 at rates.
 fn elemental_coefficient(n: u8, index: u32, coordinate: u32) -> i128
     requires some { 1 ≤ n }
-    requires few { n ≤ 10 }
+    requires few { n ≤ most_variables }
     requires listed { index < length (elementals n) }
     requires from_one { 1 ≤ coordinate }
     ensures { result ≡ coefficient (elemental_row n (elemental_at n index)) coordinate }

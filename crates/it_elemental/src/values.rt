@@ -6,6 +6,7 @@ ghost use Rattle.it_polymatroid.specs.Elementals.{Conditional, Mutual, elemental
 ghost use Rattle.it_elemental.specs.Broken.{AlternatingFits};
 ghost use Rattle.it_elemental.specs.Rows.{elemental_row};
 ghost use Rattle.it_elemental.specs.Views.{IsElemental};
+ghost use Rattle.it_space.specs.Spaces.{most_variables};
 
 use crate::inequalities::{Elemental, parts};
 use crate::sets::{all_but, all_variables, with_variable};
@@ -16,7 +17,7 @@ use it_space::{Point, VarSet};
 /// `Wide` exactly if a partial sum is.
 pub fn value_at(n: u8, index: u32, point: &Point) -> Result<i128, Wide>
     requires some { 1 ≤ n }
-    requires few { n ≤ 10 }
+    requires few { n ≤ most_variables }
     requires listed { index < length (elementals n) }
     requires complete { 2 ^ n ≤ length point.now + 1 }
     ensures { IsValueOrWide (elemental_row n (elemental_at n index)) (point_of point.now) result }
@@ -53,7 +54,7 @@ pub fn alternating_sum(a: i128, b: i128, c: i128, d: i128) -> Result<i128, Wide>
 
 /// The entropy of variable `of` given all others.
 fn conditional_entropy(point: &Point, n: u8, of: u8) -> Result<i128, Wide>
-    requires few { n ≤ 10 }
+    requires few { n ≤ most_variables }
     requires shape { of < n }
     requires complete { 2 ^ n ≤ length point.now + 1 }
     ensures { IsValueOrWide (elemental_row n (Conditional of)) (point_of point.now) result }
@@ -72,7 +73,7 @@ fn mutual_information(
     right: u8,
     given: VarSet,
 ) -> Result<i128, Wide>
-    requires few { n ≤ 10 }
+    requires few { n ≤ most_variables }
     requires shape { IsElemental n (Mutual left right given) }
     requires complete { 2 ^ n ≤ length point.now + 1 }
     ensures { IsValueOrWide (elemental_row n (Mutual left right given)) (point_of point.now) result }

@@ -19,9 +19,12 @@ module _ (base most : ℕ) (start now : List Terms) (rates : List ℕ) (i : ℕ)
 
     pub ends_many : PairsFit at rows × (most < length (next_list at rows)) → EliminationEnds base most start rates (Rows (get_or rates i 0))
     ends_many m = l (Rows (get_or rates i 0)) (subst (λ (rs : List ℕ). EliminationEnds base most now rs (Rows (get_or rates i 0))) (sym (drop_more rates i 0 h))
-        (inr (inl (subst₂ (λ (a : ℕ) (rs : List Terms). PairsFit a rs × (most < length (next_list a rs)) × (Rows (get_or rates i 0) ≡ Rows (get_or rates i 0))) is_at is_now (m.0, m.1, refl)))))
+        (inr (inl (subst₂ (λ (a : ℕ) (rs : List Terms). PairsFit a rs × (most < length (next_list a rs))
+        × (Rows (get_or rates i 0) ≡ Rows (get_or rates i 0))) is_at is_now (m.0, m.1, refl)))))
 
-    pub leads_on : (next : List Terms) → PairsFit at rows × (length (next_list at rows) ≤ most) × (next ≡ next_list at rows) → LeadsTo base most start next rates (i + 1)
+    pub leads_on : (next : List Terms) → PairsFit at rows × (length (next_list at rows) ≤ most) × (next ≡ next_list at rows)
+        → LeadsTo base most start next rates (i + 1)
     leads_on next m end e = l end (subst (λ (rs : List ℕ). EliminationEnds base most now rs end) (sym (drop_more rates i 0 h))
-        (inr (inr (subst₂ (λ (a : ℕ) (rs : List Terms). PairsFit a rs × (length (next_list a rs) ≤ most) × EliminationEnds base most (next_list a rs) (drop (i + 1) rates) end) is_at is_now
+        (inr (inr (subst₂ (λ (a : ℕ) (rs : List Terms). PairsFit a rs × (length (next_list a rs) ≤ most)
+        × EliminationEnds base most (next_list a rs) (drop (i + 1) rates) end) is_at is_now
         (m.0, m.1, subst (λ (rs : List Terms). EliminationEnds base most rs (drop (i + 1) rates) end) m.2 e)))))

@@ -19,12 +19,14 @@ plus_one : ℤ
 plus_one = pos 1
 
 start : List Terms
-start = ((9, plus_one) ∷ []) ∷ ((10, plus_one) ∷ []) ∷ ((1, plus_one) ∷ (4, plus_one) ∷ (5, minus_one) ∷ (9, minus_one) ∷ []) ∷ ((1, minus_one) ∷ (3, plus_one) ∷ (5, plus_one) ∷ (7, minus_one) ∷ (10, minus_one) ∷ [])
+start = ((9, plus_one) ∷ []) ∷ ((10, plus_one) ∷ []) ∷ ((1, plus_one) ∷ (4, plus_one) ∷ (5, minus_one) ∷ (9, minus_one) ∷ [])
+    ∷ ((1, minus_one) ∷ (3, plus_one) ∷ (5, plus_one) ∷ (7, minus_one) ∷ (10, minus_one) ∷ [])
     ∷ ((8, plus_one) ∷ (9, minus_one) ∷ (10, minus_one) ∷ []) ∷ ((8, minus_one) ∷ (9, plus_one) ∷ (10, plus_one) ∷ []) ∷ []
 
 -- I(U;Y), I(X;Y|U), R, I(X;Y|U) + I(U;Y) - R
 region : List Terms
-region = ((1, plus_one) ∷ (4, plus_one) ∷ (5, minus_one) ∷ []) ∷ ((1, minus_one) ∷ (3, plus_one) ∷ (5, plus_one) ∷ (7, minus_one) ∷ []) ∷ ((8, plus_one) ∷ []) ∷ ((3, plus_one) ∷ (4, plus_one) ∷ (7, minus_one) ∷ (8, minus_one) ∷ []) ∷ []
+region = ((1, plus_one) ∷ (4, plus_one) ∷ (5, minus_one) ∷ []) ∷ ((1, minus_one) ∷ (3, plus_one) ∷ (5, plus_one) ∷ (7, minus_one) ∷ [])
+    ∷ ((8, plus_one) ∷ []) ∷ ((3, plus_one) ∷ (4, plus_one) ∷ (7, minus_one) ∷ (8, minus_one) ∷ []) ∷ []
 
 elimination_is : next_list 10 (next_list 9 (ordered_rows start)) ≡ region
 unfolding results cancelled_row lowest_terms times_up times_down gcd gcd_within start region minus_one plus_one

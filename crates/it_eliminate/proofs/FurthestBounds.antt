@@ -14,7 +14,9 @@ Bounds b t = pos 0 ≤ℤ (t.1 *ℤ b.0 -ℤ b.1 *ℤ t.0)
 bounds_trans : (a b c : ℤ × ℤ) → pos 0 <ℤ a.0 → pos 0 <ℤ b.0 → pos 0 <ℤ c.0 → Bounds a b → Bounds b c → Bounds a c
 bounds_trans a b c ha hb hc p q = least_by_multiple b.0 (c.1 *ℤ a.0 -ℤ a.1 *ℤ c.0) hb
     (subst (λ (x : ℤ). pos 0 ≤ℤ x) (multiple_of_bound a.0 a.1 b.0 b.1 c.0 c.1)
-    (sum_least (a.0 *ℤ (c.1 *ℤ b.0 -ℤ b.1 *ℤ c.0)) (c.0 *ℤ (b.1 *ℤ a.0 -ℤ a.1 *ℤ b.0)) (product_least a.0 (c.1 *ℤ b.0 -ℤ b.1 *ℤ c.0) (omega (arith, ints)) q) (product_least c.0 (b.1 *ℤ a.0 -ℤ a.1 *ℤ b.0) (omega (arith, ints)) p)))
+    (sum_least (a.0 *ℤ (c.1 *ℤ b.0 -ℤ b.1 *ℤ c.0)) (c.0 *ℤ (b.1 *ℤ a.0 -ℤ a.1 *ℤ b.0))
+    (product_least a.0 (c.1 *ℤ b.0 -ℤ b.1 *ℤ c.0) (omega (arith, ints)) q)
+    (product_least c.0 (b.1 *ℤ a.0 -ℤ a.1 *ℤ b.0) (omega (arith, ints)) p)))
   where
     multiple_of_bound : (a u b w c y : ℤ) → a *ℤ (y *ℤ b -ℤ w *ℤ c) +ℤ c *ℤ (w *ℤ a -ℤ u *ℤ b) ≡ b *ℤ (y *ℤ a -ℤ u *ℤ c)
     multiple_of_bound a u b w c y = ring ring_ℤ (a ∷ u ∷ b ∷ w ∷ c ∷ y ∷ [])
@@ -44,9 +46,21 @@ furthest_bound (r ∷ rs) = by_lt_z (pos 0) r.0 (λ up. with_positive_row up (fu
         row_not_positive t e ut = let z : t.0 ≡ r.0 = ap (λ x. x.0) e in omega (arith, ints)
 
     with_positive_row : pos 0 <ℤ r.0 → FurthestBound rs → FurthestBound (r ∷ rs)
-    with_positive_row up (inl none) = inr (r, inl refl, up, λ t n ut. ⊎_elim (λ e. subst (λ (x : ℤ × ℤ). Bounds r x) (sym e) (bounds_refl r)) (λ k. absurd (not_both t.0 (none t k) ut)) n)
+    with_positive_row up (inl none) = inr (
+      r,
+      inl refl,
+      up,
+      λ t n ut. ⊎_elim
+          (λ e. subst (λ (x : ℤ × ℤ). Bounds r x) (sym e) (bounds_refl r)) (λ k. absurd (not_both t.0 (none t k) ut)) n,
+    )
     with_positive_row up (inr (b, m, ub, far)) = by_lt_z (r.1 *ℤ b.0 -ℤ b.1 *ℤ r.0) (pos 0)
-        (λ closer. inr (r, inl refl, up, λ t n ut. ⊎_elim (λ e. subst (λ (x : ℤ × ℤ). Bounds r x) (sym e) (bounds_refl r)) (λ k. bounds_trans r b t up ub ut (row_bounds_other closer) (far t k ut)) n))
+        (λ closer. inr (
+          r,
+          inl refl,
+          up,
+          λ t n ut. ⊎_elim (λ e. subst (λ (x : ℤ × ℤ). Bounds r x) (sym e) (bounds_refl r))
+              (λ k. bounds_trans r b t up ub ut (row_bounds_other closer) (far t k ut)) n,
+        ))
         (λ holds. inr (b, inr m, ub, λ t n ut. ⊎_elim (λ e. subst (λ (x : ℤ × ℤ). Bounds b x) (sym e) holds) (λ k. far t k ut) n))
       where
         row_bounds_other : (r.1 *ℤ b.0 -ℤ b.1 *ℤ r.0) <ℤ pos 0 → Bounds r b
@@ -73,7 +87,8 @@ pub extends : (rows : List (ℤ × ℤ))
 extends rows flat pairs = by_up (furthest_bound rows)
   where
     -- each row at k and x, by the sign of its coefficient
-    by_sign : (t : ℤ × ℤ) (k x : ℤ) → pos 1 ≤ℤ k → Member t rows → (pos 0 <ℤ t.0 → pos 0 ≤ℤ (t.0 *ℤ x +ℤ k *ℤ t.1)) → (t.0 <ℤ pos 0 → pos 0 ≤ℤ (t.0 *ℤ x +ℤ k *ℤ t.1)) → pos 0 ≤ℤ (t.0 *ℤ x +ℤ k *ℤ t.1)
+    by_sign : (t : ℤ × ℤ) (k x : ℤ) → pos 1 ≤ℤ k → Member t rows → (pos 0 <ℤ t.0 → pos 0 ≤ℤ (t.0 *ℤ x +ℤ k *ℤ t.1))
+        → (t.0 <ℤ pos 0 → pos 0 ≤ℤ (t.0 *ℤ x +ℤ k *ℤ t.1)) → pos 0 ≤ℤ (t.0 *ℤ x +ℤ k *ℤ t.1)
     by_sign t k x hk m up down = by_lt_z (pos 0) t.0 up (λ low. by_lt_z t.0 (pos 0) down (λ high.
         let z : t.0 ≡ pos 0 = omega (arith, ints) in
         let p : pos 0 ≤ℤ (k *ℤ t.1) = product_least k t.1 (omega (arith, ints)) (flat t m z) in
@@ -105,5 +120,6 @@ extends rows flat pairs = by_up (furthest_bound rows)
           omega (arith, ints),
           λ t n. by_sign t b.0 b.1 (omega (arith, ints)) n
               (λ ut. absurd (not_both t.0 (none t n) ut))
-              (λ dt. let f : pos 0 ≤ℤ (t.1 *ℤ b.0 -ℤ b.1 *ℤ neg_ℤ t.0) = far (negated_row t) (member_negated t rows n) (omega (arith, ints)) in omega (arith, zring, f)),
+              (λ dt. let f : pos 0 ≤ℤ (t.1 *ℤ b.0 -ℤ b.1 *ℤ neg_ℤ t.0) = far (negated_row t) (member_negated t rows n) (omega (arith, ints))
+              in omega (arith, zring, f)),
         )

@@ -17,7 +17,8 @@ same_by eq h [] (y ∷ ys) = refl
 same_by eq h (x ∷ xs) [] = refl
 same_by eq h (x ∷ xs) (y ∷ ys) = ap₂ (λ a b. a && b) (h x y) (same_by eq h xs ys)
 
-any_by : (eq : ℕ × ℤ → ℕ × ℤ → Bool) → ComparesTerms eq → (row : Terms) (vs : List (Vec (ℕ × ℤ) Global)) → list_any (λ v. pointwise eq row v.items) vs ≡ list_any (is_same row) (rows_of vs)
+any_by : (eq : ℕ × ℤ → ℕ × ℤ → Bool) → ComparesTerms eq → (row : Terms) (vs : List (Vec (ℕ × ℤ) Global))
+    → list_any (λ v. pointwise eq row v.items) vs ≡ list_any (is_same row) (rows_of vs)
 any_by eq h row [] = refl
 any_by eq h row (v ∷ vs) = ap₂ (λ a b. a || b) (same_by eq h row v.items) (any_by eq h row vs)
 
@@ -30,6 +31,8 @@ keys_with_row eq h old new v n e = ap rows_of e ∙ ap (λ b. rows_of (if b then
     by_test true = refl
     by_test false = map-append (λ (w : Vec (ℕ × ℤ) Global). w.items) old (v ∷ [])
 
-    by_list : (row : Terms) → row ≢ [] → row ≡ v.items → rows_of (if list_any (is_same v.items) (rows_of old) then old else old ++ v ∷ []) ≡ with_row (rows_of old) row
+    by_list : (row : Terms) → row ≢ [] → row ≡ v.items → rows_of (if list_any (is_same v.items) (rows_of old) then old else old ++ v ∷ [])
+        ≡ with_row (rows_of old) row
     by_list [] n e = absurd (n refl)
-    by_list (t ∷ ts) n e = by_test (list_any (is_same v.items) (rows_of old)) ∙ ap (λ r. if list_any (is_same r) (rows_of old) then rows_of old else rows_of old ++ r ∷ []) (sym e)
+    by_list (t ∷ ts) n e = by_test (list_any (is_same v.items) (rows_of old))
+        ∙ ap (λ r. if list_any (is_same r) (rows_of old) then rows_of old else rows_of old ++ r ∷ []) (sym e)

@@ -1,8 +1,8 @@
 -- Elimination has one end, and a region that it ends with is the projection.
 use Rattle.std.proofs.Common.{◌≡◌, inl, inr, ◌↔◌, ℕ, ◌+◌, ◌^◌, sym, ap, subst, ◌∙◌, arith, List, [], ◌∷◌, map, All}
-use Rattle.it_space.specs.declared.problems.System.{System}
+use Rattle.it_problems.specs.declared.problems.System.{System}
 use Rattle.it_space.specs.declared.spaces.Space.{Space}
-use Rattle.it_space.specs.Problems.{IsSystem}
+use Rattle.it_problems.specs.Problems.{IsSystem}
 use Rattle.it_space.specs.Rows.{Terms, IsOver}
 use Rattle.it_space.specs.Spaces.{IsSpace, size_of}
 use Rattle.it_eliminate.specs.Elimination.{EliminatedView, Region, Rows, Wide, next_list, EliminationEnds, ordered_rows, list_after}
@@ -35,7 +35,8 @@ IsRegion (Rows r) = ⊥
 IsRegion (Wide r) = ⊥
 
 -- a region has the list after all rates
-region_is : (base most : ℕ) (rows : List Terms) (rates : List ℕ) (kept : List Terms) → EliminationEnds base most rows rates (Region kept) → kept ≡ list_after (map (λ r. base + r) rates) rows
+region_is : (base most : ℕ) (rows : List Terms) (rates : List ℕ) (kept : List Terms) → EliminationEnds base most rows rates (Region kept)
+    → kept ≡ list_after (map (λ r. base + r) rates) rows
 region_is base most rows [] kept e = ap (λ o. rows_or o rows) e
 region_is base most rows (r ∷ rs) kept (inl e) = absurd (subst IsRegion e.1 tt)
 region_is base most rows (r ∷ rs) kept (inr (inl e)) = absurd (subst IsRegion e.2 tt)
@@ -45,15 +46,18 @@ pub is_projection : (most : ℕ) (system region : System) (rates : List ℕ) →
     → EliminationEnds (2 ^ system.space.variables) most (ordered_rows system.rows.items) rates (Region region.rows.items) → IsProjection system rates region
 is_projection most system region rates h same e =
     let ats : List ℕ = map (λ r. 2 ^ system.space.variables + r) rates in
-    let is : region.rows.items ≡ list_after ats (ordered_rows system.rows.items) = region_is (2 ^ system.space.variables) most (ordered_rows system.rows.items) rates region.rows.items e in
+    let is : region.rows.items ≡ list_after ats (ordered_rows system.rows.items) = region_is (2 ^ system.space.variables) most
+    (ordered_rows system.rows.items) rates region.rows.items e in
     let fits : All (IsOver (size_of system.space)) region.rows.items
-    = subst (λ (rs : List Terms). All (IsOver (size_of system.space)) rs) (sym is) (projection_up_to (size_of system.space) ats system.rows.items h.rows) in record {
+    = subst (λ (rs : List Terms). All (IsOver (size_of system.space)) rs) (sym is)
+    (projection_up_to (size_of system.space) ats system.rows.items h.rows) in record {
       space = same;
       system = record {
         space = subst (λ (s : Space). IsSpace s) (sym same) h.space;
         rows = subst (λ (s : Space). All (IsOver (size_of s)) region.rows.items) (sym same) fits;
       };
       free = λ r m. subst (λ (rs : List Terms). LacksCoordinate (2 ^ system.space.variables + r) rs) (sym is)
-          (projection_lacks (2 ^ system.space.variables + r) ats system.rows.items (member-map (λ r. 2 ^ system.space.variables + r) r rates (member_of rates r m)));
+          (projection_lacks (2 ^ system.space.variables + r) ats system.rows.items
+          (member-map (λ r. 2 ^ system.space.variables + r) r rates (member_of rates r m)));
       exact = λ p. subst (λ (rs : List Terms). IsPointOf rs p ↔ Extends ats system.rows.items p) (sym is) (projection_exact ats system.rows.items p);
     }

@@ -87,7 +87,8 @@ pub member_filtered : {X : Type 0} (test : X → Bool) (x : X) (xs : List X) →
 member_filtered test x [] m = absurd m
 member_filtered test x (z ∷ xs) m = by_test (test z) refl m (member_filtered test x xs)
   where
-    by_test : (b : Bool) → test z ≡ b → Member x (cond b (z ∷ filter test xs) (filter test xs)) → (Member x (filter test xs) → Member x xs × (test x ≡ true)) → Member x (z ∷ xs) × (test x ≡ true)
+    by_test : (b : Bool) → test z ≡ b → Member x (cond b (z ∷ filter test xs) (filter test xs))
+        → (Member x (filter test xs) → Member x xs × (test x ≡ true)) → Member x (z ∷ xs) × (test x ≡ true)
     by_test true t (inl e) ih = (inl e, ap test e ∙ t)
     by_test true t (inr k) ih = let r = ih k in (inr r.0, r.1)
     by_test false t k ih = let r = ih k in (inr r.0, r.1)
@@ -99,4 +100,5 @@ member-flat_map f x y (z ∷ xs) (inr m) k = member-back y (f z) (flat_map f xs)
 
 pub member_flat_mapped : {X Y : Type 0} (f : X → List Y) (y : Y) (xs : List X) → Member y (flat_map f xs) → (x : X) × Member x xs × Member y (f x)
 member_flat_mapped f y [] m = absurd m
-member_flat_mapped f y (z ∷ xs) m = ⊎_elim (λ k. (z, inl refl, k)) (λ k. let s = member_flat_mapped f y xs k in (s.0, inr s.1, s.2)) (member_either y (f z) (flat_map f xs) m)
+member_flat_mapped f y (z ∷ xs) m = ⊎_elim (λ k. (z, inl refl, k)) (λ k. let s = member_flat_mapped f y xs k in (s.0, inr s.1, s.2))
+    (member_either y (f z) (flat_map f xs) m)

@@ -75,7 +75,8 @@ pub found_member : (row : Terms) (rows : List Terms) → list_any (is_same row) 
 found_member row [] e = absurd (false≢true e)
 found_member row (r ∷ rows) e = by_test (is_same row r) e (same_rows row r) (found_member row rows)
   where
-    by_test : (b : Bool) → (b || list_any (is_same row) rows) ≡ true → (b ≡ true → row ≡ r) → (list_any (is_same row) rows ≡ true → Member row rows) → (row ≡ r) ⊎ Member row rows
+    by_test : (b : Bool) → (b || list_any (is_same row) rows) ≡ true → (b ≡ true → row ≡ r)
+        → (list_any (is_same row) rows ≡ true → Member row rows) → (row ≡ r) ⊎ Member row rows
     by_test true h f g = inl (f refl)
     by_test false h f g = inr (g h)
 
@@ -87,7 +88,8 @@ pub in-with_row : (rows : List Terms) (row : Terms) (p : ℕ → ℤ) → IsPoin
 in-with_row rows [] p = (λ a. (a, omega (arith, ints)), λ a. a.0)
 in-with_row rows (t ∷ ts) p = by_test (list_any (is_same (t ∷ ts)) rows) (found_member (t ∷ ts) rows)
   where
-    by_test : (b : Bool) → (b ≡ true → Member (t ∷ ts) rows) → IsPointOf (if b then rows else rows ++ (t ∷ ts) ∷ []) p ↔ (IsPointOf rows p × (pos 0 ≤ℤ value (t ∷ ts) p))
+    by_test : (b : Bool) → (b ≡ true → Member (t ∷ ts) rows)
+        → IsPointOf (if b then rows else rows ++ (t ∷ ts) ∷ []) p ↔ (IsPointOf rows p × (pos 0 ≤ℤ value (t ∷ ts) p))
     by_test true f = (λ a. (a, all_member (RowHolds p) rows (t ∷ ts) a (f refl)), λ a. a.0)
     by_test false f = (
       λ a. (all_front (RowHolds p) rows ((t ∷ ts) ∷ []) a, All-head (RowHolds p) (t ∷ ts) [] (all_back (RowHolds p) rows ((t ∷ ts) ∷ []) a)),
@@ -117,15 +119,18 @@ pub lacks_lowest : (at : ℕ) (row : Terms) → coefficient row at ≡ pos 0 →
 lacks_lowest at row e =
     let signs = lowest_signs row (one_at at) in
     let is : value row (one_at at) ≡ pos 0 = value-one_at row at ∙ e in
-    sym (value-one_at (lowest_terms row) at) ∙ number_is_zero (value (lowest_terms row) (one_at at)) (signs.positive.0 (omega (arith, ints, is))) (signs.negative.0 (omega (arith, ints, is)))
+    sym (value-one_at (lowest_terms row) at) ∙ number_is_zero (value (lowest_terms row) (one_at at))
+    (signs.positive.0 (omega (arith, ints, is))) (signs.negative.0 (omega (arith, ints, is)))
   where
     number_is_zero : (z : ℤ) → pos 0 ≤ℤ z → z ≤ℤ pos 0 → z ≡ pos 0
     number_is_zero z a b = omega (arith, ints)
 
-lacks-with_lowest_rows : (at : ℕ) (before rows : List Terms) → LacksCoordinate at before → LacksCoordinate at rows → LacksCoordinate at (with_lowest_rows before rows)
+lacks-with_lowest_rows : (at : ℕ) (before rows : List Terms) → LacksCoordinate at before → LacksCoordinate at rows
+    → LacksCoordinate at (with_lowest_rows before rows)
 lacks-with_lowest_rows at before [] a b = a
 lacks-with_lowest_rows at before (row ∷ rows) a b = lacks-with_lowest_rows at (with_row before (lowest_terms row)) rows
-    (all_of (RowLacks at) (with_row before (lowest_terms row)) (every-with_row (RowLacks at) before (lowest_terms row) (lacks_lowest at row (All-head (RowLacks at) row rows b)) (every_of (RowLacks at) before a)))
+    (all_of (RowLacks at) (with_row before (lowest_terms row)) (every-with_row (RowLacks at) before (lowest_terms row)
+    (lacks_lowest at row (All-head (RowLacks at) row rows b)) (every_of (RowLacks at) before a)))
     (All-tail (RowLacks at) row rows b)
 
 pub lacks-ordered_rows : (at : ℕ) (rows : List Terms) → LacksCoordinate at rows → LacksCoordinate at (ordered_rows rows)

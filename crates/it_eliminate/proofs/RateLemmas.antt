@@ -21,10 +21,12 @@ mix_none : (a b : ℕ) (x y : ℤ) → x ≡ pos 0 → y ≡ pos 0 → pos a *�
 mix_none a b x y e f = ap (λ z. pos a *ℤ z +ℤ pos b *ℤ y) e ∙ ap (λ z. pos a *ℤ pos 0 +ℤ pos b *ℤ z) f ∙ omega (arith, ints)
 
 pub next_keeps_lacking : (c at : ℕ) (rows : List Terms) → LacksCoordinate c rows → LacksCoordinate c (next_list at rows)
-next_keeps_lacking c at rows a = lacks-ordered_rows c (results at rows) (member_all (RowLacks c) (results at rows) (results_all (λ row. coefficient row c ≡ pos 0) at rows
+next_keeps_lacking c at rows a = lacks-ordered_rows c (results at rows)
+    (member_all (RowLacks c) (results at rows) (results_all (λ row. coefficient row c ≡ pos 0) at rows
     (λ row m e. all_member (RowLacks c) rows row a m)
     (λ up down m n h k. coefficient-cancelled_row at up down c
-    ∙ mix_none (times_up at up down) (times_down at up down) (coefficient up c) (coefficient down c) (all_member (RowLacks c) rows up a m) (all_member (RowLacks c) rows down a n))))
+    ∙ mix_none (times_up at up down) (times_down at up down) (coefficient up c) (coefficient down c) (all_member (RowLacks c) rows up a m)
+    (all_member (RowLacks c) rows down a n))))
 
 pub after_keeps_lacking : (c : ℕ) (ats : List ℕ) (rows : List Terms) → LacksCoordinate c rows → LacksCoordinate c (list_after ats rows)
 after_keeps_lacking c [] rows a = a
@@ -32,7 +34,8 @@ after_keeps_lacking c (at ∷ ats) rows a = after_keeps_lacking c ats (next_list
 
 pub after_lacks : (c : ℕ) (ats : List ℕ) (rows : List Terms) → Member c ats → LacksCoordinate c (list_after ats rows)
 after_lacks c [] rows m = absurd m
-after_lacks c (at ∷ ats) rows (inl e) = subst (λ (n : ℕ). LacksCoordinate n (list_after ats (next_list at rows))) (sym e) (after_keeps_lacking at ats (next_list at rows) (next_lacks at rows))
+after_lacks c (at ∷ ats) rows (inl e) = subst (λ (n : ℕ). LacksCoordinate n (list_after ats (next_list at rows))) (sym e)
+    (after_keeps_lacking at ats (next_list at rows) (next_lacks at rows))
 after_lacks c (at ∷ ats) rows (inr m) = after_lacks c ats (next_list at rows) m
 
 -- ---- points
@@ -67,7 +70,8 @@ join_extensions at ats rows p y x = record {
   factor = x.factor * y.factor;
   some = product_is_positive x.factor y.factor x.some y.some;
   point = x.point;
-  kept = λ c n. x.kept c (λ m. n (contains_first at ats c m)) ∙ ap (λ z. pos x.factor *ℤ z) (y.kept c (λ m. n (contains_later at ats c m))) ∙ multiple_of_multiple x.factor y.factor (p c);
+  kept = λ c n. x.kept c (λ m. n (contains_first at ats c m)) ∙ ap (λ z. pos x.factor *ℤ z) (y.kept c (λ m. n (contains_later at ats c m)))
+      ∙ multiple_of_multiple x.factor y.factor (p c);
   meets = x.meets;
 }
   where
@@ -113,7 +117,14 @@ split_extension at ats rows p x = by_cases (member_number at ats)
       some = x.some;
       point = later_point;
       kept = λ c n. by_test c n (nat_eq c at) refl;
-      first = record { factor = 1; some = omega arith; point = x.point; kept = λ c n. points_agree c (λ e. n (contains_of (at ∷ []) c (inl e))) ∙ omega (arith, ints); meets = x.meets };
+      first = record {
+        factor = 1;
+        some = omega arith;
+        point = x.point;
+        kept = λ c n. points_agree c
+            (λ e. n (contains_of (at ∷ []) c (inl e))) ∙ omega (arith, ints);
+        meets = x.meets;
+      };
     }
       where
         later_point : ℕ → ℤ
@@ -130,7 +141,9 @@ pub rates_exact : (ats : List ℕ) (rows : List Terms) (p : ℕ → ℤ) → IsP
 rates_exact [] rows p = (none_extended rows p, extended_none rows p)
 rates_exact (at ∷ ats) rows p =
     let later = rates_exact ats (next_list at rows) p in (
-      λ a. let y = later.0 a in join_extensions at ats rows p (record { factor = y.factor; some = y.some; point = y.point; kept = y.kept; meets = All-nil (RowHolds y.point) }) ((step_exact at rows y.point).0 y.meets),
+      λ a. let y = later.0 a in join_extensions at ats rows p
+          (record { factor = y.factor; some = y.some; point = y.point; kept = y.kept; meets = All-nil (RowHolds y.point) })
+          ((step_exact at rows y.point).0 y.meets),
       λ x. let s = split_extension at ats rows p x in
           later.1 (record { factor = s.factor; some = s.some; point = s.point; kept = s.kept; meets = (step_exact at rows s.point).1 s.first }),
     )

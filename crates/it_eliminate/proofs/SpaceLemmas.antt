@@ -28,7 +28,8 @@ module _ (size : ℕ) where
   up_to-with_term c (negsuc n) [] h a = (h, tt)
   up_to-with_term c x (t ∷ ts) h a = by_test (nat_lt c t.0) (nat_eq c t.0) (up_to-with_term c x ts h a.1)
     where
-      by_test : (p q : Bool) → UpTo (with_term c x ts) → UpTo (if p then single_term c x ++ t ∷ ts else if q then single_term c (x +ℤ t.1) ++ ts else t ∷ with_term c x ts)
+      by_test : (p q : Bool) → UpTo (with_term c x ts) → UpTo (if p then single_term c x ++ t ∷ ts else if q then single_term c (x +ℤ t.1)
+          ++ ts else t ∷ with_term c x ts)
       by_test true q ih = up_to-single_term c x (t ∷ ts) h a
       by_test false true ih = up_to-single_term c (x +ℤ t.1) ts h a.1
       by_test false false ih = (a.0, ih)
@@ -43,7 +44,8 @@ module _ (size : ℕ) where
 
   up_to-cancelled_row : (at : ℕ) (up down : Terms) → UpTo up → UpTo down → UpTo (cancelled_row at up down)
   unfolding cancelled_row
-  up_to-cancelled_row at up down a b = up_to-row_sum (row_multiple (times_up at up down) up) (row_multiple (times_down at up down) down) (up_to-row_multiple (times_up at up down) up a) (up_to-row_multiple (times_down at up down) down b)
+  up_to-cancelled_row at up down a b = up_to-row_sum (row_multiple (times_up at up down) up) (row_multiple (times_down at up down) down)
+      (up_to-row_multiple (times_up at up down) up a) (up_to-row_multiple (times_down at up down) down b)
 
   up_to-lowest_terms : (ts : Terms) → UpTo ts → UpTo (lowest_terms ts)
   unfolding lowest_terms
@@ -55,10 +57,12 @@ module _ (size : ℕ) where
 
   up_to-with_lowest_rows : (before rows : List Terms) → Every UpTo before → Every UpTo rows → Every UpTo (with_lowest_rows before rows)
   up_to-with_lowest_rows before [] a b = a
-  up_to-with_lowest_rows before (row ∷ rows) a b = up_to-with_lowest_rows (with_row before (lowest_terms row)) rows (every-with_row UpTo before (lowest_terms row) (up_to-lowest_terms row b.0) a) b.1
+  up_to-with_lowest_rows before (row ∷ rows) a b = up_to-with_lowest_rows (with_row before (lowest_terms row)) rows
+      (every-with_row UpTo before (lowest_terms row) (up_to-lowest_terms row b.0) a) b.1
 
   up_to-next : (at : ℕ) (rows : List Terms) → Every UpTo rows → Every UpTo (next_list at rows)
-  up_to-next at rows a = up_to-with_lowest_rows [] (results at rows) tt (member_every UpTo (results at rows) (results_all UpTo at rows (λ row m e. every_member UpTo rows row a m)
+  up_to-next at rows a = up_to-with_lowest_rows [] (results at rows) tt
+      (member_every UpTo (results at rows) (results_all UpTo at rows (λ row m e. every_member UpTo rows row a m)
       (λ up down m n h k. up_to-cancelled_row at up down (every_member UpTo rows up a m) (every_member UpTo rows down a n))))
 
   up_to-after : (ats : List ℕ) (rows : List Terms) → Every UpTo rows → Every UpTo (list_after ats rows)
@@ -80,4 +84,5 @@ module _ (size : ℕ) where
       all_rows_up_to (r ∷ rows) a = (all_of Has r a.0, all_rows_up_to rows a.1)
 
   pub projection_up_to : (ats : List ℕ) (rows : List Terms) → All (IsOver size) rows → All (IsOver size) (list_after ats (ordered_rows rows))
-  projection_up_to ats rows a = to_all (list_after ats (ordered_rows rows)) (up_to-after ats (ordered_rows rows) (up_to-with_lowest_rows [] rows tt (to_each rows a)))
+  projection_up_to ats rows a = to_all (list_after ats (ordered_rows rows))
+      (up_to-after ats (ordered_rows rows) (up_to-with_lowest_rows [] rows tt (to_each rows a)))

@@ -62,12 +62,15 @@ test_from_zero at row e = test_is_true (coefficient row at) e
 
 pub flat_member : (at : ℕ) (rows : List Terms) (row : Terms) → Member row rows → coefficient row at ≡ pos 0 → Member row (results at rows)
 unfolding results
-flat_member at rows row m e = member-front row (filter (is_zero_at at) rows) (cancelled_pairs at rows) (member-filter (is_zero_at at) row rows m (test_from_zero at row e))
+flat_member at rows row m e = member-front row (filter (is_zero_at at) rows) (cancelled_pairs at rows)
+    (member-filter (is_zero_at at) row rows m (test_from_zero at row e))
 
-pub pair_member : (at : ℕ) (rows : List Terms) (up down : Terms) → Member up rows → Member down rows → pos 0 <ℤ coefficient up at → coefficient down at <ℤ pos 0 → Member (cancelled_row at up down) (results at rows)
+pub pair_member : (at : ℕ) (rows : List Terms) (up down : Terms) → Member up rows → Member down rows → pos 0 <ℤ coefficient up at
+    → coefficient down at <ℤ pos 0 → Member (cancelled_row at up down) (results at rows)
 unfolding results
 pair_member at rows up down m n h k = member-back (cancelled_row at up down) (filter (is_zero_at at) rows) (cancelled_pairs at rows)
-    (member-flat_map (λ (r : Terms). pairs_of at r rows) up (cancelled_row at up down) (filter (is_positive_at at) rows) (member-filter (is_positive_at at) up rows m (test_from_positive at up h))
+    (member-flat_map (λ (r : Terms). pairs_of at r rows) up (cancelled_row at up down) (filter (is_positive_at at) rows)
+    (member-filter (is_positive_at at) up rows m (test_from_positive at up h))
     (member-map (cancelled_row at up) down (filter (is_negative_at at) rows) (member-filter (is_negative_at at) down rows n (test_from_negative at down k))))
 
 -- what holds of each row without the coordinate and of each cancelled pair holds of each result
@@ -75,7 +78,9 @@ pub results_all : (P : Terms → Type 0) (at : ℕ) (rows : List Terms) → ((ro
     → ((up down : Terms) → Member up rows → Member down rows → pos 0 <ℤ coefficient up at → coefficient down at <ℤ pos 0 → P (cancelled_row at up down))
     → (row : Terms) → Member row (results at rows) → P row
 unfolding results
-results_all P at rows f g row m = ⊎_elim flat_row (λ k. pair (member_flat_mapped (λ (r : Terms). pairs_of at r rows) row (filter (is_positive_at at) rows) k)) (member_either row (filter (is_zero_at at) rows) (cancelled_pairs at rows) m)
+results_all P at rows f g row m = ⊎_elim flat_row (λ k. pair
+    (member_flat_mapped (λ (r : Terms). pairs_of at r rows) row (filter (is_positive_at at) rows) k))
+    (member_either row (filter (is_zero_at at) rows) (cancelled_pairs at rows) m)
   where
     flat_row : Member row (filter (is_zero_at at) rows) → P row
     flat_row k = let r = member_filtered (is_zero_at at) row rows k in f row r.0 (zero_from_test at row r.1)
@@ -106,12 +111,14 @@ value_apart at [] p = omega (arith, ints)
 value_apart at (t ∷ ts) p = by_test (nat_eq t.0 at) (eqb-true t.0 at) (value_apart at ts p)
   where
     by_test : (b : Bool) → (b ≡ true → t.0 ≡ at) → value ts p ≡ coefficient ts at *ℤ p at +ℤ value ts (with_value at (pos 0) p)
-        → t.1 *ℤ p t.0 +ℤ value ts p ≡ (cond b t.1 (pos 0) +ℤ coefficient ts at) *ℤ p at +ℤ (t.1 *ℤ cond b (pos 0) (p t.0) +ℤ value ts (with_value at (pos 0) p))
+        → t.1 *ℤ p t.0 +ℤ value ts p ≡ (cond b t.1 (pos 0) +ℤ coefficient ts at) *ℤ p at
+        +ℤ (t.1 *ℤ cond b (pos 0) (p t.0) +ℤ value ts (with_value at (pos 0) p))
     by_test true f ih = let q : t.1 *ℤ p t.0 ≡ t.1 *ℤ p at = ap (λ n. t.1 *ℤ p n) (f refl) in omega (arith, zring, q, ih, *ℤ-zero t.1)
     by_test false f ih = omega (arith, zring, ih, zero-*ℤ (p at))
 
 -- points that are one, but for a factor and the coordinate
-pub value_rest : (at : ℕ) (k : ℤ) (row : Terms) (p q : ℕ → ℤ) → ((c : ℕ) → c ≢ at → q c ≡ k *ℤ p c) → value row (with_value at (pos 0) q) ≡ k *ℤ value row (with_value at (pos 0) p)
+pub value_rest : (at : ℕ) (k : ℤ) (row : Terms) (p q : ℕ → ℤ) → ((c : ℕ) → c ≢ at → q c ≡ k *ℤ p c)
+    → value row (with_value at (pos 0) q) ≡ k *ℤ value row (with_value at (pos 0) p)
 value_rest at k [] p q f = omega (arith, ints)
 value_rest at k (t ∷ ts) p q f = by_test (nat_eq t.0 at) refl (value_rest at k ts p q f)
   where
@@ -124,7 +131,8 @@ value_rest at k (t ∷ ts) p q f = by_test (nat_eq t.0 at) refl (value_rest at k
     by_test false e ih = let g : t.1 *ℤ q t.0 ≡ t.1 *ℤ (k *ℤ p t.0) = ap (λ z. t.1 *ℤ z) (f t.0 (eqb-false t.0 at e)) in omega (arith, zring, g, ih)
 
 -- a row without the coordinate has k times the value
-pub value_kept : (at : ℕ) (k : ℤ) (row : Terms) (p q : ℕ → ℤ) → ((c : ℕ) → c ≢ at → q c ≡ k *ℤ p c) → coefficient row at ≡ pos 0 → value row q ≡ k *ℤ value row p
+pub value_kept : (at : ℕ) (k : ℤ) (row : Terms) (p q : ℕ → ℤ) → ((c : ℕ) → c ≢ at → q c ≡ k *ℤ p c) → coefficient row at ≡ pos 0
+    → value row q ≡ k *ℤ value row p
 value_kept at k row p q f e =
     let a = value_apart at row q in
     let b = value_apart at row p in
@@ -145,33 +153,42 @@ after_extending at rows p x = member_all (RowHolds p) (results at rows) (λ row 
     (subst (λ (z : ℤ). pos 0 ≤ℤ z) (value_kept at (pos x.factor) row p x.point (λ c n. x.kept c (one_only c at n)) (coefficient_is_zero row m)) (least row m)))
   where
     coefficient_is_zero : (row : Terms) → Member row (results at rows) → coefficient row at ≡ pos 0
-    coefficient_is_zero = results_all (λ row. coefficient row at ≡ pos 0) at rows (λ row m e. e) (λ up down m n h k. coefficient-cancelled_row at up down at ∙ cancelled_gone at up down h k)
+    coefficient_is_zero = results_all (λ row. coefficient row at ≡ pos 0) at rows (λ row m e. e)
+        (λ up down m n h k. coefficient-cancelled_row at up down at ∙ cancelled_gone at up down h k)
 
     sum_least : (a b : ℕ) (x y : ℤ) → pos 0 ≤ℤ x → pos 0 ≤ℤ y → pos 0 ≤ℤ (pos a *ℤ x +ℤ pos b *ℤ y)
-    sum_least a b x y h k = let f = product_least (pos a) x (omega (arith, ints)) h in let g = product_least (pos b) y (omega (arith, ints)) k in omega (arith, ints, f, g)
+    sum_least a b x y h k = let f = product_least (pos a) x (omega (arith, ints)) h
+        in let g = product_least (pos b) y (omega (arith, ints)) k in omega (arith, ints, f, g)
 
     least : (row : Terms) → Member row (results at rows) → pos 0 ≤ℤ value row x.point
     least = results_all (λ row. pos 0 ≤ℤ value row x.point) at rows (λ row m e. all_member (RowHolds x.point) rows row x.meets m)
         (λ up down m n h k. subst (λ (z : ℤ). pos 0 ≤ℤ z) (sym (value-cancelled_row at up down x.point))
-        (sum_least (times_up at up down) (times_down at up down) (value up x.point) (value down x.point) (all_member (RowHolds x.point) rows up x.meets m) (all_member (RowHolds x.point) rows down x.meets n)))
+        (sum_least (times_up at up down) (times_down at up down) (value up x.point) (value down x.point)
+        (all_member (RowHolds x.point) rows up x.meets m) (all_member (RowHolds x.point) rows down x.meets n)))
 
 -- a row as the pair of its coefficient there and the value of its rest
 abbrev pub row_parts : ℕ → (ℕ → ℤ) → Terms → ℤ × ℤ
 row_parts at p row = (coefficient row at, value row (with_value at (pos 0) p))
 
 -- a cancelled pair, in these pairs
-crossed_sum_least : (at : ℕ) (up down : Terms) (p : ℕ → ℤ) → pos 0 <ℤ coefficient up at → coefficient down at <ℤ pos 0 → pos 0 ≤ℤ value (cancelled_row at up down) p
+crossed_sum_least : (at : ℕ) (up down : Terms) (p : ℕ → ℤ) → pos 0 <ℤ coefficient up at → coefficient down at <ℤ pos 0
+    → pos 0 ≤ℤ value (cancelled_row at up down) p
     → pos 0 ≤ℤ (neg_ℤ (coefficient down at) *ℤ value up (with_value at (pos 0) p) +ℤ coefficient up at *ℤ value down (with_value at (pos 0) p))
 crossed_sum_least at up down p h k l =
     let f = factors at up down h k in
-    subst (λ (z : ℤ). pos 0 ≤ℤ z) (multiple_of_pair (pos f.common) (pos (times_up at up down)) (pos (times_down at up down)) (coefficient up at) (coefficient down at) (p at)
-    (value up p) (value down p) (value up (with_value at (pos 0) p)) (value down (with_value at (pos 0) p)) f.up_is f.down_is (value_apart at up p) (value_apart at down p))
-    (product_least (pos f.common) (pos (times_up at up down) *ℤ value up p +ℤ pos (times_down at up down) *ℤ value down p) (omega (arith, ints, f.some)) (subst (λ (z : ℤ). pos 0 ≤ℤ z) (value-cancelled_row at up down p) l))
+    subst (λ (z : ℤ). pos 0 ≤ℤ z) (multiple_of_pair (pos f.common) (pos (times_up at up down)) (pos (times_down at up down))
+    (coefficient up at) (coefficient down at) (p at)
+    (value up p) (value down p) (value up (with_value at (pos 0) p)) (value down (with_value at (pos 0) p)) f.up_is f.down_is
+    (value_apart at up p) (value_apart at down p))
+    (product_least (pos f.common) (pos (times_up at up down) *ℤ value up p +ℤ pos (times_down at up down) *ℤ value down p)
+    (omega (arith, ints, f.some)) (subst (λ (z : ℤ). pos 0 ≤ℤ z) (value-cancelled_row at up down p) l))
   where
     rate_cancels : (c d e u w : ℤ) → neg_ℤ d *ℤ (c *ℤ e +ℤ u) +ℤ c *ℤ (d *ℤ e +ℤ w) ≡ neg_ℤ d *ℤ u +ℤ c *ℤ w
-    rate_cancels c d e u w = ring ring_ℤ (c ∷ d ∷ e ∷ u ∷ w ∷ []) (plus (prod (minus (v 1)) (plus (prod (v 0) (v 2)) (v 3))) (prod (v 0) (plus (prod (v 1) (v 2)) (v 4)))) (plus (prod (minus (v 1)) (v 3)) (prod (v 0) (v 4))) refl
+    rate_cancels c d e u w = ring ring_ℤ (c ∷ d ∷ e ∷ u ∷ w ∷ []) (plus (prod (minus (v 1)) (plus (prod (v 0) (v 2)) (v 3)))
+        (prod (v 0) (plus (prod (v 1) (v 2)) (v 4)))) (plus (prod (minus (v 1)) (v 3)) (prod (v 0) (v 4))) refl
 
-    multiple_of_pair : (g a b c d e x y u w : ℤ) → g *ℤ a ≡ neg_ℤ d → g *ℤ b ≡ c → x ≡ c *ℤ e +ℤ u → y ≡ d *ℤ e +ℤ w → g *ℤ (a *ℤ x +ℤ b *ℤ y) ≡ neg_ℤ d *ℤ u +ℤ c *ℤ w
+    multiple_of_pair : (g a b c d e x y u w : ℤ) → g *ℤ a ≡ neg_ℤ d → g *ℤ b ≡ c → x ≡ c *ℤ e +ℤ u → y ≡ d *ℤ e +ℤ w
+        → g *ℤ (a *ℤ x +ℤ b *ℤ y) ≡ neg_ℤ d *ℤ u +ℤ c *ℤ w
     multiple_of_pair g a b c d e x y u w f h i j = multiple_of_sum g a x b y ∙ ap (λ z. z *ℤ x +ℤ (g *ℤ b) *ℤ y) f ∙ ap (λ z. neg_ℤ d *ℤ x +ℤ z *ℤ y) h
         ∙ ap (λ z. neg_ℤ d *ℤ z +ℤ c *ℤ y) i ∙ ap (λ z. neg_ℤ d *ℤ (c *ℤ e +ℤ u) +ℤ c *ℤ z) j ∙ rate_cancels c d e u w
 
@@ -188,7 +205,8 @@ point_extends at rows p h = of_pair (extends (map (row_parts at p) rows) flat_ro
         let r : pos 0 ≤ℤ value s.0 (with_value at (pos 0) p) = omega (arith, ints, whole, q, value_apart at s.0 p) in
         subst (λ (x : ℤ × ℤ). pos 0 ≤ℤ x.1) (sym s.2) r
 
-    pair : (s t : ℤ × ℤ) → Member s (map (row_parts at p) rows) → Member t (map (row_parts at p) rows) → pos 0 <ℤ s.0 → t.0 <ℤ pos 0 → pos 0 ≤ℤ (neg_ℤ t.0 *ℤ s.1 +ℤ s.0 *ℤ t.1)
+    pair : (s t : ℤ × ℤ) → Member s (map (row_parts at p) rows) → Member t (map (row_parts at p) rows) → pos 0 <ℤ s.0 → t.0 <ℤ pos 0
+        → pos 0 ≤ℤ (neg_ℤ t.0 *ℤ s.1 +ℤ s.0 *ℤ t.1)
     pair s t m n up down =
         let a = member_mapped (row_parts at p) s rows m in
         let b = member_mapped (row_parts at p) t rows n in
@@ -196,7 +214,8 @@ point_extends at rows p h = of_pair (extends (map (row_parts at p) rows) flat_ro
         let db : coefficient b.0 at <ℤ pos 0 = subst (λ (x : ℤ × ℤ). x.0 <ℤ pos 0) b.2 down in
         let whole = all_member (RowHolds p) (results at rows) (cancelled_row at a.0 b.0) h (pair_member at rows a.0 b.0 a.1 b.1 ua db) in
         subst (λ (y : ℤ × ℤ). pos 0 ≤ℤ (neg_ℤ y.0 *ℤ s.1 +ℤ s.0 *ℤ y.1)) (sym b.2)
-        (subst (λ (x : ℤ × ℤ). pos 0 ≤ℤ (neg_ℤ (coefficient b.0 at) *ℤ x.1 +ℤ x.0 *ℤ value b.0 (with_value at (pos 0) p))) (sym a.2) (crossed_sum_least at a.0 b.0 p ua db whole))
+        (subst (λ (x : ℤ × ℤ). pos 0 ≤ℤ (neg_ℤ (coefficient b.0 at) *ℤ x.1 +ℤ x.0 *ℤ value b.0 (with_value at (pos 0) p))) (sym a.2)
+        (crossed_sum_least at a.0 b.0 p ua db whole))
 
     of_factor : (k x : ℤ) → pos 1 ≤ℤ k → ((t : ℤ × ℤ) → Member t (map (row_parts at p) rows) → pos 0 ≤ℤ (t.0 *ℤ x +ℤ k *ℤ t.1)) → Extends (at ∷ []) rows p
     of_factor (negsuc k) x some f = absurd (omega (arith, ints))
@@ -215,7 +234,8 @@ point_extends at rows p h = of_pair (extends (map (row_parts at p) rows) flat_ro
               subst (λ (z : ℤ). pos 0 ≤ℤ z) (sym is) (f (row_parts at p row) (member-map (row_parts at p) row rows m)));
         }
 
-    of_pair : ((k : ℤ) × (x : ℤ) × (pos 1 ≤ℤ k) × ((t : ℤ × ℤ) → Member t (map (row_parts at p) rows) → pos 0 ≤ℤ (t.0 *ℤ x +ℤ k *ℤ t.1))) → Extends (at ∷ []) rows p
+    of_pair : ((k : ℤ) × (x : ℤ) × (pos 1 ≤ℤ k) × ((t : ℤ × ℤ) → Member t (map (row_parts at p) rows) → pos 0 ≤ℤ (t.0 *ℤ x +ℤ k *ℤ t.1)))
+        → Extends (at ∷ []) rows p
     of_pair s = of_factor s.0 s.1 s.2 s.3
 
 pub step_exact : (at : ℕ) (rows : List Terms) (p : ℕ → ℤ) → IsPointOf (next_list at rows) p ↔ Extends (at ∷ []) rows p

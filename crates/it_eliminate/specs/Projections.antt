@@ -1,7 +1,7 @@
 -- Points of a system, and its projection. A point is a map from coordinates to numbers: the values of the sets and of the rates.
 use Rattle.std.specs.Prelude.{◌≡◌, ◌↔◌, ℕ, ◌+◌, ◌≤◌, ◌^◌, ℤ, pos, ◌*ℤ◌, ◌≤ℤ◌, List, map, All, Contains}
-use Rattle.it_space.specs.declared.problems.System.{System}
-use Rattle.it_space.specs.Problems.{IsSystem}
+use Rattle.it_problems.specs.declared.problems.System.{System}
+use Rattle.it_problems.specs.Problems.{IsSystem}
 use Rattle.it_space.specs.Rows.{Terms, value, coefficient}
 use Rattle.it_eliminate.specs.declared.types.Eliminated.{Eliminated}
 use Rattle.it_eliminate.specs.declared.types.Eliminated.TheVariants as elimination_ends

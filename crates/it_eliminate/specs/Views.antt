@@ -1,6 +1,6 @@
 -- The results of elimination, as contracts compare them: each row by its terms.
 use Rattle.std.specs.Prelude.{ℕ, ◌^◌, List}
-use Rattle.it_space.specs.declared.problems.System.{System}
+use Rattle.it_problems.specs.declared.problems.System.{System}
 use Rattle.it_eliminate.specs.declared.types.Eliminated.{Eliminated}
 use Rattle.it_eliminate.specs.declared.types.Eliminated.TheVariants as elimination_ends
 use Rattle.it_eliminate.specs.Elimination.{EliminatedView, Region, Rows, Wide, ordered_rows, EliminationEnds}

@@ -1,6 +1,6 @@
 //! Rates eliminated one after the other.
 ghost use Rattle.std.specs.Prelude.{◌≡◌, ◌+◌, ◌^◌, ◌<◌, All, IfOk, [], ◌∷◌};
-ghost use Rattle.it_space.specs.Problems.{IsSystem};
+ghost use Rattle.it_problems.specs.Problems.{IsSystem};
 ghost use Rattle.it_space.specs.Spaces.{IsSpace};
 ghost use Rattle.it_eliminate.specs.Views.{SystemEnds};
 ghost use Rattle.it_eliminate.specs.Projections.{RegionIsProjection};
@@ -9,7 +9,8 @@ ghost use Rattle.it_eliminate.specs.Gathering.{IsRateEnd};
 use crate::ordered::{ordered_rows, row_list};
 use crate::pairs::next_list;
 use crate::types::{Eliminated, RateEnd};
-use it_space::{Row, RowFault, Space, System};
+use it_problems::System;
+use it_space::{Row, RowFault, Space};
 use std::alloc::{AllocError, Global};
 
 /// Eliminates `rates`, counted from 0, in the order of the list. Returns the projection, or the first rate at which two rows can't be

@@ -1,5 +1,6 @@
 //! The results of elimination.
-use it_space::{Row, System};
+use it_problems::System;
+use it_space::Row;
 
 /// The result of elimination.
 #[derive(Debug, Drop)]

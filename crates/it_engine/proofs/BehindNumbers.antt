@@ -17,7 +17,8 @@ use Rattle.it_engine.specs.Tables.{whole_row_at}
 use Prim.Native.Nat.{◌∣◌}
 
 -- what holds of the first rows still holds after more of them, none of which moved
-pub past_still : (moved : List Bool) (height : ℕ) (P : ℕ → Type 0) → ((q : ℕ) → has_moved moved q ≡ false → P q → P (q + 1)) → (from to : ℕ) → IsNextMoved moved height from to → P from → P to
+pub past_still : (moved : List Bool) (height : ℕ) (P : ℕ → Type 0) → ((q : ℕ) → has_moved moved q ≡ false → P q → P (q + 1)) → (from to : ℕ)
+    → IsNextMoved moved height from to → P from → P to
 past_still moved height P step from to n h =
     let d : from + (to - from) ≡ to = omega (arith, n.after) in
     subst P d (so_many (to - from) (λ q l g. n.still q l (omega (arith, g, d))))
@@ -33,7 +34,8 @@ past_still moved height P step from to n h =
 no_multiple : (rows : List WholeRowView) (moved : List Bool) → IsCommonMultiple rows moved 0 1
 no_multiple rows moved = record { some = omega arith; low = omega arith; each = λ q l e. absurd (omega (arith, l)) }
 
-moved_multiple : (rows : List WholeRowView) (moved : List Bool) (q multiple new : ℕ) → IsCommonMultiple rows moved q multiple → 0 < new → new < 2 ^ 63 → multiple ∣ new → (whole_row_at rows q).bottom ∣ new
+moved_multiple : (rows : List WholeRowView) (moved : List Bool) (q multiple new : ℕ) → IsCommonMultiple rows moved q multiple → 0 < new
+    → new < 2 ^ 63 → multiple ∣ new → (whole_row_at rows q).bottom ∣ new
     → IsCommonMultiple rows moved (q + 1) new
 moved_multiple rows moved q multiple new h some low old own = record { some = some; low = low; each = λ k l e. by_cases k l e (cases_eq k q) }
   where
@@ -41,7 +43,8 @@ moved_multiple rows moved q multiple new h some low old own = record { some = so
     by_cases k l e (inl f) = subst (λ (x : ℕ). (whole_row_at rows x).bottom ∣ new) (sym f) own
     by_cases k l e (inr d) = dvd_trans (whole_row_at rows k).bottom (h.each k (omega (arith, l, d)) e) old
 
-still_multiple : (rows : List WholeRowView) (moved : List Bool) (q multiple : ℕ) → has_moved moved q ≡ false → IsCommonMultiple rows moved q multiple → IsCommonMultiple rows moved (q + 1) multiple
+still_multiple : (rows : List WholeRowView) (moved : List Bool) (q multiple : ℕ) → has_moved moved q ≡ false
+    → IsCommonMultiple rows moved q multiple → IsCommonMultiple rows moved (q + 1) multiple
 still_multiple rows moved q multiple f h = record { some = h.some; low = h.low; each = λ k l e. by_cases k l e (cases_eq k q) }
   where
     by_cases : (k : ℕ) → k < q + 1 → has_moved moved k ≡ true → (k ≡ q) ⊎ (k ≡ q → ⊥) → (whole_row_at rows k).bottom ∣ multiple
@@ -52,14 +55,16 @@ still_multiple rows moved q multiple f h = record { some = h.some; low = h.low; 
 no_shares : (norm : ℕ) (rows : List WholeRowView) (moved : ℕ → Bool) (share : ℕ → ℕ) → BoundsShares norm rows moved share 0 0
 no_shares norm rows moved share = λ y h. omega arith
 
-still_shares : (norm : ℕ) (rows : List WholeRowView) (moved : ℕ → Bool) (share : ℕ → ℕ) (q bound : ℕ) → moved q ≡ false → BoundsShares norm rows moved share q bound → BoundsShares norm rows moved share (q + 1) bound
+still_shares : (norm : ℕ) (rows : List WholeRowView) (moved : ℕ → Bool) (share : ℕ → ℕ) (q bound : ℕ) → moved q ≡ false
+    → BoundsShares norm rows moved share q bound → BoundsShares norm rows moved share (q + 1) bound
 still_shares norm rows moved share q bound f h = λ y k.
     let e : q + 1 ≡ suc q = omega arith in
     subst (λ (x : ℕ). share_sum moved (λ q. unsigned_abs (y q)) share x ≤ bound) (sym e)
     (subst (λ (d : Bool). cond d (unsigned_abs (y q) * share q) 0 + share_sum moved (λ q. unsigned_abs (y q)) share q ≤ bound) (sym f)
     (let b = h y (λ j l. k j (omega (arith, l))) in omega (arith, b)))
 
-moved_shares : (norm : ℕ) (rows : List WholeRowView) (moved : ℕ → Bool) (share : ℕ → ℕ) (q bound most next : ℕ) → moved q ≡ true → AreAtMost (whole_row_at rows q).numbers most
+moved_shares : (norm : ℕ) (rows : List WholeRowView) (moved : ℕ → Bool) (share : ℕ → ℕ) (q bound most next : ℕ) → moved q ≡ true
+    → AreAtMost (whole_row_at rows q).numbers most
     → next ≡ bound + norm * most * share q → BoundsShares norm rows moved share q bound → BoundsShares norm rows moved share (q + 1) next
 moved_shares norm rows moved share q bound most next f m g h = λ y k.
     let e : q + 1 ≡ suc q = omega arith in
@@ -72,7 +77,8 @@ moved_shares norm rows moved share q bound most next f m g h = λ y k.
 share_grows : (multiple new bottom : ℕ) → bottom ∣ multiple → multiple ∣ new → new / bottom ≡ new / multiple * (multiple / bottom)
 share_grows multiple new bottom d e = sym (ap (λ x. x / bottom) (div-mul_cancel multiple e)) ∙ mul-div_assoc bottom (new / multiple) d
 
-sum_grows : (rows : List WholeRowView) (moved : List Bool) (most : ℕ → ℕ) (multiple new k : ℕ) → multiple ∣ new → ((q : ℕ) → q < k → has_moved moved q ≡ true → (whole_row_at rows q).bottom ∣ multiple)
+sum_grows : (rows : List WholeRowView) (moved : List Bool) (most : ℕ → ℕ) (multiple new k : ℕ) → multiple ∣ new
+    → ((q : ℕ) → q < k → has_moved moved q ≡ true → (whole_row_at rows q).bottom ∣ multiple)
     → share_sum (has_moved moved) most (share_of new rows) k ≡ new / multiple * share_sum (has_moved moved) most (share_of multiple rows) k
 sum_grows rows moved most multiple new zero e d = nothing (new / multiple)
   where
@@ -97,7 +103,8 @@ sum_grows rows moved most multiple new (suc k) e d =
         in_one m f x s = omega arith
 
 -- a bound for a multiple, times a factor, is a bound for the multiple times the factor
-wider_shares : (norm : ℕ) (rows : List WholeRowView) (moved : List Bool) (multiple new k bound : ℕ) → multiple ∣ new → IsCommonMultiple rows moved k multiple → BoundsMovedShares norm rows moved multiple k bound
+wider_shares : (norm : ℕ) (rows : List WholeRowView) (moved : List Bool) (multiple new k bound : ℕ) → multiple ∣ new
+    → IsCommonMultiple rows moved k multiple → BoundsMovedShares norm rows moved multiple k bound
     → BoundsMovedShares norm rows moved new k (bound * (new / multiple))
 wider_shares norm rows moved multiple new k bound e c h = λ y l.
     subst (λ (x : ℕ). x ≤ bound * (new / multiple)) (sym (sum_grows rows moved (λ q. unsigned_abs (y q)) multiple new k e c.each))
@@ -110,12 +117,20 @@ wider_shares norm rows moved multiple new k bound e c h = λ y l.
 pub first_shares : (norm : ℕ) (rows : List WholeRowView) (moved : List Bool) → AreShares norm rows moved 0 1 0
 first_shares norm rows moved = record { common = no_multiple rows moved; bounds = no_shares norm rows (has_moved moved) (share_of 1 rows) }
 
-pub same_shares : (norm : ℕ) (rows : List WholeRowView) (moved : List Bool) (multiple bound q : ℕ) → has_moved moved q ≡ false → AreShares norm rows moved q multiple bound → AreShares norm rows moved (q + 1) multiple bound
+pub same_shares : (norm : ℕ) (rows : List WholeRowView) (moved : List Bool) (multiple bound q : ℕ) → has_moved moved q ≡ false
+    → AreShares norm rows moved q multiple bound → AreShares norm rows moved (q + 1) multiple bound
 same_shares norm rows moved multiple bound q f h =
-    record { common = still_multiple rows moved q multiple f h.common; bounds = still_shares norm rows (has_moved moved) (share_of multiple rows) q bound f h.bounds }
+    record {
+      common = still_multiple rows moved q multiple f h.common;
+      bounds = still_shares norm rows (has_moved moved)
+          (share_of multiple rows) q bound f h.bounds;
+    }
 
-pub added_shares : (norm : ℕ) (rows : List WholeRowView) (moved : List Bool) (q multiple bound most entry new_multiple new_bound : ℕ) → has_moved moved q ≡ true → AreAtMost (whole_row_at rows q).numbers most
-    → entry ≡ norm * most → AreShares norm rows moved q multiple bound → AddsShare multiple bound (whole_row_at rows q).bottom entry new_multiple new_bound → AreShares norm rows moved (q + 1) new_multiple new_bound
+pub added_shares : (norm : ℕ) (rows : List WholeRowView) (moved : List Bool) (q multiple bound most entry new_multiple new_bound : ℕ)
+    → has_moved moved q ≡ true → AreAtMost (whole_row_at rows q).numbers most
+    → entry ≡ norm * most → AreShares norm rows moved q multiple bound
+    → AddsShare multiple bound (whole_row_at rows q).bottom entry new_multiple new_bound
+    → AreShares norm rows moved (q + 1) new_multiple new_bound
 added_shares norm rows moved q multiple bound most entry new_multiple new_bound f m g h a = record {
   common = moved_multiple rows moved q multiple new_multiple h.common a.some a.low a.old a.own;
   bounds = moved_shares norm rows (has_moved moved) (share_of new_multiple rows) q (bound * (new_multiple / multiple)) most new_bound f m
@@ -124,7 +139,8 @@ added_shares norm rows moved q multiple bound most entry new_multiple new_bound 
 }
 
 -- a denominator that divides the multiple: this stays
-pub added_in_place : (multiple bound bottom entry share new_multiple new_bound : ℕ) → 0 < multiple → multiple < 2 ^ 63 → bottom ∣ multiple → share ≡ multiple / bottom
+pub added_in_place : (multiple bound bottom entry share new_multiple new_bound : ℕ) → 0 < multiple → multiple < 2 ^ 63 → bottom ∣ multiple
+    → share ≡ multiple / bottom
     → (new_multiple ≡ multiple) × (new_bound ≡ bound + entry * share) → AddsShare multiple bound bottom entry new_multiple new_bound
 added_in_place multiple bound bottom entry share new_multiple new_bound some low d e h =
     subst (λ (x : ℕ). AddsShare multiple bound bottom entry x new_bound) (sym h.0) record {
@@ -140,7 +156,8 @@ added_in_place multiple bound bottom entry share new_multiple new_bound some low
 
 -- and one that doesn't: the least common multiple
 pub added_over_both : (multiple bound bottom entry divisor wider grown new_multiple new_bound : ℕ) → 0 < multiple → 0 < bottom → divisor ≡ gcd multiple bottom
-    → (wider < 2 ^ 63) × (wider ≡ multiple * (bottom / divisor)) × (grown ≡ bound * (bottom / divisor)) → (new_multiple ≡ wider) × (new_bound ≡ grown + entry * (wider / bottom))
+    → (wider < 2 ^ 63) × (wider ≡ multiple * (bottom / divisor)) × (grown ≡ bound * (bottom / divisor))
+    → (new_multiple ≡ wider) × (new_bound ≡ grown + entry * (wider / bottom))
     → AddsShare multiple bound bottom entry new_multiple new_bound
 added_over_both multiple bound bottom entry divisor wider grown new_multiple new_bound some own_some g w h =
     let q : wider ≡ lcm multiple bottom = w.1 ∙ ap (λ x. multiple * (bottom / x)) g ∙ lcm-over multiple bottom in
@@ -161,19 +178,26 @@ column_more columns rows basis moved entries multiple c q now new f more h =
     let e : suc q ≡ q + 1 = omega arith in
     subst (λ (x : ℕ). new ≡ column_less_moved columns rows basis moved entries multiple c x) e
     (more ∙ ap (λ (ts : Terms). ts ++ taken_terms (number_at entries q) (share_of multiple rows q) (slice_index_or columns (slice_index_or basis q 0) [])) h
-    ∙ ap (λ d. column_less_moved columns rows basis moved entries multiple c q ++ cond d (taken_terms (number_at entries q) (share_of multiple rows q) (slice_index_or columns (slice_index_or basis q 0) [])) []) (sym f))
+    ∙ ap (λ d. column_less_moved columns rows basis moved entries multiple c q
+    ++ cond d (taken_terms (number_at entries q) (share_of multiple rows q) (slice_index_or columns (slice_index_or basis q 0) [])) [])
+    (sym f))
 
-pub still_column : (columns : List Terms) (rows : List WholeRowView) (basis : List ℕ) (moved : List Bool) (entries : List ℤ) (multiple c : ℕ) (combined : Terms) (q : ℕ) → has_moved moved q ≡ false
-    → combined ≡ column_less_moved columns rows basis moved entries multiple c q → combined ≡ column_less_moved columns rows basis moved entries multiple c (q + 1)
+pub still_column : (columns : List Terms) (rows : List WholeRowView) (basis : List ℕ) (moved : List Bool) (entries : List ℤ)
+    (multiple c : ℕ) (combined : Terms) (q : ℕ) → has_moved moved q ≡ false
+    → combined ≡ column_less_moved columns rows basis moved entries multiple c q
+    → combined ≡ column_less_moved columns rows basis moved entries multiple c (q + 1)
 still_column columns rows basis moved entries multiple c combined q f h =
     let e : suc q ≡ q + 1 = omega arith in
     subst (λ (x : ℕ). combined ≡ column_less_moved columns rows basis moved entries multiple c x) e
     (h ∙ sym (append-nil (column_less_moved columns rows basis moved entries multiple c q))
-    ∙ ap (λ d. column_less_moved columns rows basis moved entries multiple c q ++ cond d (taken_terms (number_at entries q) (share_of multiple rows q) (slice_index_or columns (slice_index_or basis q 0) [])) []) (sym f))
+    ∙ ap (λ d. column_less_moved columns rows basis moved entries multiple c q
+    ++ cond d (taken_terms (number_at entries q) (share_of multiple rows q) (slice_index_or columns (slice_index_or basis q 0) [])) [])
+    (sym f))
 
 pub multiples_more : (factor : ℤ) (terms : Terms) (i : ℕ) (d : ℕ × ℤ) → i < length terms
     → multiple_of_terms factor (take i terms) ++ multiple_of_term factor (slice_index_or terms i d) ∷ [] ≡ multiple_of_terms factor (take (i + 1) terms)
-multiples_more factor terms i d l = sym (ap (multiple_of_terms factor) (take_more terms i d l) ∙ map-append (multiple_of_term factor) (take i terms) (slice_index_or terms i d ∷ []))
+multiples_more factor terms i d l = sym (ap (multiple_of_terms factor) (take_more terms i d l)
+    ∙ map-append (multiple_of_term factor) (take i terms) (slice_index_or terms i d ∷ []))
 
 -- what holds anyway holds where there is a value
 pub if_some_anyway : {A : Type 0} {P : Type 0} (o : Option A) → P → IfSome o (λ _. P)

@@ -24,7 +24,8 @@ use Rattle.it_engine.specs.Tables.{whole_row_at}
 use Rattle.it_engine.proofs.Generators.{value_named}
 use Rattle.it_whole.proofs.Names.{scaled_name}
 
-module _ (p : FeasibilityProblem Rational) (b t : SimplexTable Rational) (columns : List Terms) (limit : ℕ) (rows : List WholeRowView) (basis : List ℕ) (moved : ℕ → Bool)
+module _ (p : FeasibilityProblem Rational) (b t : SimplexTable Rational) (columns : List Terms) (limit : ℕ) (rows : List WholeRowView)
+    (basis : List ℕ) (moved : ℕ → Bool)
     (s : ShowsBehind p b t columns limit rows basis moved) (r : ℕ) (row : r < length basis) (stays : moved r ≡ false) where
   abbrev m : ℕ
   m = length basis
@@ -41,11 +42,14 @@ module _ (p : FeasibilityProblem Rational) (b t : SimplexTable Rational) (column
   entry_after q j = difference ring_ℚ (b.entry r j) (taken_off q j)
 
   moved_step : (q j : ℕ) → moved q ≡ true → entry_after (suc q) j ≡ difference ring_ℚ (entry_after q j) (Q.times (t.entry q j) (b.entry r (t.basis q)))
-  moved_step q j e = ap (λ d. difference ring_ℚ (b.entry r j) (Q.plus (cond d (Q.times (b.entry r (t.basis q)) (t.entry q j)) (Q.integer (pos 0))) (taken_off q j))) e
-      ∙ ring ring_ℚ (b.entry r j ∷ b.entry r (t.basis q) ∷ t.entry q j ∷ taken_off q j ∷ []) (plus (v 0) (minus (plus (times (v 1) (v 2)) (v 3)))) (plus (plus (v 0) (minus (v 3))) (minus (times (v 2) (v 1)))) refl
+  moved_step q j e = ap (λ d. difference ring_ℚ (b.entry r j) (Q.plus
+      (cond d (Q.times (b.entry r (t.basis q)) (t.entry q j)) (Q.integer (pos 0))) (taken_off q j))) e
+      ∙ ring ring_ℚ (b.entry r j ∷ b.entry r (t.basis q) ∷ t.entry q j ∷ taken_off q j ∷ [])
+      (plus (v 0) (minus (plus (times (v 1) (v 2)) (v 3)))) (plus (plus (v 0) (minus (v 3))) (minus (times (v 2) (v 1)))) refl
 
   still_step : (q j : ℕ) → moved q ≡ false → entry_after (suc q) j ≡ entry_after q j
-  still_step q j e = ap (λ d. difference ring_ℚ (b.entry r j) (Q.plus (cond d (Q.times (b.entry r (t.basis q)) (t.entry q j)) (Q.integer (pos 0))) (taken_off q j))) e
+  still_step q j e = ap (λ d. difference ring_ℚ (b.entry r j) (Q.plus
+      (cond d (Q.times (b.entry r (t.basis q)) (t.entry q j)) (Q.integer (pos 0))) (taken_off q j))) e
       ∙ ap (difference ring_ℚ (b.entry r j)) (ring_ℚ.null-add (taken_off q j))
 
   -- the row as the sum of its entries at the artificial columns times the start rows
@@ -55,11 +59,14 @@ module _ (p : FeasibilityProblem Rational) (b t : SimplexTable Rational) (column
   less_combines : (f g : ℕ → Rational) (x : Rational) → Combines f → Combines g → Combines (λ j. difference ring_ℚ (f j) (Q.times (g j) x))
   less_combines f g x hf hg j =
       ap₂ (λ y z. difference ring_ℚ y (Q.times z x)) (hf j) (hg j)
-      ∙ ring ring_ℚ (sum_to ring_ℚ m (λ k. Q.times (f (n + k)) (S k)) ∷ sum_to ring_ℚ m (λ k. Q.times (g (n + k)) (S k)) ∷ x ∷ []) (plus (v 0) (minus (times (v 1) (v 2)))) (plus (v 0) (times (v 1) (minus (v 2)))) refl
+      ∙ ring ring_ℚ (sum_to ring_ℚ m (λ k. Q.times (f (n + k)) (S k)) ∷ sum_to ring_ℚ m (λ k. Q.times (g (n + k)) (S k)) ∷ x ∷ [])
+      (plus (v 0) (minus (times (v 1) (v 2)))) (plus (v 0) (times (v 1) (minus (v 2)))) refl
       ∙ ap (Q.plus (sum_to ring_ℚ m (λ k. Q.times (f (n + k)) (S k)))) (sym (sum_times ring_ℚ m (λ k. Q.times (g (n + k)) (S k)) (Q.minus x)))
       ∙ sym (sum_add ring_ℚ m (λ k. Q.times (f (n + k)) (S k)) (λ k. Q.times (Q.times (g (n + k)) (S k)) (Q.minus x)))
-      ∙ sum_same ring_ℚ m (λ k. Q.plus (Q.times (f (n + k)) (S k)) (Q.times (Q.times (g (n + k)) (S k)) (Q.minus x))) (λ k. Q.times (difference ring_ℚ (f (n + k)) (Q.times (g (n + k)) x)) (S k))
-      (λ k _. ring ring_ℚ (f (n + k) ∷ g (n + k) ∷ S k ∷ x ∷ []) (plus (times (v 0) (v 2)) (times (times (v 1) (v 2)) (minus (v 3)))) (times (plus (v 0) (minus (times (v 1) (v 3)))) (v 2)) refl)
+      ∙ sum_same ring_ℚ m (λ k. Q.plus (Q.times (f (n + k)) (S k)) (Q.times (Q.times (g (n + k)) (S k)) (Q.minus x)))
+      (λ k. Q.times (difference ring_ℚ (f (n + k)) (Q.times (g (n + k)) x)) (S k))
+      (λ k _. ring ring_ℚ (f (n + k) ∷ g (n + k) ∷ S k ∷ x ∷ []) (plus (times (v 0) (v 2)) (times (times (v 1) (v 2)) (minus (v 3))))
+      (times (plus (v 0) (minus (times (v 1) (v 3)))) (v 2)) refl)
     where
       S : ℕ → Rational
       S = λ k. start_row rationals m n p k j
@@ -78,11 +85,14 @@ module _ (p : FeasibilityProblem Rational) (b t : SimplexTable Rational) (column
 
   -- the entry at the basic column of a later row stays
   entry_stays : (q : ℕ) → q < m → entry_after q (t.basis q) ≡ b.entry r (t.basis q)
-  entry_stays q l = ap (difference ring_ℚ (b.entry r (t.basis q))) (sum_same ring_ℚ q (λ k. cond (moved k) (Q.times (b.entry r (t.basis k)) (t.entry k (t.basis q))) (Q.integer (pos 0))) (λ k. Q.integer (pos 0)) (λ k h. by_move k h (moved k)) ∙ sum_null ring_ℚ q)
+  entry_stays q l = ap (difference ring_ℚ (b.entry r (t.basis q))) (sum_same ring_ℚ q
+      (λ k. cond (moved k) (Q.times (b.entry r (t.basis k)) (t.entry k (t.basis q))) (Q.integer (pos 0))) (λ k. Q.integer (pos 0))
+      (λ k h. by_move k h (moved k)) ∙ sum_null ring_ℚ q)
       ∙ ring ring_ℚ (b.entry r (t.basis q) ∷ []) (plus (v 0) (minus nil)) (v 0) refl
     where
       by_move : (k : ℕ) → k < q → (d : Bool) → cond d (Q.times (b.entry r (t.basis k)) (t.entry k (t.basis q))) (Q.integer (pos 0)) ≡ Q.integer (pos 0)
-      by_move k h true = ap (Q.times (b.entry r (t.basis k))) (s.behind.holds.units k q (omega (arith, h, l)) l ∙ ap (λ d. cond d (Q.integer (pos 1)) (Q.integer (pos 0))) (ne_eqb k q (λ e. omega (arith, h, e))))
+      by_move k h true = ap (Q.times (b.entry r (t.basis k))) (s.behind.holds.units k q (omega (arith, h, l)) l
+          ∙ ap (λ d. cond d (Q.integer (pos 1)) (Q.integer (pos 0))) (ne_eqb k q (λ e. omega (arith, h, e))))
           ∙ mul-null ring_ℚ (b.entry r (t.basis k))
       by_move k h false = refl
 
@@ -91,7 +101,8 @@ module _ (p : FeasibilityProblem Rational) (b t : SimplexTable Rational) (column
   ShowsAfter q now = IsRow (m + 1) limit (λ k. entry_after q (n + k)) now.numbers now.bottom
 
   pub none_taken : ShowsAfter 0 (whole_row_at rows r)
-  none_taken = subst (λ (f : ℕ → Rational). IsRow (m + 1) limit f (whole_row_at rows r).numbers (whole_row_at rows r).bottom) (same_functions (λ k. base_entry k (moved r) stays)) (s.shows.row r (omega (arith, row)))
+  none_taken = subst (λ (f : ℕ → Rational). IsRow (m + 1) limit f (whole_row_at rows r).numbers (whole_row_at rows r).bottom)
+      (same_functions (λ k. base_entry k (moved r) stays)) (s.shows.row r (omega (arith, row)))
     where
       base_entry : (k : ℕ) (d : Bool) → d ≡ false → cond d (t.entry r (n + k)) (b.entry r (n + k)) ≡ entry_after 0 (n + k)
       base_entry k d e = ap (λ c. cond c (t.entry r (n + k)) (b.entry r (n + k))) e ∙ ring ring_ℚ (b.entry r (n + k) ∷ []) (v 0) (plus (v 0) (minus nil)) refl
@@ -100,15 +111,19 @@ module _ (p : FeasibilityProblem Rational) (b t : SimplexTable Rational) (column
   still_taken q now e h = subst (λ (f : ℕ → Rational). IsRow (m + 1) limit f now.numbers now.bottom) (same_functions (λ k. sym (still_step q (n + k) e))) h
 
   pub moved_taken : (q : ℕ) (now new : WholeRowView) → q < m → moved q ≡ true → ShowsAfter q now
-      → IsWholeRowReduced (m + 1) limit now (whole_row_at rows q) (value (slice_index_or columns (slice_index_or basis q 0) []) (number_at now.numbers)) (pos (whole_row_at rows q).bottom) new → ShowsAfter (suc q) new
-  moved_taken q now new l e h a = subst (λ (f : ℕ → Rational). IsRow (m + 1) limit f new.numbers new.bottom) (same_functions (λ k. ap (λ y. difference ring_ℚ (entry_after q (n + k)) (Q.times (t.entry q (n + k)) y)) (by_one (b.entry r (t.basis q))) ∙ sym (moved_step q (n + k) e)))
+      → IsWholeRowReduced (m + 1) limit now (whole_row_at rows q) (value (slice_index_or columns (slice_index_or basis q 0) [])
+      (number_at now.numbers)) (pos (whole_row_at rows q).bottom) new → ShowsAfter (suc q) new
+  moved_taken q now new l e h a = subst (λ (f : ℕ → Rational). IsRow (m + 1) limit f new.numbers new.bottom)
+      (same_functions (λ k. ap (λ y. difference ring_ℚ (entry_after q (n + k)) (Q.times (t.entry q (n + k)) y))
+      (by_one (b.entry r (t.basis q))) ∙ sym (moved_step q (n + k) e)))
       (a (λ k. entry_after q (n + k)) (λ k. t.entry q (n + k)) (b.entry r (t.basis q)) (Q.integer (pos 1)) h own_row entry_is one_is)
     where
       own : WholeRowView
       own = whole_row_at rows q
 
       own_row : IsRow (m + 1) limit (λ k. t.entry q (n + k)) own.numbers own.bottom
-      own_row = subst (λ (d : Bool). IsRow (m + 1) limit (λ k. cond d (t.entry q (n + k)) (b.entry q (n + k))) own.numbers own.bottom) e (s.shows.row q (omega (arith, l)))
+      own_row = subst (λ (d : Bool). IsRow (m + 1) limit (λ k. cond d (t.entry q (n + k)) (b.entry q (n + k))) own.numbers own.bottom) e
+          (s.shows.row q (omega (arith, l)))
 
       inverse_of_one : Q.inverse (Q.integer (pos 1)) ≡ Q.integer (pos 1)
       inverse_of_one = sym (ring_ℚ.unit-mul (Q.inverse (Q.integer (pos 1)))) ∙ field_ℚ.order.mul-inv (Q.integer (pos 1)) field_ℚ.order.apart
@@ -121,17 +136,20 @@ module _ (p : FeasibilityProblem Rational) (b t : SimplexTable Rational) (column
         where
           one_over : (d : ℕ) → IsRatio (Q.integer (pos 1)) (pos d) d
           one_over d = let z : pos 1 *ℤ pos d ≡ pos d = omega (arith, ints) in let k : 1 * d ≡ d = omega arith in
-              subst (λ (z : ℤ). IsRatio (Q.integer (pos 1)) z d) z (subst (λ (k : ℕ). IsRatio (Q.integer (pos 1)) (pos 1 *ℤ pos d) k) k (scaled_name (Q.integer (pos 1)) (pos 1) 1 d (whole_names (pos 1))))
+              subst (λ (z : ℤ). IsRatio (Q.integer (pos 1)) z d) z (subst (λ (k : ℕ). IsRatio (Q.integer (pos 1)) (pos 1 *ℤ pos d) k) k
+              (scaled_name (Q.integer (pos 1)) (pos 1) 1 d (whole_names (pos 1))))
 
       basic : t.basis q < n
       basic = s.entered q l e
 
       entry_is : IsRatio (b.entry r (t.basis q)) (value (slice_index_or columns (slice_index_or basis q 0) []) (number_at now.numbers)) now.bottom
-      entry_is = subst (λ (j : ℕ). IsRatio (b.entry r (t.basis q)) (value (slice_index_or columns j []) (number_at now.numbers)) now.bottom) (s.shows.basis_is q l)
+      entry_is = subst (λ (j : ℕ). IsRatio (b.entry r (t.basis q)) (value (slice_index_or columns j []) (number_at now.numbers)) now.bottom)
+          (s.shows.basis_is q l)
           (let c = s.columns_are.column (t.basis q) basic in
           subst (λ (x : Rational). IsRatio x (value (slice_index_or columns (t.basis q) []) (number_at now.numbers)) now.bottom)
           (sym (c.value_is (λ k. entry_after q (n + k))) ∙ sym (after_combines q (omega (arith, l)) (t.basis q)) ∙ entry_stays q l)
-          (value_named (slice_index_or columns (t.basis q) []) m (λ k. entry_after q (n + k)) (number_at now.numbers) now.bottom h.some c.within (λ k g. h.named k (omega (arith, g)))))
+          (value_named (slice_index_or columns (t.basis q) []) m (λ k. entry_after q (n + k))
+          (number_at now.numbers) now.bottom h.some c.within (λ k g. h.named k (omega (arith, g)))))
 
   -- after all rows it is up to date
   pub all_taken : (now : WholeRowView) → ShowsAfter m now → IsRow (m + 1) limit (λ k. t.entry r (n + k)) now.numbers now.bottom

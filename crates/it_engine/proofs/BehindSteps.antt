@@ -26,7 +26,8 @@ use Rattle.it_engine.proofs.Generators.{zero_named, value_named}
 abbrev pub moved_with : (ℕ → Bool) → ℕ → ℕ → Bool
 moved_with moved r q = cond (eqb q r) true (moved q)
 
-module _ (p : FeasibilityProblem Rational) (b t : SimplexTable Rational) (columns : List Terms) (limit : ℕ) (rows : List WholeRowView) (basis : List ℕ) (moved : ℕ → Bool)
+module _ (p : FeasibilityProblem Rational) (b t : SimplexTable Rational) (columns : List Terms) (limit : ℕ) (rows : List WholeRowView)
+    (basis : List ℕ) (moved : ℕ → Bool)
     (s : ShowsBehind p b t columns limit rows basis moved) (c r : ℕ) (enters : c < length columns) (row : r < length basis)
     (column_is : entering_column rationals (length basis) (length columns) t ≡ c) (row_is : leaving_row rationals (length basis) (length columns) t c ≡ r)
     (moves : ¬ (IsStuck rationals (length basis) (length columns) t)) (null : t.entry r (length columns + length basis) ≡ Q.integer (pos 0)) where
@@ -44,7 +45,9 @@ module _ (p : FeasibilityProblem Rational) (b t : SimplexTable Rational) (column
   next_is = to_step (λ r' c'. pivot rationals t r c ≡ pivot rationals t r' c') refl
 
   behind_next : IsBehind field_ℚ m n p b (next rationals m n t) (moved_with moved r)
-  behind_next = to_step (λ r' c'. (t.entry r' (n + m) ≡ Q.integer (pos 0)) → IsBehind field_ℚ m n p b (next rationals m n t) (moved_with moved r') → IsBehind field_ℚ m n p b (next rationals m n t) (moved_with moved r)) (λ _ x. x)
+  behind_next = to_step (λ r' c'. (t.entry r' (n + m) ≡ Q.integer (pos 0))
+      → IsBehind field_ℚ m n p b (next rationals m n t) (moved_with moved r')
+      → IsBehind field_ℚ m n p b (next rationals m n t) (moved_with moved r)) (λ _ x. x)
       (to_step (λ r' c'. t.entry r' (n + m) ≡ Q.integer (pos 0)) null)
       (row_moves field_ℚ m n p b t moved s.behind moves (to_step (λ r' c'. t.entry r' (n + m) ≡ Q.integer (pos 0)) null))
 
@@ -53,17 +56,23 @@ module _ (p : FeasibilityProblem Rational) (b t : SimplexTable Rational) (column
       (entry_is : (i : ℕ) → i < m + 1 → moved_with moved r i ≡ true → entry i ≡ value (slice_index_or columns c []) (number_at (whole_row_at now i).numbers))
       (entry_null : (i : ℕ) → i < m + 1 → moved_with moved r i ≡ false → entry i ≡ pos 0)
       (new : List WholeRowView) (pivoted : AreWholeRowsPivoted (m + 1) limit now entry r new) where
-    now_moved : (i : ℕ) → i < m + 1 → moved_with moved r i ≡ true → IsRow (m + 1) limit (λ k. t.entry i (n + k)) (whole_row_at now i).numbers (whole_row_at now i).bottom
-    now_moved i l e = subst (λ (d : Bool). IsRow (m + 1) limit (λ k. cond d (t.entry i (n + k)) (b.entry i (n + k))) (whole_row_at now i).numbers (whole_row_at now i).bottom) e (shown.row i l)
+    now_moved : (i : ℕ) → i < m + 1 → moved_with moved r i ≡ true
+        → IsRow (m + 1) limit (λ k. t.entry i (n + k)) (whole_row_at now i).numbers (whole_row_at now i).bottom
+    now_moved i l e = subst (λ (d : Bool). IsRow (m + 1) limit (λ k. cond d (t.entry i (n + k)) (b.entry i (n + k)))
+        (whole_row_at now i).numbers (whole_row_at now i).bottom) e (shown.row i l)
 
-    now_behind : (i : ℕ) → i < m + 1 → moved_with moved r i ≡ false → IsRow (m + 1) limit (λ k. b.entry i (n + k)) (whole_row_at now i).numbers (whole_row_at now i).bottom
-    now_behind i l e = subst (λ (d : Bool). IsRow (m + 1) limit (λ k. cond d (t.entry i (n + k)) (b.entry i (n + k))) (whole_row_at now i).numbers (whole_row_at now i).bottom) e (shown.row i l)
+    now_behind : (i : ℕ) → i < m + 1 → moved_with moved r i ≡ false
+        → IsRow (m + 1) limit (λ k. b.entry i (n + k)) (whole_row_at now i).numbers (whole_row_at now i).bottom
+    now_behind i l e = subst (λ (d : Bool). IsRow (m + 1) limit (λ k. cond d (t.entry i (n + k)) (b.entry i (n + k)))
+        (whole_row_at now i).numbers (whole_row_at now i).bottom) e (shown.row i l)
 
     entry_named : (i : ℕ) → i < m + 1 → moved_with moved r i ≡ true → IsRatio (t.entry i c) (entry i) (whole_row_at now i).bottom
     entry_named i l e = subst (λ (z : ℤ). IsRatio (t.entry i c) z (whole_row_at now i).bottom) (sym (entry_is i l e))
         (let k = s.columns_are.column c enters in let w = now_moved i l e in
-        subst (λ (q : Rational). IsRatio q (value (slice_index_or columns c []) (number_at (whole_row_at now i).numbers)) (whole_row_at now i).bottom) (sym (s.behind.holds.combines i c (omega (arith, l)) ∙ k.value_is (λ k. t.entry i (n + k))))
-        (value_named (slice_index_or columns c []) m (λ k. t.entry i (n + k)) (number_at (whole_row_at now i).numbers) (whole_row_at now i).bottom w.some k.within (λ k g. w.named k (omega (arith, g)))))
+        subst (λ (q : Rational). IsRatio q (value (slice_index_or columns c []) (number_at (whole_row_at now i).numbers))
+        (whole_row_at now i).bottom) (sym (s.behind.holds.combines i c (omega (arith, l)) ∙ k.value_is (λ k. t.entry i (n + k))))
+        (value_named (slice_index_or columns c []) m (λ k. t.entry i (n + k)) (number_at (whole_row_at now i).numbers)
+        (whole_row_at now i).bottom w.some k.within (λ k g. w.named k (omega (arith, g)))))
 
     own_moved : moved_with moved r r ≡ true
     own_moved = ap (λ d. cond d true (moved r)) (eq-eqb r r refl)
@@ -80,17 +89,21 @@ module _ (p : FeasibilityProblem Rational) (b t : SimplexTable Rational) (column
       where
         by_move : (i ≡ r → ⊥) → (d : Bool) → moved_with moved r i ≡ d → Shows i (λ k. cond d ((pivot rationals t r c).entry i (n + k)) (b.entry i (n + k)))
         by_move apart true e = subst (Shows i) (same_functions (λ k. sym (other_row field_ℚ m n t r c i (n + k) apart)))
-            ((pivoted.others i (omega (arith, l, shown.rows_are)) apart).less (λ k. t.entry i (n + k)) (λ k. t.entry r (n + k)) (t.entry i c) (t.entry r c) (now_moved i l e) own_row (entry_named i l e) (entry_named r (omega (arith, row)) own_moved))
+            ((pivoted.others i (omega (arith, l, shown.rows_are)) apart).less (λ k. t.entry i (n + k)) (λ k. t.entry r (n + k))
+            (t.entry i c) (t.entry r c) (now_moved i l e) own_row (entry_named i l e) (entry_named r (omega (arith, row)) own_moved))
         by_move apart false e = subst (Shows i) (same_functions (λ k. nothing_taken (b.entry i (n + k)) (t.entry r (n + k)) (Q.inverse (t.entry r c))))
-            ((pivoted.others i (omega (arith, l, shown.rows_are)) apart).less (λ k. b.entry i (n + k)) (λ k. t.entry r (n + k)) (Q.integer (pos 0)) (t.entry r c) (now_behind i l e) own_row
-            (subst (λ (z : ℤ). IsRatio (Q.integer (pos 0)) z (whole_row_at now i).bottom) (sym (entry_null i l e)) (zero_named (whole_row_at now i).bottom)) (entry_named r (omega (arith, row)) own_moved))
+            ((pivoted.others i (omega (arith, l, shown.rows_are)) apart).less (λ k. b.entry i (n + k)) (λ k. t.entry r (n + k))
+            (Q.integer (pos 0)) (t.entry r c) (now_behind i l e) own_row
+            (subst (λ (z : ℤ). IsRatio (Q.integer (pos 0)) z (whole_row_at now i).bottom) (sym (entry_null i l e))
+            (zero_named (whole_row_at now i).bottom)) (entry_named r (omega (arith, row)) own_moved))
           where
             nothing_taken : (x y z : Rational) → difference ring_ℚ x (Q.times y (Q.times (Q.integer (pos 0)) z)) ≡ x
             nothing_taken x y z = ring ring_ℚ (x ∷ y ∷ z ∷ []) (plus (v 0) (minus (times (v 1) (times nil (v 2))))) (v 0) refl
 
         by_cases : (i ≡ r) ⊎ (i ≡ r → ⊥) → Shows i (λ k. cond (moved_with moved r i) ((pivot rationals t r c).entry i (n + k)) (b.entry i (n + k)))
         by_cases (inl e) = subst (λ (x : ℕ). Shows x (λ k. cond (moved_with moved r x) ((pivot rationals t r c).entry x (n + k)) (b.entry x (n + k)))) (sym e)
-            (subst (Shows r) (same_functions (λ k. sym (pivot_row field_ℚ m n t r c (n + k)) ∙ ap (λ d. cond d ((pivot rationals t r c).entry r (n + k)) (b.entry r (n + k))) (sym own_moved)))
+            (subst (Shows r) (same_functions (λ k. sym (pivot_row field_ℚ m n t r c (n + k))
+            ∙ ap (λ d. cond d ((pivot rationals t r c).entry r (n + k)) (b.entry r (n + k))) (sym own_moved)))
             (pivoted.own (λ k. t.entry r (n + k)) (t.entry r c) own_row (entry_named r (omega (arith, row)) own_moved)))
         by_cases (inr d) = by_move d (moved_with moved r i) refl
 
@@ -101,7 +114,8 @@ module _ (p : FeasibilityProblem Rational) (b t : SimplexTable Rational) (column
     basis_after i l = by_cases (cases_eq i r)
       where
         by_cases : (i ≡ r) ⊎ (i ≡ r → ⊥) → (pivot rationals t r c).basis i ≡ slice_index_or (slice_set basis r c) i 0
-        by_cases (inl e) = ap (λ b. cond b c (t.basis i)) (eq-eqb i r e) ∙ sym (get_or-set_same basis r c 0 row) ∙ ap (λ x. slice_index_or (slice_set basis r c) x 0) (sym e)
+        by_cases (inl e) = ap (λ b. cond b c (t.basis i)) (eq-eqb i r e) ∙ sym (get_or-set_same basis r c 0 row)
+            ∙ ap (λ x. slice_index_or (slice_set basis r c) x 0) (sym e)
         by_cases (inr d) = ap (λ b. cond b c (t.basis i)) (ne_eqb i r d) ∙ s.shows.basis_is i l ∙ sym (get_or-set_other basis r i c 0 d)
 
     entered_after : (q : ℕ) → q < m → moved_with moved r q ≡ true → (pivot rationals t r c).basis q < n

@@ -33,7 +33,8 @@ use Rattle.it_engine.proofs.NoWide as W
 use Rattle.it_engine.proofs.NamedBehind.{difference_is_named, sum_is_bounded}
 use Rattle.it_whole.proofs.Names.{sign_named, minus_names, null_named, number_null}
 
-module _ (p : FeasibilityProblem Rational) (b t : SimplexTable Rational) (columns : List Terms) (limit : ℕ) (rows : List WholeRowView) (basis : List ℕ) (moved : ℕ → Bool)
+module _ (p : FeasibilityProblem Rational) (b t : SimplexTable Rational) (columns : List Terms) (limit : ℕ) (rows : List WholeRowView)
+    (basis : List ℕ) (moved : ℕ → Bool)
     (s : ShowsBehind p b t columns limit rows basis moved) where
   abbrev m : ℕ
   m = length basis
@@ -47,7 +48,8 @@ module _ (p : FeasibilityProblem Rational) (b t : SimplexTable Rational) (column
   pub mixed_combines : CombinesStart rationals m n p mixed
   mixed_combines i j hi = by_move (moved i)
     where
-      by_move : (d : Bool) → cond d (t.entry i j) (b.entry i j) ≡ sum_to ring_ℚ m (λ k. Q.times (cond d (t.entry i (n + k)) (b.entry i (n + k))) (start_row rationals m n p k j))
+      by_move : (d : Bool) → cond d (t.entry i j) (b.entry i j)
+          ≡ sum_to ring_ℚ m (λ k. Q.times (cond d (t.entry i (n + k)) (b.entry i (n + k))) (start_row rationals m n p k j))
       by_move true = s.behind.holds.combines i j hi
       by_move false = s.behind.base.combines i j hi
 
@@ -70,7 +72,8 @@ module _ (p : FeasibilityProblem Rational) (b t : SimplexTable Rational) (column
   pub right_named : (i : ℕ) → i < m → IsRatio (t.entry i (n + m)) (number_at (whole_row_at rows i).numbers m) (bottom_now i)
   right_named i hi = by_move (moved i) ((s.shows.row i (omega (arith, hi))).named m (omega arith))
     where
-      by_move : (d : Bool) → IsRatio (cond d (t.entry i (n + m)) (b.entry i (n + m))) (number_at (whole_row_at rows i).numbers m) (bottom_now i) → IsRatio (t.entry i (n + m)) (number_at (whole_row_at rows i).numbers m) (bottom_now i)
+      by_move : (d : Bool) → IsRatio (cond d (t.entry i (n + m)) (b.entry i (n + m))) (number_at (whole_row_at rows i).numbers m)
+          (bottom_now i) → IsRatio (t.entry i (n + m)) (number_at (whole_row_at rows i).numbers m) (bottom_now i)
       by_move true r = r
       by_move false r = subst (λ (q : Rational). IsRatio q (number_at (whole_row_at rows i).numbers m) (bottom_now i)) (sym (s.behind.rights i hi)) r
 
@@ -91,12 +94,15 @@ module _ (p : FeasibilityProblem Rational) (b t : SimplexTable Rational) (column
 
   -- the column that enters
   pub entering_behind : entering_column rationals m n t ≡ first_negative_cost columns (whole_row_at rows m).numbers
-  entering_behind = first_false_agrees (λ j. is_at_least_zero (t.entry m j)) (λ j. sign_least (value (slice_index_or columns j []) (number_at (whole_row_at rows m).numbers))) 0 n
+  entering_behind = first_false_agrees (λ j. is_at_least_zero (t.entry m j))
+      (λ j. sign_least (value (slice_index_or columns j []) (number_at (whole_row_at rows m).numbers))) 0 n
       (λ j h k. cost_sign j (omega arith))
     where
       cost_sign : (j : ℕ) → j < n → is_at_least_zero (t.entry m j) ≡ sign_least (value (slice_index_or columns j []) (number_at (whole_row_at rows m).numbers))
-      cost_sign j l = sign_named (t.entry m j) (value (slice_index_or columns j []) (number_at (whole_row_at rows m).numbers)) (whole_row_at rows m).bottom (s.shows.row m (omega arith)).some
-          (subst (λ (d : Bool). IsRatio (cond d (t.entry m j) (b.entry m j)) (value (slice_index_or columns j []) (number_at (whole_row_at rows m).numbers)) (whole_row_at rows m).bottom) s.cost
+      cost_sign j l = sign_named (t.entry m j) (value (slice_index_or columns j []) (number_at (whole_row_at rows m).numbers))
+          (whole_row_at rows m).bottom (s.shows.row m (omega arith)).some
+          (subst (λ (d : Bool). IsRatio (cond d (t.entry m j) (b.entry m j))
+          (value (slice_index_or columns j []) (number_at (whole_row_at rows m).numbers)) (whole_row_at rows m).bottom) s.cost
           (price_named m n limit s.norm p mixed columns rows basis mixed_combines s.shows s.columns_are s.fit s.some m j (omega arith) l))
 
   pub stuck_behind : first_negative_cost columns (whole_row_at rows m).numbers ≡ n → IsStuck rationals m n t
@@ -126,11 +132,13 @@ module _ (p : FeasibilityProblem Rational) (b t : SimplexTable Rational) (column
     pub true_named : (i j : ℕ) → i ≤ m → j ≤ n + m → IsRatio (t.entry i j) (true_number i j) (true_bottom i)
     true_named i j hi hj = by_move (moved i) refl
       where
-        by_move : (d : Bool) → moved i ≡ d → IsRatio (t.entry i j) (cond d (number_now i j) (number_now i j *ℤ pos multiple +ℤ neg_ℤ (behind_sum i j))) (cond d (bottom_now i) (bottom_now i * multiple))
+        by_move : (d : Bool) → moved i ≡ d → IsRatio (t.entry i j) (cond d (number_now i j)
+            (number_now i j *ℤ pos multiple +ℤ neg_ℤ (behind_sum i j))) (cond d (bottom_now i) (bottom_now i * multiple))
         by_move true e = moved_named i j hi hj e
         by_move false e = subst (λ (q : Rational). IsRatio q (number_now i j *ℤ pos multiple +ℤ neg_ℤ (behind_sum i j)) (bottom_now i * multiple))
             (sym (row_behind field_ℚ m n p b t s.behind.base s.behind.holds moved s.behind.same i j (behind_below i hi e) e))
-            (difference_is_named m (bottom_now i) multiple (mixed_is_over.some i hi) whole moved (λ q. b.entry i (t.basis q)) (λ q. t.entry q j) (λ q. number_now i (t.basis q)) (λ q. number_now q j) bottom_now share
+            (difference_is_named m (bottom_now i) multiple (mixed_is_over.some i hi) whole moved (λ q. b.entry i (t.basis q))
+            (λ q. t.entry q j) (λ q. number_now i (t.basis q)) (λ q. number_now q j) bottom_now share
             (λ q l. base_named i (t.basis q) hi (basic_within q l) e)
             (λ q l f. moved_named q j (omega (arith, l)) hj f)
             (λ q l f. mixed_is_over.some q (omega (arith, l)))
@@ -150,10 +158,15 @@ module _ (p : FeasibilityProblem Rational) (b t : SimplexTable Rational) (column
           numbers_length = (s.shows.row i (omega (arith, hi))).length_is
 
           by_column : (j < n) ⊎ (n ≤ j) → unsigned_abs (number_now i j) ≤ norm * l
-          by_column (inl k) = subst (λ (d : Bool). unsigned_abs (cond d (value (slice_index_or columns j []) (number_at (whole_row_at rows i).numbers)) (number_at (whole_row_at rows i).numbers (j - n))) ≤ norm * l) (sym (lt-ltb j n k))
-              (let c = value_bounded (slice_index_or columns j []) m (number_at (whole_row_at rows i).numbers) l (s.columns_are.column j k).within (λ a b. h a (omega (arith, b, numbers_length))) in
+          by_column (inl k) = subst (λ (d : Bool). unsigned_abs (cond d
+              (value (slice_index_or columns j []) (number_at (whole_row_at rows i).numbers))
+              (number_at (whole_row_at rows i).numbers (j - n))) ≤ norm * l) (sym (lt-ltb j n k))
+              (let c = value_bounded (slice_index_or columns j []) m (number_at (whole_row_at rows i).numbers) l
+              (s.columns_are.column j k).within (λ a b. h a (omega (arith, b, numbers_length))) in
               let w = mul-le (row_mass (slice_index_or columns j [])) l norm l (is_norm.bounds j k) (omega arith) in omega (arith, c, w))
-          by_column (inr k) = subst (λ (d : Bool). unsigned_abs (cond d (value (slice_index_or columns j []) (number_at (whole_row_at rows i).numbers)) (number_at (whole_row_at rows i).numbers (j - n))) ≤ norm * l) (sym (le-ltb j n k))
+          by_column (inr k) = subst (λ (d : Bool). unsigned_abs (cond d
+              (value (slice_index_or columns j []) (number_at (whole_row_at rows i).numbers))
+              (number_at (whole_row_at rows i).numbers (j - n))) ≤ norm * l) (sym (le-ltb j n k))
               (let c = h (j - n) (omega (arith, hj, k, numbers_length)) in
               let w : 1 * l ≤ norm * l = mul-le 1 l norm l is_norm.some (omega arith) in omega (arith, c, w))
 
@@ -161,13 +174,16 @@ module _ (p : FeasibilityProblem Rational) (b t : SimplexTable Rational) (column
       behind_short i j hi hj e =
           difference_short (number_now i j *ℤ pos multiple) (behind_sum i j) (norm * most * multiple) (norm * most * shares)
           (product_at_most (number_now i j) multiple (norm * most) (number_bounded i j most (omega (arith, hi)) hj (base_most i hi e)))
-          (let b = sum_is_bounded m (bottom_now i) multiple (mixed_is_over.some i (omega (arith, hi))) whole moved (λ q. b.entry i (t.basis q)) (λ q. t.entry q j) (λ q. number_now i (t.basis q)) (λ q. number_now q j) bottom_now share
+          (let b = sum_is_bounded m (bottom_now i) multiple (mixed_is_over.some i (omega (arith, hi))) whole moved
+          (λ q. b.entry i (t.basis q)) (λ q. t.entry q j) (λ q. number_now i (t.basis q)) (λ q. number_now q j) bottom_now share
           (λ q l. base_named i (t.basis q) (omega (arith, hi)) (basic_within q l) e)
           (λ q l f. moved_named q j (omega (arith, l)) hj f)
           (λ q l f. mixed_is_over.some q (omega (arith, l)))
           e_share
-          (norm * most) (λ q. unsigned_abs (number_now q j)) (λ q l f. number_bounded i (t.basis q) most (omega (arith, hi)) (basic_within q l) (base_most i hi e)) (λ q l f. omega arith) m (omega arith) in
-          let w = mul-le (norm * most) (share_sum moved (λ q. unsigned_abs (number_now q j)) share m) (norm * most) shares (omega arith) (bounds (λ q. number_now q j) (λ q l f k h. number_bounded q j k (omega (arith, l)) hj h)) in
+          (norm * most) (λ q. unsigned_abs (number_now q j)) (λ q l f. number_bounded i (t.basis q) most (omega (arith, hi))
+          (basic_within q l) (base_most i hi e)) (λ q l f. omega arith) m (omega arith) in
+          let w = mul-le (norm * most) (share_sum moved (λ q. unsigned_abs (number_now q j)) share m) (norm * most) shares (omega arith)
+          (bounds (λ q. number_now q j) (λ q l f k h. number_bounded q j k (omega (arith, l)) hj h)) in
           omega (arith, b, w))
           fits
         where
@@ -190,13 +206,15 @@ module _ (p : FeasibilityProblem Rational) (b t : SimplexTable Rational) (column
           low_by_move i hi true e = mixed_is_over.low i hi
           low_by_move i hi false e = low i (behind_below i hi e) e
 
-          short_by_move : (i j : ℕ) → i ≤ m → j ≤ n + m → (d : Bool) → moved i ≡ d → IsShort (cond d (number_now i j) (number_now i j *ℤ pos multiple +ℤ neg_ℤ (behind_sum i j)))
+          short_by_move : (i j : ℕ) → i ≤ m → j ≤ n + m → (d : Bool) → moved i ≡ d
+              → IsShort (cond d (number_now i j) (number_now i j *ℤ pos multiple +ℤ neg_ℤ (behind_sum i j)))
           short_by_move i j hi hj true e = mixed_is_over.short i j hi hj
           short_by_move i j hi hj false e = behind_short i j (behind_below i hi e) hj e
 
     module _ (c r : ℕ) (enters : c < n) (column_is : first_negative_cost columns (whole_row_at rows m).numbers ≡ c) (row : r < m)
         (still : number_at (whole_row_at rows r).numbers m ≡ pos 0) (above : is_above_zero (true_number r c) ≡ true)
-        (first : (i : ℕ) → i < m → number_at (whole_row_at rows i).numbers m ≡ pos 0 → is_above_zero (true_number i c) ≡ true → slice_index_or basis r 0 ≤ slice_index_or basis i 0) where
+        (first : (i : ℕ) → i < m → number_at (whole_row_at rows i).numbers m ≡ pos 0 → is_above_zero (true_number i c) ≡ true
+        → slice_index_or basis r 0 ≤ slice_index_or basis i 0) where
       pub column_enters : entering_column rationals m n t ≡ c
       column_enters = entering_behind ∙ column_is
 
@@ -217,7 +235,8 @@ module _ (p : FeasibilityProblem Rational) (b t : SimplexTable Rational) (column
         still = right_is_null;
         above = not-true (is_at_least_zero (Q.minus (t.entry r c))) row_is_candidate;
         first = λ i l e a. subst (λ k. k ≤ t.basis i) (sym (s.shows.basis_is r row)) (subst (λ k. slice_index_or basis r 0 ≤ k) (sym (s.shows.basis_is i l))
-            (first i l (number_null (number_at (whole_row_at rows i).numbers m) (t.entry i (n + m)) (bottom_now i) (right_named i l) (ap (λ (q : Rational). q.num) e ∙ zero_parts.0))
+            (first i l (number_null (number_at (whole_row_at rows i).numbers m) (t.entry i (n + m)) (bottom_now i) (right_named i l)
+            (ap (λ (q : Rational). q.num) e ∙ zero_parts.0))
             (sym (above_named i (omega (arith, l))) ∙ ap not a)));
       }
 
@@ -231,4 +250,5 @@ module _ (p : FeasibilityProblem Rational) (b t : SimplexTable Rational) (column
       step_is P x = subst (λ (y : ℕ). P (leaving_row rationals m n t y) y) (sym column_enters) (subst (λ (x : ℕ). P x c) (sym row_leaves) x)
 
       pub step_fits_behind : IsTableOver m n t true_number true_bottom → StepFits m n t
-      step_fits_behind o = W.step_fits m n t true_number true_bottom o (step_is (λ r c. r < m) row) (step_is (λ r c. c < n) enters) (step_is (λ r c. is_candidate rationals t c r ≡ true) row_is_candidate)
+      step_fits_behind o = W.step_fits m n t true_number true_bottom o (step_is (λ r c. r < m) row) (step_is (λ r c. c < n) enters)
+          (step_is (λ r c. is_candidate rationals t c r ≡ true) row_is_candidate)

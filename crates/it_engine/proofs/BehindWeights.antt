@@ -20,7 +20,8 @@ use Rattle.it_engine.proofs.Generators.{value_bounded}
 
 mass_of_multiple : (factor : ℤ) (terms : Terms) → row_mass (multiple_of_terms factor terms) ≡ row_mass terms * unsigned_abs factor
 mass_of_multiple factor [] = omega arith
-mass_of_multiple factor (t ∷ ts) = ap₂ (λ x y. x + y) (unsigned_abs-mul t.1 factor) (mass_of_multiple factor ts) ∙ in_one (unsigned_abs t.1) (row_mass ts) (unsigned_abs factor)
+mass_of_multiple factor (t ∷ ts) = ap₂ (λ x y. x + y) (unsigned_abs-mul t.1 factor) (mass_of_multiple factor ts)
+    ∙ in_one (unsigned_abs t.1) (row_mass ts) (unsigned_abs factor)
   where
     in_one : (x y f : ℕ) → x * f + y * f ≡ (x + y) * f
     in_one x y f = omega arith
@@ -33,7 +34,8 @@ mass_of_both (t ∷ ts) right = ap (λ x. unsigned_abs t.1 + x) (mass_of_both ts
     in_order x y z = omega arith
 
 mass_of_share : (entry : ℤ) (share : ℕ) (d : Terms) → row_mass (multiple_of_terms (neg_ℤ (entry *ℤ pos share)) d) ≡ row_mass d * (unsigned_abs entry * share)
-mass_of_share entry share d = mass_of_multiple (neg_ℤ (entry *ℤ pos share)) d ∙ ap (λ x. row_mass d * x) (size_negated (entry *ℤ pos share) ∙ unsigned_abs-mul entry (pos share))
+mass_of_share entry share d = mass_of_multiple (neg_ℤ (entry *ℤ pos share)) d
+    ∙ ap (λ x. row_mass d * x) (size_negated (entry *ℤ pos share) ∙ unsigned_abs-mul entry (pos share))
 
 mass_of_taken : (entry : ℤ) (share : ℕ) (d : Terms) → row_mass (taken_terms entry share d) ≡ row_mass d * (unsigned_abs entry * share)
 mass_of_taken (pos zero) share d = nothing (row_mass d) share
@@ -43,7 +45,8 @@ mass_of_taken (pos zero) share d = nothing (row_mass d) share
 mass_of_taken (pos (suc n)) share d = mass_of_share (pos (suc n)) share d
 mass_of_taken (negsuc n) share d = mass_of_share (negsuc n) share d
 
-module _ (columns : List Terms) (rows : List WholeRowView) (basis : List ℕ) (moved : List Bool) (entries : List ℤ) (multiple c norm : ℕ) (is_norm : IsNorm columns norm) where
+module _ (columns : List Terms) (rows : List WholeRowView) (basis : List ℕ) (moved : List Bool) (entries : List ℤ) (multiple c norm : ℕ)
+    (is_norm : IsNorm columns norm) where
   column_mass : (j : ℕ) → row_mass (slice_index_or columns j []) ≤ norm
   column_mass j = by_cases (cases_lt j (length columns))
     where
@@ -57,7 +60,9 @@ module _ (columns : List Terms) (rows : List WholeRowView) (basis : List ℕ) (m
   mass_less : (k : ℕ) → row_mass (column_less_moved columns rows basis moved entries multiple c k) ≤ norm * multiple + norm * shares_of k
   mass_less zero = let w = mul-le (row_mass (slice_index_or columns c [])) multiple norm multiple (column_mass c) (omega arith) in
       let e = mass_of_multiple (pos multiple) (slice_index_or columns c []) in omega (arith, w, e)
-  mass_less (suc k) = subst (λ (x : ℕ). x ≤ norm * multiple + norm * shares_of (suc k)) (sym (mass_of_both (column_less_moved columns rows basis moved entries multiple c k) (cond (has_moved moved k) (taken_terms (number_at entries k) (share_of multiple rows k) d) [])))
+  mass_less (suc k) = subst (λ (x : ℕ). x ≤ norm * multiple + norm * shares_of (suc k))
+      (sym (mass_of_both (column_less_moved columns rows basis moved entries multiple c k)
+      (cond (has_moved moved k) (taken_terms (number_at entries k) (share_of multiple rows k) d) [])))
       (by_move (has_moved moved k) (mass_less k))
     where
       d : Terms
@@ -67,37 +72,48 @@ module _ (columns : List Terms) (rows : List WholeRowView) (basis : List ℕ) (m
       s = unsigned_abs (number_at entries k) * share_of multiple rows k
 
       by_move : (b : Bool) → row_mass (column_less_moved columns rows basis moved entries multiple c k) ≤ norm * multiple + norm * shares_of k
-          → row_mass (column_less_moved columns rows basis moved entries multiple c k) + row_mass (cond b (taken_terms (number_at entries k) (share_of multiple rows k) d) []) ≤ norm * multiple + norm * (cond b s 0 + shares_of k)
+          → row_mass (column_less_moved columns rows basis moved entries multiple c k)
+          + row_mass (cond b (taken_terms (number_at entries k) (share_of multiple rows k) d) [])
+          ≤ norm * multiple + norm * (cond b s 0 + shares_of k)
       by_move false h = both_sides (row_mass (column_less_moved columns rows basis moved entries multiple c k)) (norm * multiple) norm (shares_of k) h
         where
           both_sides : (x y n r : ℕ) → x ≤ y + n * r → x + 0 ≤ y + n * (0 + r)
           both_sides x y n r h = omega (arith, h)
-      by_move true h = with_one (row_mass (column_less_moved columns rows basis moved entries multiple c k)) (row_mass (taken_terms (number_at entries k) (share_of multiple rows k) d)) (norm * multiple) norm s (shares_of k) h
-          (subst (λ (x : ℕ). x ≤ norm * s) (sym (mass_of_taken (number_at entries k) (share_of multiple rows k) d)) (mul-le (row_mass d) s norm s (column_mass (slice_index_or basis k 0)) (omega arith)))
+      by_move true h = with_one (row_mass (column_less_moved columns rows basis moved entries multiple c k))
+          (row_mass (taken_terms (number_at entries k) (share_of multiple rows k) d)) (norm * multiple) norm s (shares_of k) h
+          (subst (λ (x : ℕ). x ≤ norm * s) (sym (mass_of_taken (number_at entries k) (share_of multiple rows k) d))
+          (mul-le (row_mass d) s norm s (column_mass (slice_index_or basis k 0)) (omega arith)))
         where
           with_one : (x t y n s r : ℕ) → x ≤ y + n * r → t ≤ n * s → x + t ≤ y + n * (s + r)
           with_one x t y n s r h k = omega (arith, h, k)
 
-  module _ (limit most low shares : ℕ) (enters : c < length columns) (usable : AreUsable (length rows) limit rows) (fitting : AreFitting (length rows) limit columns)
+  module _ (limit most low shares : ℕ) (enters : c < length columns) (usable : AreUsable (length rows) limit rows)
+      (fitting : AreFitting (length rows) limit columns)
       (entries_are : AreMovedEntries (slice_index_or columns c []) rows moved entries) (height : length rows ≡ length basis + 1)
       (bounds : BoundsShares norm rows (has_moved moved) (share_of multiple rows) (length basis) shares)
       (numbers_fit : norm * most * multiple + norm * most * shares < 2 ^ 63) (base : AreBaseBounds most low rows moved (length basis)) where
-    entry_bounded : (q : ℕ) → q < length basis → has_moved moved q ≡ true → (l : ℕ) → AreAtMost (whole_row_at rows q).numbers l → unsigned_abs (number_at entries q) ≤ norm * l
+    entry_bounded : (q : ℕ) → q < length basis → has_moved moved q ≡ true → (l : ℕ) → AreAtMost (whole_row_at rows q).numbers l
+        → unsigned_abs (number_at entries q) ≤ norm * l
     entry_bounded q h e l a =
         let here : q < length rows = omega (arith, h, height) in
-        let is : number_at entries q ≡ entry_of (slice_index_or columns c []) rows q = entries_are.each q here ∙ ap (λ d. cond d (entry_of (slice_index_or columns c []) rows q) (pos 0)) e in
-        let v = value_bounded (slice_index_or columns c []) (length rows) (number_at (whole_row_at rows q).numbers) l (fitting c enters).within (λ k g. a k (omega (arith, g, (usable q here).length_is))) in
+        let is : number_at entries q ≡ entry_of (slice_index_or columns c []) rows q = entries_are.each q here
+        ∙ ap (λ d. cond d (entry_of (slice_index_or columns c []) rows q) (pos 0)) e in
+        let v = value_bounded (slice_index_or columns c []) (length rows) (number_at (whole_row_at rows q).numbers) l
+        (fitting c enters).within (λ k g. a k (omega (arith, g, (usable q here).length_is))) in
         let w = mul-le (row_mass (slice_index_or columns c [])) l norm l (column_mass c) (omega arith) in
         subst (λ (z : ℤ). unsigned_abs z ≤ norm * l) (sym is) (omega (arith, v, w))
 
     -- the combined column suits the rows that stay behind
-    pub combined_suits : (combined : Terms) → combined ≡ column_less_moved columns rows basis moved entries multiple c (length basis) → SuitsBehind combined rows moved (length basis)
+    pub combined_suits : (combined : Terms) → combined ≡ column_less_moved columns rows basis moved entries multiple c (length basis)
+        → SuitsBehind combined rows moved (length basis)
     combined_suits combined e i l f = subst (λ (ts : Terms). Suits ts (whole_row_at rows i).numbers) (sym e) record {
-      within = λ k d g. let w = combined_within columns rows basis moved entries multiple c (length rows) limit fitting (length basis) k d g in omega (arith, w, (usable i (omega (arith, l, height))).length_is);
+      within = λ k d g. let w = combined_within columns rows basis moved entries multiple c (length rows) limit fitting (length basis) k d g
+          in omega (arith, w, (usable i (omega (arith, l, height))).length_is);
       fits = (
         most,
         (base i l f).0,
-        below (row_mass (column_less_moved columns rows basis moved entries multiple c (length basis))) norm multiple (shares_of (length basis)) shares most (mass_less (length basis))
+        below (row_mass (column_less_moved columns rows basis moved entries multiple c (length basis))) norm multiple
+            (shares_of (length basis)) shares most (mass_less (length basis))
             (bounds (number_at entries) entry_bounded) numbers_fit,
       );
     }

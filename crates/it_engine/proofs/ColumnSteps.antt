@@ -17,10 +17,12 @@ use Rattle.it_run.specs.RowValues.{rational_value}
 use Rattle.it_engine.specs.Loading.{keeps_sign, signed, signed_coefficient, IsReadColumn, IsTermPut}
 use Rattle.it_engine.proofs.StartNumbers.{plus_integers}
 
-value_more : (terms : Terms) (k : ℕ) (z : ℤ) (g : ℕ → Rational) → rational_value (terms ++ (k, z) ∷ []) g ≡ Q.plus (Q.times (g k) (integer z)) (rational_value terms g)
+value_more : (terms : Terms) (k : ℕ) (z : ℤ) (g : ℕ → Rational) → rational_value (terms ++ (k, z) ∷ []) g
+    ≡ Q.plus (Q.times (g k) (integer z)) (rational_value terms g)
 value_more [] k z g = ring ring_ℚ (integer z ∷ g k ∷ []) (plus (times (v 0) (v 1)) nil) (plus (times (v 1) (v 0)) nil) refl
 value_more (t ∷ ts) k z g = ap (Q.plus (Q.times (integer t.1) (g t.0))) (value_more ts k z g)
-    ∙ ring ring_ℚ (Q.times (integer t.1) (g t.0) ∷ Q.times (g k) (integer z) ∷ rational_value ts g ∷ []) (plus (v 0) (plus (v 1) (v 2))) (plus (v 1) (plus (v 0) (v 2))) refl
+    ∙ ring ring_ℚ (Q.times (integer t.1) (g t.0) ∷ Q.times (g k) (integer z) ∷ rational_value ts g ∷ []) (plus (v 0) (plus (v 1) (v 2)))
+    (plus (v 1) (plus (v 0) (v 2))) refl
 
 All-one : (m k : ℕ) (z : ℤ) → k < m → All (λ (t : ℕ × ℤ). t.0 < m) ((k, z) ∷ [])
 All-one m k z h zero d l = h
@@ -45,7 +47,8 @@ module _ (cs : List ℕ) (target : Terms) (g : ℕ → Rational) where
 
   first_term : (t : ℕ × ℤ) (ts : Terms) → entries_sum (t ∷ ts) ≡ Q.plus (term_sum t) (entries_sum ts)
   first_term t ts = sum_same ring_ℚ (length cs) (λ k. Q.times (g k) (integer (signed_coefficient cs target (t ∷ ts) k)))
-      (λ k. Q.plus (cond (eqb t.0 (slice_index_or cs k 0)) (Q.times (g k) (integer (signed cs target k t.1))) ring_ℚ.null) (Q.times (g k) (integer (signed_coefficient cs target ts k))))
+      (λ k. Q.plus (cond (eqb t.0 (slice_index_or cs k 0)) (Q.times (g k) (integer (signed cs target k t.1))) ring_ℚ.null)
+      (Q.times (g k) (integer (signed_coefficient cs target ts k))))
       (λ k l. by_test k (eqb t.0 (slice_index_or cs k 0)))
       ∙ sum_add ring_ℚ (length cs) (λ k. cond (eqb t.0 (slice_index_or cs k 0)) (Q.times (g k) (integer (signed cs target k t.1))) ring_ℚ.null)
       (λ k. Q.times (g k) (integer (signed_coefficient cs target ts k)))
@@ -54,7 +57,8 @@ module _ (cs : List ℕ) (target : Terms) (g : ℕ → Rational) where
           ≡ Q.plus (cond b (Q.times (g k) (integer (signed cs target k t.1))) ring_ℚ.null) (Q.times (g k) (integer (signed_coefficient cs target ts k)))
       by_test k true = ap (λ z. Q.times (g k) (integer z)) (signed_sum (keeps_sign cs target k) t.1 (coefficient ts (slice_index_or cs k 0)))
           ∙ ap (Q.times (g k)) (sym (plus_integers (signed cs target k t.1) (signed_coefficient cs target ts k)))
-          ∙ ring ring_ℚ (g k ∷ integer (signed cs target k t.1) ∷ integer (signed_coefficient cs target ts k) ∷ []) (times (v 0) (plus (v 1) (v 2))) (plus (times (v 0) (v 1)) (times (v 0) (v 2))) refl
+          ∙ ring ring_ℚ (g k ∷ integer (signed cs target k t.1) ∷ integer (signed_coefficient cs target ts k) ∷ [])
+          (times (v 0) (plus (v 1) (v 2))) (plus (times (v 0) (v 1)) (times (v 0) (v 2))) refl
       by_test k false = ap (λ z. Q.times (g k) (integer (signed cs target k z))) (null_added (coefficient ts (slice_index_or cs k 0)))
           ∙ sym (ring_ℚ.null-add (Q.times (g k) (integer (signed_coefficient cs target ts k))))
         where
@@ -62,8 +66,10 @@ module _ (cs : List ℕ) (target : Terms) (g : ℕ → Rational) where
           null_added z = omega (arith, ints)
 
   -- a term of the row k
-  term_in_row : IsAscending cs → (t : ℕ × ℤ) (k : ℕ) → k < length cs → slice_index_or cs k 0 ≡ t.0 → term_sum t ≡ Q.times (g k) (integer (signed cs target k t.1))
-  term_in_row up t k h e = sum_same ring_ℚ (length cs) (λ i. cond (eqb t.0 (slice_index_or cs i 0)) (Q.times (g i) (integer (signed cs target i t.1))) ring_ℚ.null)
+  term_in_row : IsAscending cs → (t : ℕ × ℤ) (k : ℕ) → k < length cs → slice_index_or cs k 0 ≡ t.0
+      → term_sum t ≡ Q.times (g k) (integer (signed cs target k t.1))
+  term_in_row up t k h e = sum_same ring_ℚ (length cs) (λ i. cond (eqb t.0 (slice_index_or cs i 0))
+      (Q.times (g i) (integer (signed cs target i t.1))) ring_ℚ.null)
       (λ i. cond (eqb i k) (Q.times (g i) (integer (signed cs target i t.1))) ring_ℚ.null)
       (λ i l. ap (λ b. cond b (Q.times (g i) (integer (signed cs target i t.1))) ring_ℚ.null) (one_row i l (cases_eq i k)))
       ∙ sum_one ring_ℚ (length cs) (λ i. Q.times (g i) (integer (signed cs target i t.1))) k h
@@ -78,7 +84,8 @@ module _ (cs : List ℕ) (target : Terms) (g : ℕ → Rational) where
 
   -- a term of no row
   term_in_none : (t : ℕ × ℤ) → ((k : ℕ) → k < length cs → slice_index_or cs k 0 ≢ t.0) → term_sum t ≡ ring_ℚ.null
-  term_in_none t none = sum_same ring_ℚ (length cs) (λ i. cond (eqb t.0 (slice_index_or cs i 0)) (Q.times (g i) (integer (signed cs target i t.1))) ring_ℚ.null) (λ i. ring_ℚ.null)
+  term_in_none t none = sum_same ring_ℚ (length cs) (λ i. cond (eqb t.0 (slice_index_or cs i 0))
+      (Q.times (g i) (integer (signed cs target i t.1))) ring_ℚ.null) (λ i. ring_ℚ.null)
       (λ i l. ap (λ b. cond b (Q.times (g i) (integer (signed cs target i t.1))) ring_ℚ.null) (ne_eqb t.0 (slice_index_or cs i 0) (λ f. none i l (sym f))))
       ∙ sum_null ring_ℚ (length cs)
 
@@ -88,7 +95,8 @@ module _ (cs : List ℕ) (target : Terms) (g : ℕ → Rational) where
 
 -- the first i terms of a generator are put into its column
 pub record IsColumnUnderWay (cs : List ℕ) (target generator : Terms) (i : ℕ) (column : Terms) : Type 0 where
-  pub value_is : (g : ℕ → Rational) → Q.plus (rational_value column g) (sum_to ring_ℚ (length cs) (λ k. Q.times (g k) (integer (signed_coefficient cs target (drop i generator) k))))
+  pub value_is : (g : ℕ → Rational) → Q.plus (rational_value column g) (sum_to ring_ℚ (length cs)
+      (λ k. Q.times (g k) (integer (signed_coefficient cs target (drop i generator) k))))
       ≡ sum_to ring_ℚ (length cs) (λ k. Q.times (g k) (integer (signed_coefficient cs target generator k)))
   pub within : All (λ t. t.0 < length cs) column
 
@@ -119,14 +127,18 @@ module _ (cs : List ℕ) (target generator : Terms) where
       by_row : IsTermPut cs target term.0 term.1 old new → IsColumnUnderWay cs target generator (suc i) new
       by_row (inl (k, l, e, is)) = record {
         value_is = λ g. ap (λ ts. Q.plus (rational_value ts g) (entries_sum cs target g rest)) is
-            ∙ ap (λ x. Q.plus x (entries_sum cs target g rest)) (value_more old k (signed cs target k term.1) g ∙ ap (λ x. Q.plus x (rational_value old g)) (sym (term_in_row cs target g up term k l e)))
-            ∙ ring ring_ℚ (term_sum cs target g term ∷ rational_value old g ∷ entries_sum cs target g rest ∷ []) (plus (plus (v 0) (v 1)) (v 2)) (plus (v 1) (plus (v 0) (v 2))) refl
+            ∙ ap (λ x. Q.plus x (entries_sum cs target g rest)) (value_more old k (signed cs target k term.1) g
+            ∙ ap (λ x. Q.plus x (rational_value old g)) (sym (term_in_row cs target g up term k l e)))
+            ∙ ring ring_ℚ (term_sum cs target g term ∷ rational_value old g ∷ entries_sum cs target g rest ∷ [])
+            (plus (plus (v 0) (v 1)) (v 2)) (plus (v 1) (plus (v 0) (v 2))) refl
             ∙ ap (Q.plus (rational_value old g)) (sym (next g)) ∙ w.value_is g;
-        within = subst (All (λ t. t.0 < length cs)) (sym is) (All-append (λ (t : ℕ × ℤ). t.0 < length cs) old ((k, signed cs target k term.1) ∷ []) w.within (All-one (length cs) k (signed cs target k term.1) l));
+        within = subst (All (λ t. t.0 < length cs)) (sym is) (All-append (λ (t : ℕ × ℤ). t.0 < length cs) old
+            ((k, signed cs target k term.1) ∷ []) w.within (All-one (length cs) k (signed cs target k term.1) l));
       }
       by_row (inr (none, is)) = record {
         value_is = λ g. ap (λ ts. Q.plus (rational_value ts g) (entries_sum cs target g rest)) is
-            ∙ ap (Q.plus (rational_value old g)) (sym (next g ∙ ap (λ x. Q.plus x (entries_sum cs target g rest)) (term_in_none cs target g term none) ∙ ring_ℚ.null-add (entries_sum cs target g rest)))
+            ∙ ap (Q.plus (rational_value old g)) (sym (next g ∙ ap (λ x. Q.plus x (entries_sum cs target g rest))
+            (term_in_none cs target g term none) ∙ ring_ℚ.null-add (entries_sum cs target g rest)))
             ∙ w.value_is g;
         within = subst (All (λ t. t.0 < length cs)) (sym is) w.within;
       }

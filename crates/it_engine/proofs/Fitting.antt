@@ -13,6 +13,7 @@ fitting_suits width limit terms row f u = record {
   fits = (limit, (λ k l. u.small k (omega (arith, l, u.length_is))), f.fits);
 }
 
-pub fitting_short : (width limit : ℕ) (terms : Terms) (row : WholeRowView) → IsFitting width limit terms → IsUsable width limit row → unsigned_abs (value terms (number_at row.numbers)) < 2 ^ 63
+pub fitting_short : (width limit : ℕ) (terms : Terms) (row : WholeRowView) → IsFitting width limit terms → IsUsable width limit row
+    → unsigned_abs (value terms (number_at row.numbers)) < 2 ^ 63
 fitting_short width limit terms row f u =
     let b = value_bounded terms width (number_at row.numbers) limit f.within u.small in omega (arith, b, f.fits)

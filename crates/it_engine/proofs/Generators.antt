@@ -45,7 +45,9 @@ pub value_bounded : (terms : Terms) (m : ℕ) (f : ℕ → ℤ) (limit : ℕ) �
 value_bounded [] m f limit a h = omega arith
 value_bounded (t ∷ ts) m f limit a h =
     let one : unsigned_abs (t.1 *ℤ f t.0) ≤ unsigned_abs t.1 * limit =
-    subst (λ k. k ≤ unsigned_abs t.1 * limit) (sym (unsigned_abs-mul t.1 (f t.0))) (mul-le (unsigned_abs t.1) (unsigned_abs (f t.0)) (unsigned_abs t.1) limit (at_most_itself (unsigned_abs t.1)) (h t.0 (a 0 t (omega arith)))) in
+    subst (λ k. k ≤ unsigned_abs t.1 * limit) (sym (unsigned_abs-mul t.1 (f t.0)))
+    (mul-le (unsigned_abs t.1) (unsigned_abs (f t.0)) (unsigned_abs t.1) limit (at_most_itself (unsigned_abs t.1))
+    (h t.0 (a 0 t (omega arith)))) in
     let rest : unsigned_abs (value ts f) ≤ row_mass ts * limit = value_bounded ts m f limit (λ k s l. a (suc k) s (omega (arith, l))) h in
     sum_at_most (t.1 *ℤ f t.0) (value ts f) (unsigned_abs t.1) (row_mass ts) limit one rest
   where
@@ -56,7 +58,8 @@ value_bounded (t ∷ ts) m f limit a h =
     sum_at_most x y a b l h k = omega (arith, ints, h, k)
 
 module _ (m n limit norm : ℕ) (p : FeasibilityProblem Rational) (t : SimplexTable Rational) (columns : List Terms) (rows : List WholeRowView) (basis : List ℕ)
-    (h : CombinesStart rationals m n p t) (s : ShowsTable m n limit t rows basis) (cs : AreStartColumns m n norm p columns) (fit : norm * limit < 2 ^ 63) (some : 1 ≤ norm) where
+    (h : CombinesStart rationals m n p t) (s : ShowsTable m n limit t rows basis) (cs : AreStartColumns m n norm p columns)
+    (fit : norm * limit < 2 ^ 63) (some : 1 ≤ norm) where
   -- the terms of column j
   abbrev pub column_terms : ℕ → Terms
   column_terms j = slice_index_or columns j []
@@ -74,13 +77,15 @@ module _ (m n limit norm : ℕ) (p : FeasibilityProblem Rational) (t : SimplexTa
       let c = cs.column j hj in
       let r = s.row i (omega (arith, hi)) in
       subst (λ (q : Rational). IsRatio q (price i j) (bottom i)) (sym (h i j hi ∙ c.value_is (λ k. t.entry i (n + k))))
-      (value_named (column_terms j) m (λ k. t.entry i (n + k)) (number_at (whole_row_at rows i).numbers) (bottom i) r.some c.within (λ k l. r.named k (omega (arith, l))))
+      (value_named (column_terms j) m (λ k. t.entry i (n + k)) (number_at (whole_row_at rows i).numbers) (bottom i) r.some c.within
+      (λ k l. r.named k (omega (arith, l))))
 
   pub price_short : (i j : ℕ) → i ≤ m → j < n → IsShort (price i j)
   price_short i j hi hj =
       let c = cs.column j hj in
       let r = s.row i (omega (arith, hi)) in
-      let b : unsigned_abs (price i j) ≤ row_mass (column_terms j) * limit = value_bounded (column_terms j) m (number_at (whole_row_at rows i).numbers) limit c.within (λ k l. r.small k (omega (arith, l))) in
+      let b : unsigned_abs (price i j) ≤ row_mass (column_terms j) * limit = value_bounded (column_terms j) m
+      (number_at (whole_row_at rows i).numbers) limit c.within (λ k l. r.small k (omega (arith, l))) in
       let w : row_mass (column_terms j) * limit ≤ norm * limit = mul-le (row_mass (column_terms j)) limit norm limit c.bounded (omega arith) in
       omega (arith, b, w, fit)
 
@@ -100,12 +105,17 @@ module _ (m n limit norm : ℕ) (p : FeasibilityProblem Rational) (t : SimplexTa
   }
     where
       name : (i j : ℕ) → i ≤ m → j ≤ n + m → (j < n) ⊎ (n ≤ j) → IsRatio (t.entry i j) (number i j) (bottom i)
-      name i j hi hj (inl l) = subst (λ (b : Bool). IsRatio (t.entry i j) (cond b (price i j) (number_at (whole_row_at rows i).numbers (j - n))) (bottom i)) (sym (lt-ltb j n l)) (price_named i j hi l)
-      name i j hi hj (inr l) = subst (λ (b : Bool). IsRatio (t.entry i j) (cond b (price i j) (number_at (whole_row_at rows i).numbers (j - n))) (bottom i)) (sym (le-ltb j n l))
+      name i j hi hj (inl l) = subst (λ (b : Bool). IsRatio (t.entry i j)
+          (cond b (price i j) (number_at (whole_row_at rows i).numbers (j - n))) (bottom i)) (sym (lt-ltb j n l)) (price_named i j hi l)
+      name i j hi hj (inr l) = subst (λ (b : Bool). IsRatio (t.entry i j)
+          (cond b (price i j) (number_at (whole_row_at rows i).numbers (j - n))) (bottom i)) (sym (le-ltb j n l))
           (let back : n + (j - n) ≡ j = omega (arith, l) in
-          subst (λ (k : ℕ). IsRatio (t.entry i k) (number_at (whole_row_at rows i).numbers (j - n)) (bottom i)) back ((s.row i (omega (arith, hi))).named (j - n) (omega (arith, hj, l))))
+          subst (λ (k : ℕ). IsRatio (t.entry i k) (number_at (whole_row_at rows i).numbers (j - n)) (bottom i)) back
+          ((s.row i (omega (arith, hi))).named (j - n) (omega (arith, hj, l))))
 
       number_is_short : (i j : ℕ) → i ≤ m → j ≤ n + m → (j < n) ⊎ (n ≤ j) → IsShort (number i j)
-      number_is_short i j hi hj (inl l) = subst (λ (b : Bool). IsShort (cond b (price i j) (number_at (whole_row_at rows i).numbers (j - n)))) (sym (lt-ltb j n l)) (price_short i j hi l)
-      number_is_short i j hi hj (inr l) = subst (λ (b : Bool). IsShort (cond b (price i j) (number_at (whole_row_at rows i).numbers (j - n)))) (sym (le-ltb j n l))
+      number_is_short i j hi hj (inl l) = subst (λ (b : Bool). IsShort (cond b (price i j)
+          (number_at (whole_row_at rows i).numbers (j - n)))) (sym (lt-ltb j n l)) (price_short i j hi l)
+      number_is_short i j hi hj (inr l) = subst (λ (b : Bool). IsShort (cond b (price i j)
+          (number_at (whole_row_at rows i).numbers (j - n)))) (sym (le-ltb j n l))
           (let b = (s.row i (omega (arith, hi))).small (j - n) (omega (arith, hj, l)) in omega (arith, b, limit_short))

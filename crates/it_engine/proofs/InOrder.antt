@@ -9,7 +9,8 @@ use Rattle.it_engine.specs.Behind.{after_rows, AreMovedEntries, AreMovedInOrder,
 use Rattle.it_engine.specs.Choosing.{entry_of}
 use Rattle.it_engine.proofs.BehindNumbers.{past_still}
 
-module _ (moved : List Bool) (height : ℕ) (order : List ℕ) (a : AreMovedInOrder moved height order) (P : ℕ → Type 0) (step : (q : ℕ) → has_moved moved q ≡ false → P q → P (q + 1)) where
+module _ (moved : List Bool) (height : ℕ) (order : List ℕ) (a : AreMovedInOrder moved height order) (P : ℕ → Type 0)
+    (step : (q : ℕ) → has_moved moved q ≡ false → P q → P (q + 1)) where
   -- what holds of all rows before the next one that moved
   pub up_to_row : (k q : ℕ) → k < length order → q ≡ slice_index_or order k 0 → P (after_rows order k) → P q
   up_to_row k q l e h = subst P (sym e) (past_still moved height P step (after_rows order k) (slice_index_or order k 0) (a.each k l) h)
@@ -32,7 +33,8 @@ pub record AreNotedBelow (terms : Terms) (rows : List WholeRowView) (moved : Lis
   pub rest : (j : ℕ) → k ≤ j → number_at entries j ≡ pos 0
 
 module _ (terms : Terms) (rows : List WholeRowView) (moved : List Bool) where
-  pub still_noted : (entries : List ℤ) (q : ℕ) → has_moved moved q ≡ false → AreNotedBelow terms rows moved entries q → AreNotedBelow terms rows moved entries (q + 1)
+  pub still_noted : (entries : List ℤ) (q : ℕ) → has_moved moved q ≡ false → AreNotedBelow terms rows moved entries q
+      → AreNotedBelow terms rows moved entries (q + 1)
   still_noted entries q f h = record { done = λ j l. by_cases j l (cases_eq j q); rest = λ j l. h.rest j (omega (arith, l)) }
     where
       by_cases : (j : ℕ) → j < q + 1 → (j ≡ q) ⊎ (j ≡ q → ⊥) → number_at entries j ≡ cond (has_moved moved j) (entry_of terms rows j) (pos 0)
@@ -41,18 +43,25 @@ module _ (terms : Terms) (rows : List WholeRowView) (moved : List Bool) where
 
   one_noted : (entries : List ℤ) (q : ℕ) (z : ℤ) → q < length entries → z ≡ cond (has_moved moved q) (entry_of terms rows q) (pos 0)
       → AreNotedBelow terms rows moved entries q → AreNotedBelow terms rows moved (slice_set entries q z) (q + 1)
-  one_noted entries q z l e h = record { done = λ j m. by_cases j m (cases_eq j q); rest = λ j m. get_or-set_other entries q j z (pos 0) (λ w. omega (arith, w, m)) ∙ h.rest j (omega (arith, m)) }
+  one_noted entries q z l e h = record {
+    done = λ j m. by_cases j m (cases_eq j q);
+    rest = λ j m. get_or-set_other entries q j z (pos 0)
+        (λ w. omega (arith, w, m)) ∙ h.rest j (omega (arith, m));
+  }
     where
       by_cases : (j : ℕ) → j < q + 1 → (j ≡ q) ⊎ (j ≡ q → ⊥) → number_at (slice_set entries q z) j ≡ cond (has_moved moved j) (entry_of terms rows j) (pos 0)
-      by_cases j m (inl w) = ap (number_at (slice_set entries q z)) w ∙ get_or-set_same entries q z (pos 0) l ∙ e ∙ ap (λ k. cond (has_moved moved k) (entry_of terms rows k) (pos 0)) (sym w)
+      by_cases j m (inl w) = ap (number_at (slice_set entries q z)) w ∙ get_or-set_same entries q z (pos 0) l ∙ e
+          ∙ ap (λ k. cond (has_moved moved k) (entry_of terms rows k) (pos 0)) (sym w)
       by_cases j m (inr d) = get_or-set_other entries q j z (pos 0) d ∙ h.done j (omega (arith, m, d))
 
   -- the entry of a row that moved
-  pub moved_noted : (entries : List ℤ) (q : ℕ) (z : ℤ) → q < length entries → has_moved moved q ≡ true → z ≡ entry_of terms rows q → AreNotedBelow terms rows moved entries q → AreNotedBelow terms rows moved (slice_set entries q z) (q + 1)
+  pub moved_noted : (entries : List ℤ) (q : ℕ) (z : ℤ) → q < length entries → has_moved moved q ≡ true → z ≡ entry_of terms rows q
+      → AreNotedBelow terms rows moved entries q → AreNotedBelow terms rows moved (slice_set entries q z) (q + 1)
   moved_noted entries q z l f e h = one_noted entries q z l (e ∙ ap (λ d. cond d (entry_of terms rows q) (pos 0)) (sym f)) h
 
   -- and last that of the cost row
-  pub all_noted : (entries : List ℤ) (height : ℕ) (z : ℤ) → length entries ≡ length rows → length rows ≡ height + 1 → z ≡ cond (has_moved moved height) (entry_of terms rows height) (pos 0)
+  pub all_noted : (entries : List ℤ) (height : ℕ) (z : ℤ) → length entries ≡ length rows → length rows ≡ height + 1
+      → z ≡ cond (has_moved moved height) (entry_of terms rows height) (pos 0)
       → AreNotedBelow terms rows moved entries height → AreMovedEntries terms rows moved (slice_set entries height z)
   all_noted entries height z l m e h = let a = one_noted entries height z (omega (arith, l, m)) e h in
       record { length_is = length-set entries height z ∙ l; each = λ i k. a.done i (omega (arith, k, m)) }

@@ -29,14 +29,16 @@ pub record IsNormUpTo (columns : List Terms) (norm j : ℕ) : Type 0 where
 -- the columns of the first j generators
 abbrev pub AreReadUpTo : List ℕ → List Terms → Terms → ℕ → List Terms → Type 0
 AreReadUpTo coordinates generators target j columns = (length columns ≡ j)
-    × ((i : ℕ) → i < j → IsReadColumn (length coordinates) (signed_coefficient coordinates target (slice_index_or generators i [])) (slice_index_or columns i []))
+    × ((i : ℕ) → i < j → IsReadColumn (length coordinates) (signed_coefficient coordinates target (slice_index_or generators i []))
+    (slice_index_or columns i []))
 
 pub columns_more : (coordinates : List ℕ) (generators : List Terms) (target : Terms) (j : ℕ) (columns : List Terms) (column : Terms)
     → IsReadColumn (length coordinates) (signed_coefficient coordinates target (slice_index_or generators j [])) column
     → AreReadUpTo coordinates generators target j columns → AreReadUpTo coordinates generators target (j + 1) (columns ++ column ∷ [])
 columns_more coordinates generators target j columns column r a = (
   length_more j columns column a.0,
-  item_more (λ i column. IsReadColumn (length coordinates) (signed_coefficient coordinates target (slice_index_or generators i [])) column) j columns column [] a.0 a.1 r,
+  item_more (λ i column. IsReadColumn (length coordinates) (signed_coefficient coordinates target (slice_index_or generators i [])) column)
+      j columns column [] a.0 a.1 r,
 )
 
 pub rows_more : (coordinates : List ℕ) (target : Terms) (limit i : ℕ) (rows : List WholeRowView) (row : WholeRowView) → IsReadRow coordinates target limit i row

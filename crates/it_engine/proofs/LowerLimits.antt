@@ -19,11 +19,16 @@ module _ (columns : List Terms) (limit lower : ℕ) (rows : List WholeRowView) (
   safe_below s = record {
     rows_are = s.rows_are;
     usable = λ i l. let u = s.usable i l in record { length_is = u.length_is; some = u.some; small = λ k h. most i l k (omega (arith, h, u.length_is)) };
-    fitting = λ j l. let f = s.fitting j l in record { within = f.within; fits = (let w = product_less (row_mass (slice_index_or columns j [])) in omega (arith, w, f.fits)) };
+    fitting = λ j l. let f = s.fitting j l in record {
+      within = f.within;
+      fits
+          = (let w = product_less (row_mass (slice_index_or columns j [])) in omega (arith, w, f.fits));
+    };
     limit_is = omega (arith, less, s.limit_is);
   }
 
-  pub stands_below : (p : FeasibilityProblem Rational) (t : SimplexTable Rational) → Represents p t columns limit rows basis → Represents p t columns lower rows basis
+  pub stands_below : (p : FeasibilityProblem Rational) (t : SimplexTable Rational) → Represents p t columns limit rows basis
+      → Represents p t columns lower rows basis
   stands_below p t s = record {
     norm = s.norm;
     some = s.some;
@@ -45,6 +50,7 @@ module _ (columns : List Terms) (limit lower : ℕ) (rows : List WholeRowView) (
   }
 
   -- the answer under the lower limit is one under the other
-  pub answers_below : (coordinates : List ℕ) (target : Terms) (budget : Option ℕ) (solved : Solved) → AnswersQuestion coordinates target columns lower rows basis budget solved
+  pub answers_below : (coordinates : List ℕ) (target : Terms) (budget : Option ℕ) (solved : Solved)
+      → AnswersQuestion coordinates target columns lower rows basis budget solved
       → AnswersQuestion coordinates target columns limit rows basis budget solved
   answers_below coordinates target budget solved a generators t s = a generators t (stands_below (feasibility_problem coordinates generators target) t s)

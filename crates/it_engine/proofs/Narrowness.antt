@@ -24,8 +24,10 @@ at_most_itself k = omega arith
 pub parts_below : (q : Rational) (n : ℤ) (d : ℕ) → 0 < d → IsRatio q n d → (unsigned_abs q.num ≤ unsigned_abs n) × (q.den ∣ d)
 parts_below q n d h e =
     let x : unsigned_abs q.num * d ≡ unsigned_abs n * q.den = sym (unsigned_abs-mul q.num (pos d)) ∙ ap unsigned_abs e ∙ unsigned_abs-mul n (pos q.den) in
-    let div : q.den ∣ d = euclid q.den (unsigned_abs q.num) d (IsGcd-swap (unsigned_abs q.num) q.den 1 q.lowest) (subst (λ k. q.den ∣ k) (sym x) (dvd-mul_left q.den (unsigned_abs n))) in
-    let y : unsigned_abs q.num * d ≤ unsigned_abs n * d = subst (λ k. k ≤ unsigned_abs n * d) (sym x) (mul-le (unsigned_abs n) q.den (unsigned_abs n) d (at_most_itself (unsigned_abs n)) (le_of_dvd h div)) in
+    let div : q.den ∣ d = euclid q.den (unsigned_abs q.num) d (IsGcd-swap (unsigned_abs q.num) q.den 1 q.lowest)
+    (subst (λ k. q.den ∣ k) (sym x) (dvd-mul_left q.den (unsigned_abs n))) in
+    let y : unsigned_abs q.num * d ≤ unsigned_abs n * d = subst (λ k. k ≤ unsigned_abs n * d) (sym x)
+    (mul-le (unsigned_abs n) q.den (unsigned_abs n) d (at_most_itself (unsigned_abs n)) (le_of_dvd h div)) in
     (le_of_mul-le-mul_right y h, div)
 
 pub narrow_by : (q : Rational) (n : ℤ) (d : ℕ) → 0 < d → IsRatio q n d → IsWithin n → IsWithin (pos d) → IsNarrow q
@@ -41,11 +43,16 @@ within_part x y k h e w =
 pub parts_fit : (a c : ℤ) (b d u w l : ℕ) → 0 < b → 0 < d → 0 < l → b * u ≡ l → d * w ≡ l
     → IsWithin (pos l) → IsWithin (a *ℤ pos u) → IsWithin (c *ℤ pos w) → IsWithin (a *ℤ pos u +ℤ c *ℤ pos w) → PartsFit a b c d
 parts_fit a c b d u w l hb hd hl eu ew wl wa wc wt = record {
-  left = within_part (a *ℤ pos (d / shared_divisor)) (a *ℤ pos u) other_factor other_factor_some (factors_join a (d / shared_divisor) other_factor ∙ ap (λ k. a *ℤ pos k) u_is) wa;
-  right = within_part (c *ℤ pos (b / shared_divisor)) (c *ℤ pos w) other_factor other_factor_some (factors_join c (b / shared_divisor) other_factor ∙ ap (λ k. c *ℤ pos k) w_is) wc;
+  left = within_part (a *ℤ pos (d / shared_divisor)) (a *ℤ pos u) other_factor other_factor_some
+      (factors_join a (d / shared_divisor) other_factor ∙ ap (λ k. a *ℤ pos k) u_is) wa;
+  right = within_part (c *ℤ pos (b / shared_divisor)) (c *ℤ pos w) other_factor other_factor_some
+      (factors_join c (b / shared_divisor) other_factor ∙ ap (λ k. c *ℤ pos k) w_is) wc;
   total = within_part (common_numerator a b c d) (a *ℤ pos u +ℤ c *ℤ pos w) other_factor other_factor_some
-      (factor_moves_in a c (d / shared_divisor) (b / shared_divisor) other_factor ∙ ap (λ k. a *ℤ pos k +ℤ c *ℤ pos (b / shared_divisor * other_factor)) u_is ∙ ap (λ k. a *ℤ pos u +ℤ c *ℤ pos k) w_is) wt;
-  bottom = bottom_is_within (b / shared_divisor * (d / shared_rest a b c d)) (mul-le (b / shared_divisor) (d / shared_rest a b c d) (b / shared_divisor) d (at_most_itself (b / shared_divisor)) (div-le_self d (shared_rest a b c d)));
+      (factor_moves_in a c (d / shared_divisor) (b / shared_divisor) other_factor
+      ∙ ap (λ k. a *ℤ pos k +ℤ c *ℤ pos (b / shared_divisor * other_factor)) u_is ∙ ap (λ k. a *ℤ pos u +ℤ c *ℤ pos k) w_is) wt;
+  bottom = bottom_is_within (b / shared_divisor * (d / shared_rest a b c d))
+      (mul-le (b / shared_divisor) (d / shared_rest a b c d) (b / shared_divisor) d (at_most_itself (b / shared_divisor))
+      (div-le_self d (shared_rest a b c d)));
 }
   where
     shared_divisor : ℕ
@@ -81,16 +88,19 @@ parts_fit a c b d u w l hb hd hl eu ew wl wa wc wt = record {
     over_left = lcm-over b d
 
     over_right : d * (b / shared_divisor) ≡ lcm b d
-    over_right = products_agree b d (b / shared_divisor) (d / shared_divisor) shared_divisor (div-mul_cancel shared_divisor divisor_is_greatest.0) (div-mul_cancel shared_divisor divisor_is_greatest.1) ∙ over_left
+    over_right = products_agree b d (b / shared_divisor) (d / shared_divisor) shared_divisor
+        (div-mul_cancel shared_divisor divisor_is_greatest.0) (div-mul_cancel shared_divisor divisor_is_greatest.1) ∙ over_left
       where
         products_agree : (b d x y shared_divisor : ℕ) → x * shared_divisor ≡ b → y * shared_divisor ≡ d → d * x ≡ b * y
         products_agree b d x y shared_divisor e f = rw (← e, ← f) (omega arith)
 
     u_is : d / shared_divisor * other_factor ≡ u
-    u_is = eq_of_mul-eq-mul_left b hb (d / shared_divisor * other_factor) u (sym (mul_assoc b (d / shared_divisor) other_factor) ∙ ap (λ k. k * other_factor) over_left ∙ product_is_whole ∙ sym eu)
+    u_is = eq_of_mul-eq-mul_left b hb (d / shared_divisor * other_factor) u
+        (sym (mul_assoc b (d / shared_divisor) other_factor) ∙ ap (λ k. k * other_factor) over_left ∙ product_is_whole ∙ sym eu)
 
     w_is : b / shared_divisor * other_factor ≡ w
-    w_is = eq_of_mul-eq-mul_left d hd (b / shared_divisor * other_factor) w (sym (mul_assoc d (b / shared_divisor) other_factor) ∙ ap (λ k. k * other_factor) over_right ∙ product_is_whole ∙ sym ew)
+    w_is = eq_of_mul-eq-mul_left d hd (b / shared_divisor * other_factor) w
+        (sym (mul_assoc d (b / shared_divisor) other_factor) ∙ ap (λ k. k * other_factor) over_right ∙ product_is_whole ∙ sym ew)
 
     bottom_is_within : (k : ℕ) → k ≤ b / shared_divisor * d → IsWithin (pos k)
     bottom_is_within k h = omega (arith, h, mul_comm (b / shared_divisor) d ∙ over_right, le_of_dvd hl multiple_divides, wl)

@@ -78,14 +78,17 @@ module _ (m n : ℕ) (t : SimplexTable Rational) (number : ℕ → ℕ → ℤ) 
 
       entry_fits : (i j : ℕ) → i ≤ m → j ≤ n + m → EntryFits (t.entry i j) (t.entry r j) (Q.times (t.entry i c) (Q.inverse (t.entry r c)))
       entry_fits i j hi hj =
-          let product = product_in_row (t.entry r j) (t.entry i c) (t.entry r c) (number r j) (number i c) p (bottom r) (bottom i) (o.some r hr) (o.some i hi) hp
+          let product = product_in_row (t.entry r j) (t.entry i c) (t.entry r c) (number r j) (number i c) p (bottom r) (bottom i)
+          (o.some r hr) (o.some i hi) hp
           (o.named r j hr hj) (o.named i c hi hc) own_entry in
           let first = half_product (number i j) (pos p) (o.short i j hi hj) p_short in
           let second = half_product (number r j) (number i c) (o.short r j hr hj) (o.short i c hi hc) in
           record {
-            product = narrow_by (Q.times (t.entry r j) (Q.times (t.entry i c) (Q.inverse (t.entry r c)))) (number r j *ℤ number i c) (bottom i * p) (product_above_zero i hi) product
+            product = narrow_by (Q.times (t.entry r j) (Q.times (t.entry i c) (Q.inverse (t.entry r c)))) (number r j *ℤ number i c)
+                (bottom i * p) (product_above_zero i hi) product
                 (half_within (number r j *ℤ number i c) second) (over_within i hi);
-            difference = difference_fits (t.entry i j) (Q.times (t.entry r j) (Q.times (t.entry i c) (Q.inverse (t.entry r c)))) (number i j *ℤ pos p) (number r j *ℤ number i c) (bottom i * p)
+            difference = difference_fits (t.entry i j) (Q.times (t.entry r j) (Q.times (t.entry i c) (Q.inverse (t.entry r c))))
+                (number i j *ℤ pos p) (number r j *ℤ number i c) (bottom i * p)
                 (product_above_zero i hi) (scaled_name (t.entry i j) (number i j) (bottom i) p (o.named i j hi hj)) product
                 (over_within i hi) (half_within (number i j *ℤ pos p) first)
                 (half_within (neg_ℤ (number r j *ℤ number i c)) (subst (λ k. k < 2 ^ 126) (sym (size_negated (number r j *ℤ number i c))) second))
@@ -97,7 +100,8 @@ module _ (m n : ℕ) (t : SimplexTable Rational) (number : ℕ → ℕ → ℤ) 
   candidate_number i c hi hc h = by_sign (number i c) refl
     where
       sign : {z : ℤ} → number i c ≡ z → is_at_least_zero (Q.minus (t.entry i c)) ≡ sign_least (neg_ℤ z)
-      sign e = sign_named (Q.minus (t.entry i c)) (neg_ℤ (number i c)) (bottom i) (o.some i hi) (minus_names (t.entry i c) (number i c) (bottom i) (o.named i c hi hc)) ∙ ap (λ z. sign_least (neg_ℤ z)) e
+      sign e = sign_named (Q.minus (t.entry i c)) (neg_ℤ (number i c)) (bottom i) (o.some i hi)
+          (minus_names (t.entry i c) (number i c) (bottom i) (o.named i c hi hc)) ∙ ap (λ z. sign_least (neg_ℤ z)) e
 
       by_sign : (z : ℤ) → number i c ≡ z → (p : ℕ) × (0 < p) × (number i c ≡ pos p)
       by_sign (pos zero) e = absurd (true≢false (sym h ∙ ap not (sign e)))
@@ -112,6 +116,7 @@ module _ (m n : ℕ) (t : SimplexTable Rational) (number : ℕ → ℕ → ℤ) 
       let r = leaving_row rationals m n t c in
       let p = candidate_number r c (omega (arith, hr)) (omega (arith, hc)) h in
       record {
-        ratios = λ i hi k. let q = candidate_number i c (omega (arith, hi)) (omega (arith, hc)) k in ratio_fits i c q.0 (omega (arith, hi)) (omega (arith, hc)) q.1 q.2;
+        ratios = λ i hi k. let q = candidate_number i c (omega (arith, hi)) (omega (arith, hc)) k
+            in ratio_fits i c q.0 (omega (arith, hi)) (omega (arith, hc)) q.1 q.2;
         pivot = pivot_fits r c p.0 (omega (arith, hr)) (omega (arith, hc)) p.1 p.2;
       }

@@ -21,7 +21,8 @@ shortened_twice old mid new s t = record {
   shared = t.shared * s.shared;
   some = mul-pos t.some s.some;
   length_is = t.length_is ∙ s.length_is;
-  entries = λ k l. ap (λ z. number_at new.numbers k *ℤ z) (product t.shared s.shared) ∙ sym (Z.mul_assoc (number_at new.numbers k) (pos t.shared) (pos s.shared))
+  entries = λ k l. ap (λ z. number_at new.numbers k *ℤ z) (product t.shared s.shared)
+      ∙ sym (Z.mul_assoc (number_at new.numbers k) (pos t.shared) (pos s.shared))
       ∙ ap (λ z. z *ℤ pos s.shared) (t.entries k (omega (arith, l, s.length_is))) ∙ s.entries k l;
   bottom_is = sym (mul_assoc new.bottom t.shared s.shared) ∙ ap (λ n. n * s.shared) t.bottom_is ∙ s.bottom_is;
 }
@@ -37,13 +38,16 @@ all_shortened_twice old mid new s t = record {
 }
 
 -- rows stay usable
-pub all_shortened_usable : (limit : ℕ) (old new : List WholeRowView) → AreShortened old new → AreUsable (length old) limit old → AreUsable (length new) limit new
+pub all_shortened_usable : (limit : ℕ) (old new : List WholeRowView) → AreShortened old new → AreUsable (length old) limit old
+    → AreUsable (length new) limit new
 all_shortened_usable limit old new s u = λ i l.
     let j : i < length old = omega (arith, l, s.same_length) in
-    subst (λ (w : ℕ). IsUsable w limit (whole_row_at new i)) (sym s.same_length) (shortened_usable (length old) limit (whole_row_at old i) (whole_row_at new i) (s.each i j) (u i j))
+    subst (λ (w : ℕ). IsUsable w limit (whole_row_at new i)) (sym s.same_length)
+    (shortened_usable (length old) limit (whole_row_at old i) (whole_row_at new i) (s.each i j) (u i j))
 
 -- the rows show what they showed
-pub shows_shortened : (p : FeasibilityProblem Rational) (b t : SimplexTable Rational) (columns : List Terms) (limit : ℕ) (rows : List WholeRowView) (basis : List ℕ) (moved : ℕ → Bool) (shorter : List WholeRowView)
+pub shows_shortened : (p : FeasibilityProblem Rational) (b t : SimplexTable Rational) (columns : List Terms) (limit : ℕ)
+    (rows : List WholeRowView) (basis : List ℕ) (moved : ℕ → Bool) (shorter : List WholeRowView)
     → AreShortened rows shorter → ShowsBehind p b t columns limit rows basis moved → ShowsBehind p b t columns limit shorter basis moved
 shows_shortened p b t columns limit rows basis moved shorter a s = record {
   norm = s.norm;
@@ -55,15 +59,18 @@ shows_shortened p b t columns limit rows basis moved shorter a s = record {
   shows = record {
     rows_are = a.same_length ∙ s.shows.rows_are;
     basis_are = s.shows.basis_are;
-    row = λ i l. row_shortened (length basis + 1) limit (λ k. (mixed_table moved b t).entry i (length columns + k)) (whole_row_at rows i) (whole_row_at shorter i) (a.each i (omega (arith, l, s.shows.rows_are))) (s.shows.row i l);
+    row = λ i l. row_shortened (length basis + 1) limit (λ k. (mixed_table moved b t).entry i (length columns + k)) (whole_row_at rows i)
+        (whole_row_at shorter i) (a.each i (omega (arith, l, s.shows.rows_are))) (s.shows.row i l);
     basis_is = s.shows.basis_is;
   };
   columns_are = s.columns_are;
 }
 
 -- and after degenerate steps they show what these steps lead to
-pub still_steps_shortened : (columns : List Terms) (limit : ℕ) (old : List WholeRowView) (basis : List ℕ) (moved : List Bool) (k : ℕ) (rows : List WholeRowView) (new_basis : List ℕ) (new_moved : List Bool) (shorter : List WholeRowView)
-    → AreStillSteps columns limit old basis moved k rows new_basis new_moved → AreShortened rows shorter → AreStillSteps columns limit old basis moved k shorter new_basis new_moved
+pub still_steps_shortened : (columns : List Terms) (limit : ℕ) (old : List WholeRowView) (basis : List ℕ) (moved : List Bool) (k : ℕ)
+    (rows : List WholeRowView) (new_basis : List ℕ) (new_moved : List Bool) (shorter : List WholeRowView)
+    → AreStillSteps columns limit old basis moved k rows new_basis new_moved → AreShortened rows shorter
+    → AreStillSteps columns limit old basis moved k shorter new_basis new_moved
 still_steps_shortened columns limit old basis moved k rows new_basis new_moved shorter h a = record {
   engine = record {
     rows_are = a.same_length ∙ h.engine.rows_are;

@@ -97,4 +97,5 @@ module _ (cs : List ℕ) (generators : List Terms) (target : Terms) where
       ∙ ap Q.minus (sum_of_units m k l ∙ ap (λ b. integer (cond b (pos 1) (pos 0))) (lt-ltb k m l)) ∙ minus_integer (pos 1)
 
   pub cost_right_side : (start_of cs generators target).entry m (n + m) ≡ integer (neg_ℤ (pos (right_sum cs target m)))
-  cost_right_side = start_cost field_ℚ m n (feasibility_problem cs generators target) (n + m) ∙ ap Q.minus (sum_of_rights m) ∙ minus_integer (pos (right_sum cs target m))
+  cost_right_side = start_cost field_ℚ m n (feasibility_problem cs generators target) (n + m) ∙ ap Q.minus (sum_of_rights m)
+      ∙ minus_integer (pos (right_sum cs target m))

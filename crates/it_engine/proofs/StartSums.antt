@@ -30,14 +30,16 @@ module _ {A : Type 0} (R : Ring A) where
     where
       nulls : (n : ℕ) → sum_to R n (λ i. R.mul (cond (ltb i 0) R.unit R.null) (f i)) ≡ R.null
       nulls zero = refl
-      nulls (suc n) = ap₂ R.add (ap (λ b. R.mul (cond b R.unit R.null) (f n)) (le-ltb n 0 (omega arith)) ∙ R.mul_comm R.null (f n) ∙ mul-null R (f n)) (nulls n) ∙ R.null-add R.null
+      nulls (suc n) = ap₂ R.add (ap (λ b. R.mul (cond b R.unit R.null) (f n)) (le-ltb n 0 (omega arith)) ∙ R.mul_comm R.null (f n)
+          ∙ mul-null R (f n)) (nulls n) ∙ R.null-add R.null
   sum_of_first zero (suc k) f h = absurd (omega arith)
   sum_of_first (suc n) (suc k) f h = by_cases (cases_lt n (suc k)) (λ l. sum_of_first n (suc k) f l)
     where
       by_cases : (n < suc k) ⊎ (suc k ≤ n) → (suc k ≤ n → sum_to R n (λ i. R.mul (cond (ltb i (suc k)) R.unit R.null) (f i)) ≡ sum_to R (suc k) f)
           → sum_to R (suc n) (λ i. R.mul (cond (ltb i (suc k)) R.unit R.null) (f i)) ≡ sum_to R (suc k) f
       by_cases (inl l) rest =
-          sum_same R (suc n) (λ i. R.mul (cond (ltb i (suc k)) R.unit R.null) (f i)) f (λ i m. ap (λ b. R.mul (cond b R.unit R.null) (f i)) (lt-ltb i (suc k) (omega (arith, m, l))) ∙ R.unit-mul (f i))
+          sum_same R (suc n) (λ i. R.mul (cond (ltb i (suc k)) R.unit R.null) (f i)) f
+          (λ i m. ap (λ b. R.mul (cond b R.unit R.null) (f i)) (lt-ltb i (suc k) (omega (arith, m, l))) ∙ R.unit-mul (f i))
           ∙ ap (λ j. sum_to R (suc j) f) (same_number n k l h)
         where
           same_number : (n k : ℕ) → n < suc k → suc k ≤ suc n → n ≡ k
@@ -59,21 +61,26 @@ rights_ascend cs target k zero h = subst (λ (j : ℕ). right_sum cs target j �
     none k h = omega (arith, h)
 rights_ascend cs target k (suc m) h = by_cases (cases_eq k (suc m)) (λ l. rights_ascend cs target k m l)
   where
-    by_cases : (k ≡ suc m) ⊎ (k ≡ suc m → ⊥) → (k ≤ m → right_sum cs target k ≤ right_sum cs target m) → right_sum cs target k ≤ right_size cs target m + right_sum cs target m
+    by_cases : (k ≡ suc m) ⊎ (k ≡ suc m → ⊥) → (k ≤ m → right_sum cs target k ≤ right_sum cs target m)
+        → right_sum cs target k ≤ right_size cs target m + right_sum cs target m
     by_cases (inl e) below = subst (λ (j : ℕ). right_sum cs target j ≤ right_sum cs target (suc m)) (sym e) (omega arith)
     by_cases (inr d) below = let b = below (omega (arith, d, h)) in omega (arith, b)
 
 module _ (cs : List ℕ) (generators : List Terms) (target : Terms) (columns : List Terms) (norm : ℕ) (short : norm < 2 ^ 63)
-    (are : AreStartColumns (length cs) (length generators) norm (feasibility_problem cs generators target) columns) (rights : right_sum cs target (length cs) < 2 ^ 63) where
+    (are : AreStartColumns (length cs) (length generators) norm (feasibility_problem cs generators target) columns)
+    (rights : right_sum cs target (length cs) < 2 ^ 63) where
   -- the sum of the first k rows at column j
   abbrev partial_sum : ℕ → ℕ → Rational
   partial_sum k j = sum_to ring_ℚ k (λ i. start_row rationals (length cs) (length generators) (feasibility_problem cs generators target) i j)
 
   column_narrow : (k j : ℕ) → k ≤ length cs → j < length generators → IsNarrow (partial_sum k j)
   column_narrow k j h l = narrow_by (partial_sum k j) number 1 (omega arith)
-      (subst (λ (q : Rational). IsRatio q number 1) (sym (c.value_is weights) ∙ sum_of_first ring_ℚ (length cs) k (λ i. start_row rationals (length cs) (length generators) (feasibility_problem cs generators target) i j) h)
+      (subst (λ (q : Rational). IsRatio q number 1) (sym (c.value_is weights)
+      ∙ sum_of_first ring_ℚ (length cs) k (λ i. start_row rationals (length cs) (length generators)
+      (feasibility_problem cs generators target) i j) h)
       (value_named terms (length cs) weights (λ i. cond (ltb i k) (pos 1) (pos 0)) 1 (omega arith) c.within (λ i m. by_test (ltb i k))))
-      (short_within number (let b = value_bounded terms (length cs) (λ i. cond (ltb i k) (pos 1) (pos 0)) 1 c.within (λ i m. at_most_one (ltb i k)) in omega (arith, b, c.bounded, short)))
+      (short_within number (let b = value_bounded terms (length cs) (λ i. cond (ltb i k) (pos 1) (pos 0)) 1 c.within
+      (λ i m. at_most_one (ltb i k)) in omega (arith, b, c.bounded, short)))
       one_is_within
     where
       terms : Terms

@@ -23,7 +23,8 @@ use Rattle.it_engine.proofs.StartNumbers.{column_entry}
 use native.Mathlib.Nat.{mul-div-le}
 
 -- the parts of the engine that are read off a question
-pub record IsLoaded (cs : List ℕ) (generators : List Terms) (target : Terms) (columns : List Terms) (norm limit : ℕ) (rows : List WholeRowView) (basis : List ℕ) : Type 0 where
+pub record IsLoaded (cs : List ℕ) (generators : List Terms) (target : Terms) (columns : List Terms) (norm limit : ℕ)
+    (rows : List WholeRowView) (basis : List ℕ) : Type 0 where
   pub columns_are : AreReadColumns cs generators target columns
   pub norm_is : IsNorm columns norm
   pub fit : norm * limit < 2 ^ 63
@@ -46,7 +47,8 @@ module _ (cs : List ℕ) (generators : List Terms) (target : Terms) (columns : L
     };
     fitting = λ j l. let c = s.columns_are.1 j (omega (arith, l, s.columns_are.0)) in record {
       within = λ i d l. let w = c.within i d l in omega (arith, w, s.rows_are.0);
-      fits = (let w : row_mass (slice_index_or columns j []) * limit ≤ norm * limit = mul-le (row_mass (slice_index_or columns j [])) limit norm limit (s.norm_is.bounds j l) (omega arith) in omega (arith, w, s.fit));
+      fits = (let w : row_mass (slice_index_or columns j []) * limit ≤ norm * limit = mul-le (row_mass (slice_index_or columns j [])) limit
+          norm limit (s.norm_is.bounds j l) (omega arith) in omega (arith, w, s.fit));
     };
     limit_is = limit_short;
   }
@@ -59,8 +61,10 @@ module _ (cs : List ℕ) (generators : List Terms) (target : Terms) (columns : L
       length_is = r.length_is;
       some = subst (λ (k : ℕ). 0 < k) (sym r.bottom_is) (omega arith);
       low = subst (λ (k : ℕ). k < 2 ^ 63) (sym r.bottom_is) (omega arith);
-      named = λ k l. subst (λ (d : ℕ). IsRatio ((start_of cs generators target).entry i (length generators + k)) (number_at (whole_row_at rows i).numbers k) d) (sym r.bottom_is)
-          (subst (λ (q : Rational). IsRatio q (number_at (whole_row_at rows i).numbers k) 1) (sym (r.each generators k l).value_is) (whole_names (number_at (whole_row_at rows i).numbers k)));
+      named = λ k l. subst (λ (d : ℕ). IsRatio ((start_of cs generators target).entry i (length generators + k))
+          (number_at (whole_row_at rows i).numbers k) d) (sym r.bottom_is)
+          (subst (λ (q : Rational). IsRatio q (number_at (whole_row_at rows i).numbers k) 1) (sym (r.each generators k l).value_is)
+          (whole_names (number_at (whole_row_at rows i).numbers k)));
       small = λ k l. (r.each generators k l).small;
     };
     basis_is = λ i l. start_basis field_ℚ (length cs) (length generators) (feasibility_problem cs generators target) i l ∙ sym (s.basis_is i l);
@@ -70,7 +74,8 @@ module _ (cs : List ℕ) (generators : List Terms) (target : Terms) (columns : L
   columns_are_of_start = record {
     count = s.columns_are.0;
     column = λ j l. let c = s.columns_are.1 j l in record {
-      value_is = λ g. sum_same ring_ℚ (length cs) (λ k. Q.times (g k) (start_row rationals (length cs) (length generators) (feasibility_problem cs generators target) k j))
+      value_is = λ g. sum_same ring_ℚ (length cs) (λ k. Q.times (g k) (start_row rationals (length cs) (length generators)
+          (feasibility_problem cs generators target) k j))
           (λ k. Q.times (g k) (integer (signed_coefficient cs target (slice_index_or generators j []) k)))
           (λ k h. ap (Q.times (g k)) (column_entry cs generators target k j l)) ∙ c.value_is g;
       within = c.within;

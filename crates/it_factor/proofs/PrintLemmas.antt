@@ -6,7 +6,7 @@ use Rattle.std.proofs.lemmas.Nat.{pow_pos}
 use Rattle.std.proofs.Math.Pow.{pow_mono}
 use Rattle.it_space.specs.declared.answers.Certificate.{Certificate}
 use Rattle.it_space.specs.Answers.{certificate_view}
-use Rattle.it_space.specs.Problems.{ProblemView}
+use Rattle.it_problems.specs.Problems.{ProblemView}
 use Rattle.it_polymatroid.specs.Certificates.{Form}
 use Rattle.it_polymatroid.specs.Elementals.{elementals}
 use Rattle.it_syntax.specs.Meaning.{RelationView}
@@ -41,16 +41,19 @@ constraint_count q p posed = zip-length (States p.space) (question_demands q) p.
 
 module _ (q : BodyView) (m : ℕ) (count : m ≡ length (question_demands q)) where
   generators_there : (f : Form) (w : Certificate) → CertifiesForm q f (certificate_view w) → IsThere (variable_count q) m w
-  generators_there f w c = All-weaker (IsAllowedWeight (all_demands (variable_count q) (question_demands q))) (λ (x : ℕ × ℤ). x.0 < length (elementals (variable_count q)) + m)
+  generators_there f w c = All-weaker (IsAllowedWeight (all_demands (variable_count q) (question_demands q)))
+      (λ (x : ℕ × ℤ). x.0 < length (elementals (variable_count q)) + m)
       (λ x a. omega (arith, a.0, length-demands (variable_count q) (question_demands q), count)) w.weights.items c.allowed
 
-  values_of_names : (values : List ℤ) → length (problem_names q).variables ≤ 10 → length (problem_names q).rates ≤ 16 → IsPoint (question_ground q) values → AreValuesOf (problem_names q) values
+  values_of_names : (values : List ℤ) → length (problem_names q).variables ≤ 10 → length (problem_names q).rates ≤ 16
+      → IsPoint (question_ground q) values → AreValuesOf (problem_names q) values
   values_of_names values few few_rates i = (
     omega (arith, i.complete, pow_pos (variable_count q)),
     omega (arith, i.complete, pow_mono {i = variable_count q} {j = 10} few, few_rates),
   )
 
-  best_printable : (r s : RelationView) (best : Best) → IsQuestion q → q.verb ≡ Prove s → ShowsFactor q r (best_view best) → IsBestPrintable (problem_names q) m best
+  best_printable : (r s : RelationView) (best : Best) → IsQuestion q → q.verb ≡ Prove s → ShowsFactor q r (best_view best)
+      → IsBestPrintable (problem_names q) m best
   best_printable r s best k verb shown = by_best best shown
     where
       names_are : problem_names q ≡ q.names
@@ -69,6 +72,7 @@ module _ (q : BodyView) (m : ℕ) (count : m ≡ length (question_demands q)) wh
       by_best (answers.Undecided cause) s = tt
 
   -- what is printed of a reply is there
-  pub reply_printable : (effort : Effort) (r : RelationView) (reply : Reply) → IsQuestion q → q.verb ≡ Prove r → IsRightReply effort q (reply_view reply) → IsPrintable q m reply
+  pub reply_printable : (effort : Effort) (r : RelationView) (reply : Reply) → IsQuestion q → q.verb ≡ Prove r
+      → IsRightReply effort q (reply_view reply) → IsPrintable q m reply
   reply_printable effort r (replies.Found best) k verb right = best_printable right.0 r best k verb right.2.shows
   reply_printable effort r replies.Other k verb right = tt

@@ -13,7 +13,8 @@ use Rattle.it_ratio.proofs.Orders.{all_smaller, no_smaller, none_at_zero}
 use Rattle.it_factor.specs.RightReplies.{WhatIsShownIsTrue, question_ground}
 
 -- a certified factor holds
-certified_holds : (q : BodyView) (left right : Form) (num den : ℤ) (w : CertificateView) → IsFactor (question_ground q) left right num den w → HoldsFactor (question_ground q) left right num den
+certified_holds : (q : BodyView) (left right : Form) (num den : ℤ) (w : CertificateView) → IsFactor (question_ground q) left right num den w
+    → HoldsFactor (question_ground q) left right num den
 certified_holds q left right num den w f p together = form_at_least_zero q p together (λ p. num *ℤ left p -ℤ den *ℤ right p) w f.certified
 
 pub what_is_shown_is_true : WhatIsShownIsTrue
@@ -22,7 +23,8 @@ what_is_shown_is_true q r (Least num den proof values) s =
     let right = right_form (variable_count q) r in (
       s.factor.from_one,
       certified_holds q left right num den proof s.factor,
-      λ a b one holds. no_smaller num den a b (left (point_of values)) (right (point_of values)) s.some s.factor.from_one s.equal (holds (point_of values) s.point.holds),
+      λ a b one holds. no_smaller num den a b (left (point_of values)) (right (point_of values)) s.some s.factor.from_one s.equal
+          (holds (point_of values) s.point.holds),
     )
 what_is_shown_is_true q r (Never values) s =
     let left = left_form (variable_count q) r in
@@ -32,7 +34,8 @@ what_is_shown_is_true q r (Unbounded num den proof below) s =
     let left = left_form (variable_count q) r in
     let right = right_form (variable_count q) r in (
       s.0.from_one,
-      λ a b one smaller p together. all_smaller num den a b (left p) (right p) s.0.from_one one smaller (certified_holds q left right num den proof s.0 p together)
+      λ a b one smaller p together. all_smaller num den a b (left p) (right p) s.0.from_one one smaller
+          (certified_holds q left right num den proof s.0 p together)
           (form_at_least_zero q p together (λ x. neg_ℤ (left x)) below s.1),
     )
 what_is_shown_is_true q r (Undecided cause) s = tt

@@ -17,8 +17,10 @@ use Rattle.it_factor.specs.RightReplies.{IsDueFactor, NeverOutOfSteps, OneRightR
 not_quick : (quick : Bool) → quick ≡ false → quick ≡ true → ⊥
 not_quick quick e f = false≢true (sym e ∙ f)
 
-one_due : (effort : Effort) (q : BodyView) (r : RelationView) (x y : BestView) → effort.quick ≡ false → IsDueFactor effort q r x → IsDueFactor effort q r y → x ≡ y
-one_due effort q r x y defined (inl a) (inl b) = one_best (problem_of q) (terms_in q (left_form (variable_count q) r)) (terms_in q (right_form (variable_count q) r)) effort.pivots x y a b
+one_due : (effort : Effort) (q : BodyView) (r : RelationView) (x y : BestView) → effort.quick ≡ false → IsDueFactor effort q r x
+    → IsDueFactor effort q r y → x ≡ y
+one_due effort q r x y defined (inl a) (inl b) = one_best (problem_of q) (terms_in q (left_form (variable_count q) r))
+    (terms_in q (right_form (variable_count q) r)) effort.pivots x y a b
 one_due effort q r x y defined (inl a) (inr b) = absurd (not_quick effort.quick defined b.0)
 one_due effort q r x y defined (inr a) b = absurd (not_quick effort.quick defined a.0)
 
@@ -31,9 +33,12 @@ one_right_reply effort q (Found x) Other defined h k = let e : Some h.0 ≡ None
 one_right_reply effort q Other (Found y) defined h k = let e : Some k.0 ≡ None = sym k.1 ∙ h in absurd (cc)
 one_right_reply effort q Other Other defined h k = refl
 
-due_within_budget : (effort : Effort) (q : BodyView) (r : RelationView) (k phase : ℕ) → effort.pivots ≡ None → IsDueFactor effort q r (Undecided (Pivots k phase)) → ⊥
-due_within_budget effort q r k phase none (inl e) = best_never_out_of_steps (problem_of q) (terms_in q (left_form (variable_count q) r)) (terms_in q (right_form (variable_count q) r)) k phase
-    (subst (λ b. EndsWith (problem_of q) (terms_in q (left_form (variable_count q) r)) (terms_in q (right_form (variable_count q) r)) b (Undecided (Pivots k phase))) none e)
+due_within_budget : (effort : Effort) (q : BodyView) (r : RelationView) (k phase : ℕ) → effort.pivots ≡ None
+    → IsDueFactor effort q r (Undecided (Pivots k phase)) → ⊥
+due_within_budget effort q r k phase none (inl e) = best_never_out_of_steps (problem_of q) (terms_in q (left_form (variable_count q) r))
+    (terms_in q (right_form (variable_count q) r)) k phase
+    (subst (λ b. EndsWith (problem_of q) (terms_in q (left_form (variable_count q) r)) (terms_in q (right_form (variable_count q) r)) b
+    (Undecided (Pivots k phase))) none e)
 due_within_budget effort q r k phase none (inr (quick, known)) = known
 
 pub never_out_of_steps : NeverOutOfSteps

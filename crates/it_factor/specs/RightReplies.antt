@@ -1,7 +1,7 @@
 -- Right replies to questions in mode `best`: they show what they say, by the meaning of the question's text alone, and they are due: the
 -- runs find them. And what follows.
 use Rattle.std.specs.Prelude.{◌≡◌, ◌⊎◌, ℕ, Some, None, true, false}
-use Rattle.it_space.specs.Problems.{ProblemView}
+use Rattle.it_problems.specs.Problems.{ProblemView}
 use Rattle.it_space.specs.Rows.{Terms}
 use Rattle.it_space.specs.Spaces.{size_of}
 use Rattle.it_syntax.specs.Meaning.{RelationView}

@@ -1,6 +1,6 @@
 -- What is found by the rows of a relation's sides; no public clause cites it.
 use Rattle.std.specs.Prelude.{Option, Some, None}
-use Rattle.it_space.specs.Problems.{ProblemView}
+use Rattle.it_problems.specs.Problems.{ProblemView}
 use Rattle.it_space.specs.Rows.{Terms, value}
 use Rattle.it_syntax.specs.Meaning.{RelationView}
 use Rattle.it_demand.specs.Canonical.{IsRowOf}

@@ -10,7 +10,8 @@ ghost use Rattle.it_best.specs.PhaseSteps.{AreSides};
 use it_check::{Verdict, check_no};
 use it_columns::opposite_row;
 use it_fraction::{Wide, difference, signed_product};
-use it_space::{Point, Problem, Row, RowFault, value};
+use it_problems::Problem;
+use it_space::{Point, Row, RowFault, value};
 use std::alloc::{AllocError, Global};
 
 /// `a` times `x` less `b` times `y`.

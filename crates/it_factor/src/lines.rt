@@ -13,9 +13,10 @@ ghost use Rattle.it_factor.specs.Replies.{reply_view};
 use crate::types::Reply;
 use it_canon::problem_names;
 use it_print::{sum_text, values_text, write_number, write_signed};
+use it_problems::Constraint;
 use it_question::types::Question;
 use it_ratio::types::{Best, BestCause};
-use it_space::{Certificate, Constraint, Point};
+use it_space::{Certificate, Point};
 use std::alloc::{AllocError, Global};
 
 /// Appends a certificate: its scale and its sum.

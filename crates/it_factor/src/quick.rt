@@ -18,10 +18,11 @@ use crate::joining::joined;
 use it_best::factor_row;
 use it_columns::opposite_row;
 use it_fraction::Fraction;
+use it_problems::Problem;
 use it_prove::{Proof, QUICK_STEPS, settle};
 use it_quick::QuickProblem;
 use it_ratio::types::Best;
-use it_space::{Certificate, Point, Problem, Row, RowFault, value};
+use it_space::{Certificate, Point, Row, RowFault, value};
 use std::alloc::{AllocError, Global};
 
 /// The most numbers that are tried.

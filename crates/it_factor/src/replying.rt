@@ -21,10 +21,11 @@ use crate::quick::quick_factor;
 use crate::types::{RepliedProblem, Reply};
 use it_best::best;
 use it_canon::{problem, sides};
+use it_problems::Problem;
 use it_prove::{Effort, budget_of};
 use it_question::types::{Question, Verb};
 use it_ratio::types::Best;
-use it_space::{Problem, Row};
+use it_space::Row;
 use it_syntax::types::{Relation, Sign};
 use std::alloc::{AllocError, Global};
 

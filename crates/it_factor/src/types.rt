@@ -1,6 +1,6 @@
 //! Replies with their problems.
+use it_problems::Problem;
 use it_ratio::types::Best;
-use it_space::Problem;
 
 /// A reply to a question in mode `best`.
 #[derive(Drop)]

@@ -22,7 +22,8 @@ use Rattle.it_facts.specs.declared.facts.Fact.TheVariants.{Entropy, Rate, Consta
 -- ---- functions
 
 -- what a set has as its function adds nothing to a greater set
-pub function_adds_nothing : (n : ℕ) (q : ℕ → ℤ) (a from to : ℕ) → IsPolymatroid n q → a < 2 ^ n → to < 2 ^ n → IsInside from a → q (bit_or from to) ≡ q from → q (bit_or a to) ≡ q a
+pub function_adds_nothing : (n : ℕ) (q : ℕ → ℤ) (a from to : ℕ) → IsPolymatroid n q → a < 2 ^ n → to < 2 ^ n → IsInside from a
+    → q (bit_or from to) ≡ q from → q (bit_or a to) ≡ q a
 function_adds_nothing n q a from to p l m i e =
     let both : ℕ = bit_or from to in
     let below : both < 2 ^ n = or_lt n from to (inside_below n from a l i) m in
@@ -30,11 +31,13 @@ function_adds_nothing n q a from to p l m i e =
     let x = bit_at_or a both k in let y = bit_at_or from to k in let z = bit_at_or a to k in let w = at_most_at from a i k in omega arith) in
     let up : q a ≤ℤ q (bit_or a both) = p.rises a (bit_or a both) (or_lt n a both l below) (inside_left a both) in
     let sub : (q (bit_or a both) +ℤ q (bit_and a both)) ≤ℤ (q a +ℤ q both) = p.submodular a both l below in
-    let low : q from ≤ℤ q (bit_and a both) = p.rises from (bit_and a both) (omega (arith, and_le_r a both, below)) (inside_meet from a both i (inside_left from to)) in
+    let low : q from ≤ℤ q (bit_and a both) = p.rises from (bit_and a both) (omega (arith, and_le_r a both, below))
+    (inside_meet from a both i (inside_left from to)) in
     sym (ap q all) ∙ omega (arith, ints, up, sub, low, e)
 
 -- a set that holds a function of others of its members has the value that it has without it
-pub without_function : (n : ℕ) (q : ℕ → ℤ) (s from x rest : ℕ) → IsPolymatroid n q → x < n → rest < 2 ^ n → s ≡ bit_or rest (2 ^ x) → IsInside from rest → IsFunction q x from → q s ≡ q rest
+pub without_function : (n : ℕ) (q : ℕ → ℤ) (s from x rest : ℕ) → IsPolymatroid n q → x < n → rest < 2 ^ n → s ≡ bit_or rest (2 ^ x)
+    → IsInside from rest → IsFunction q x from → q s ≡ q rest
 without_function n q s from x rest p l m e i f = ap q e ∙ function_adds_nothing n q rest from (2 ^ x) p m (pow_below x n l) i f
 
 -- ---- independence
@@ -48,7 +51,8 @@ power_of_member s i e = by_cases (cases_lt s (2 ^ i))
     by_cases (inr h) = h
 
 -- sums over sets whose members are the same, of maps that agree at these
-pub sum_of_members-same : (n : ℕ) (q p : ℕ → ℤ) (s t : ℕ) → ((i : ℕ) → i < n → bit_at s i ≡ bit_at t i) → ((i : ℕ) → i < n → has_member t i ≡ true → q (2 ^ i) ≡ p (2 ^ i)) → sum_of_members n q s ≡ sum_of_members n p t
+pub sum_of_members-same : (n : ℕ) (q p : ℕ → ℤ) (s t : ℕ) → ((i : ℕ) → i < n → bit_at s i ≡ bit_at t i)
+    → ((i : ℕ) → i < n → has_member t i ≡ true → q (2 ^ i) ≡ p (2 ^ i)) → sum_of_members n q s ≡ sum_of_members n p t
 sum_of_members-same zero q p s t h e = refl
 sum_of_members-same (suc n) q p s t h e =
     ap₂ (λ x y. x +ℤ y) (ap (λ b. cond (nat_eq b 1) (q (2 ^ n)) (pos 0)) (h n (omega arith)) ∙ by_test (has_member t n) (e n (omega arith)))
@@ -59,7 +63,8 @@ sum_of_members-same (suc n) q p s t h e =
     by_test false f = refl
 
 -- the sum over a set is the sum over a part and over the rest
-pub sum_of_members-split : (n : ℕ) (q : ℕ → ℤ) (s rest whole : ℕ) → ((i : ℕ) → bit_at s i + bit_at rest i ≡ bit_at whole i) → sum_of_members n q s +ℤ sum_of_members n q rest ≡ sum_of_members n q whole
+pub sum_of_members-split : (n : ℕ) (q : ℕ → ℤ) (s rest whole : ℕ) → ((i : ℕ) → bit_at s i + bit_at rest i ≡ bit_at whole i)
+    → sum_of_members n q s +ℤ sum_of_members n q rest ≡ sum_of_members n q whole
 sum_of_members-split zero q s rest whole h = refl
 sum_of_members-split (suc n) q s rest whole h =
     let here = by_bits (bit_at s n) (bit_at rest n) (bit_at whole n) (bit_at-lt whole n) (h n) in
@@ -67,7 +72,8 @@ sum_of_members-split (suc n) q s rest whole h =
     sum_of_four (cond (has_member s n) (q (2 ^ n)) (pos 0)) (sum_of_members n q s) (cond (has_member rest n) (q (2 ^ n)) (pos 0)) (sum_of_members n q rest)
     (cond (has_member whole n) (q (2 ^ n)) (pos 0)) (sum_of_members n q whole) here ih
   where
-    by_bits : (a b c : ℕ) → c < 2 → a + b ≡ c → cond (nat_eq a 1) (q (2 ^ n)) (pos 0) +ℤ cond (nat_eq b 1) (q (2 ^ n)) (pos 0) ≡ cond (nat_eq c 1) (q (2 ^ n)) (pos 0)
+    by_bits : (a b c : ℕ) → c < 2 → a + b ≡ c → cond (nat_eq a 1) (q (2 ^ n)) (pos 0) +ℤ cond (nat_eq b 1) (q (2 ^ n)) (pos 0)
+        ≡ cond (nat_eq c 1) (q (2 ^ n)) (pos 0)
     by_bits zero zero c l e = subst (λ (k : ℕ). pos 0 +ℤ pos 0 ≡ cond (nat_eq k 1) (q (2 ^ n)) (pos 0)) e (omega (arith, ints))
     by_bits zero (suc zero) c l e = subst (λ (k : ℕ). pos 0 +ℤ q (2 ^ n) ≡ cond (nat_eq k 1) (q (2 ^ n)) (pos 0)) e (omega (arith, ints))
     by_bits (suc zero) zero c l e = subst (λ (k : ℕ). q (2 ^ n) +ℤ pos 0 ≡ cond (nat_eq k 1) (q (2 ^ n)) (pos 0)) e (omega (arith, ints))
@@ -82,7 +88,8 @@ sum_of_members-split (suc n) q s rest whole h =
 union_at_most : (n : ℕ) (q : ℕ → ℤ) (s t : ℕ) → IsPolymatroid n q → s < 2 ^ n → t < 2 ^ n → q (bit_or s t) ≤ℤ (q s +ℤ q t)
 union_at_most n q s t p l m =
     let sub : (q (bit_or s t) +ℤ q (bit_and s t)) ≤ℤ (q s +ℤ q t) = p.submodular s t l m in
-    let least : q 0 ≤ℤ q (bit_and s t) = p.rises 0 (bit_and s t) (omega (arith, and_le_r s t, m)) (same_from_bits (bit_and 0 (bit_and s t)) 0 (λ k. let x = bit_at_and 0 (bit_and s t) k in let z = bit_at-zero k in omega arith)) in
+    let least : q 0 ≤ℤ q (bit_and s t) = p.rises 0 (bit_and s t) (omega (arith, and_le_r s t, m))
+    (same_from_bits (bit_and 0 (bit_and s t)) 0 (λ k. let x = bit_at_and 0 (bit_and s t) k in let z = bit_at-zero k in omega arith)) in
     omega (arith, ints, sub, least, p.empty)
 
 -- the value of a set is at most the sum of its members' values
@@ -110,16 +117,19 @@ at_most_sum n q p (suc k) h s l = by_cases (cases_lt s (2 ^ k)) (at_most_sum n q
         omega (arith, ints, ih t tl, one, others, union, is)
 
 -- parts of a set of independent variables are independent
-pub part_independent : (n : ℕ) (q : ℕ → ℤ) (s whole : ℕ) → n ≤ 16 → IsPolymatroid n q → whole < 2 ^ n → IsInside s whole → q whole ≡ sum_of_members n q whole → q s ≡ sum_of_members n q s
+pub part_independent : (n : ℕ) (q : ℕ → ℤ) (s whole : ℕ) → n ≤ 16 → IsPolymatroid n q → whole < 2 ^ n → IsInside s whole
+    → q whole ≡ sum_of_members n q whole → q s ≡ sum_of_members n q s
 part_independent n q s whole few p l i e =
     let sl : s < 2 ^ n = inside_below n s whole l i in
     let up : 2 ^ n ≤ 2 ^ 16 = Rattle.std.proofs.Math.Nat.pow-le-pow_right (lit< tt) few in
     let rest : ℕ = bit_and whole (2 ^ 16 - 1 - s) in
     let bits : (k : ℕ) → bit_at rest k ≡ bit_at whole k - bit_at s k = λ k. bit_without whole s k (omega arith) (omega arith) in
-    let split : sum_of_members n q s +ℤ sum_of_members n q rest ≡ sum_of_members n q whole = sum_of_members-split n q s rest whole (λ k. let b = bits k in let w = at_most_at s whole i k in omega arith) in
+    let split : sum_of_members n q s +ℤ sum_of_members n q rest ≡ sum_of_members n q whole = sum_of_members-split n q s rest whole
+    (λ k. let b = bits k in let w = at_most_at s whole i k in omega arith) in
     let rl : rest < 2 ^ n = inside_below n rest whole l (inside_by rest whole (λ k. let b = bits k in omega arith)) in
     let union : q (bit_or s rest) ≤ℤ (q s +ℤ q rest) = union_at_most n q s rest p sl rl in
-    let all : bit_or s rest ≡ whole = same_from_bits (bit_or s rest) whole (λ k. let b = bits k in let w = at_most_at s whole i k in let o = bit_at_or s rest k in let f = bit_at-lt whole k in omega arith) in
+    let all : bit_or s rest ≡ whole = same_from_bits (bit_or s rest) whole
+    (λ k. let b = bits k in let w = at_most_at s whole i k in let o = bit_at_or s rest k in let f = bit_at-lt whole k in omega arith) in
     let first : q s ≤ℤ sum_of_members n q s = at_most_sum n q p n (omega arith) s sl in
     let second : q rest ≤ℤ sum_of_members n q rest = at_most_sum n q p n (omega arith) rest rl in
     omega (arith, ints, split, union, ap q all, first, second, e)
@@ -127,17 +137,20 @@ part_independent n q s whole few p l i e =
 -- ---- what facts settle
 
 -- a set with a member and without it
-pub without_member : (s x rest : ℕ) → has_member s x ≡ true → ((i : ℕ) → bit_at rest i ≡ bit_at s i - bit_at (2 ^ x) i) → rest + bit_and (2 ^ x) s ≡ s → (rest < s) × (s ≡ bit_or rest (2 ^ x)) × IsInside (2 ^ x) s
+pub without_member : (s x rest : ℕ) → has_member s x ≡ true → ((i : ℕ) → bit_at rest i ≡ bit_at s i - bit_at (2 ^ x) i)
+    → rest + bit_and (2 ^ x) s ≡ s → (rest < s) × (s ≡ bit_or rest (2 ^ x)) × IsInside (2 ^ x) s
 without_member s x rest m bits e =
     let one = eqb-true (bit_at s x) 1 m in
     let shared : bit_and (2 ^ x) s ≡ 2 ^ x = and_comm (2 ^ x) s ∙ and_pow s x ∙ ap (λ k. k * 2 ^ x) one ∙ omega arith in
     let positive = Rattle.std.proofs.lemmas.Nat.pow_pos x in (
       omega arith,
-      same_from_bits s (bit_or rest (2 ^ x)) (λ i. let b = bits i in let o = bit_at_or rest (2 ^ x) i in let w = at_most_at (2 ^ x) s shared i in let l = bit_at-lt s i in omega arith),
+      same_from_bits s (bit_or rest (2 ^ x)) (λ i. let b = bits i in let o = bit_at_or rest (2 ^ x) i
+          in let w = at_most_at (2 ^ x) s shared i in let l = bit_at-lt s i in omega arith),
       shared,
     )
 
-pub function_settles : (n : ℕ) (p : ℕ → ℤ) (s x of rest : ℕ) → x < n → s < 2 ^ n → has_member s x ≡ true → ((i : ℕ) → bit_at rest i ≡ bit_at s i - bit_at (2 ^ x) i) → rest + bit_and (2 ^ x) s ≡ s
+pub function_settles : (n : ℕ) (p : ℕ → ℤ) (s x of rest : ℕ) → x < n → s < 2 ^ n → has_member s x ≡ true
+    → ((i : ℕ) → bit_at rest i ≡ bit_at s i - bit_at (2 ^ x) i) → rest + bit_and (2 ^ x) s ≡ s
     → IsInside of rest → p s ≡ p rest → Settles n p s (Function x of)
 unfolding Settles
 function_settles n p s x of rest h l m bits e i v q k f agree =
@@ -149,18 +162,22 @@ pub constant_settles : (n : ℕ) (p : ℕ → ℤ) (s x : ℕ) → Settles n p s
 unfolding Settles
 constant_settles n p s x h q k f agree = h q k (ap q (or_zero_l (2 ^ x)) ∙ f ∙ sym k.empty) agree
 
-pub equal_settles : (n : ℕ) (p : ℕ → ℤ) (s x y rest exchanged : ℕ) → x < n → y < n → s < 2 ^ n → has_member s x ≡ true → ((i : ℕ) → bit_at rest i ≡ bit_at s i - bit_at (2 ^ x) i) → rest + bit_and (2 ^ x) s ≡ s
+pub equal_settles : (n : ℕ) (p : ℕ → ℤ) (s x y rest exchanged : ℕ) → x < n → y < n → s < 2 ^ n → has_member s x ≡ true
+    → ((i : ℕ) → bit_at rest i ≡ bit_at s i - bit_at (2 ^ x) i) → rest + bit_and (2 ^ x) s ≡ s
     → exchanged ≡ bit_or rest (2 ^ y) → exchanged < s → p s ≡ p exchanged → Settles n p s (Equal x y)
 unfolding Settles
 equal_settles n p s x y rest exchanged h j l m bits e is less v q k f agree =
     let w = without_member s x rest m bits e in
     let own : q (bit_or s (2 ^ y)) ≡ q s = function_adds_nothing n q s (2 ^ x) (2 ^ y) k l (pow_below y n j) (w.2) f.1 in
-    let other : q (bit_or exchanged (2 ^ x)) ≡ q exchanged = function_adds_nothing n q exchanged (2 ^ y) (2 ^ x) k (omega arith) (pow_below x n h) (subst (IsInside (2 ^ y)) (sym is) (inside_right rest (2 ^ y))) f.0 in
+    let other : q (bit_or exchanged (2 ^ x)) ≡ q exchanged = function_adds_nothing n q exchanged (2 ^ y) (2 ^ x) k (omega arith)
+    (pow_below x n h) (subst (IsInside (2 ^ y)) (sym is) (inside_right rest (2 ^ y))) f.0 in
     let both : bit_or s (2 ^ y) ≡ bit_or exchanged (2 ^ x) = same_from_bits (bit_or s (2 ^ y)) (bit_or exchanged (2 ^ x)) (λ i.
-    let a = bit_at_or s (2 ^ y) i in let b = bit_at_or exchanged (2 ^ x) i in let c = bit_at_or rest (2 ^ y) i in let d = ap (λ t. bit_at t i) is in let g = bit_at_or rest (2 ^ x) i in let t = ap (λ t. bit_at t i) w.1 in omega arith) in
+    let a = bit_at_or s (2 ^ y) i in let b = bit_at_or exchanged (2 ^ x) i in let c = bit_at_or rest (2 ^ y) i
+    in let d = ap (λ t. bit_at t i) is in let g = bit_at_or rest (2 ^ x) i in let t = ap (λ t. bit_at t i) w.1 in omega arith) in
     sym own ∙ ap q both ∙ other ∙ agree exchanged less ∙ sym v
 
-pub independent_settles : (n : ℕ) (p : ℕ → ℤ) (s whole : ℕ) → n ≤ 10 → whole < 2 ^ n → IsInside s whole → ((i : ℕ) → i < n → s ≢ 2 ^ i) → p s ≡ sum_of_members n p s → Settles n p s (Independent whole)
+pub independent_settles : (n : ℕ) (p : ℕ → ℤ) (s whole : ℕ) → n ≤ 10 → whole < 2 ^ n → IsInside s whole → ((i : ℕ) → i < n → s ≢ 2 ^ i)
+    → p s ≡ sum_of_members n p s → Settles n p s (Independent whole)
 unfolding Settles
 independent_settles n p s whole few l i several v q k f agree =
     part_independent n q s whole (omega arith) k l i f
@@ -181,7 +198,8 @@ entropy_settles n p s value v q k f agree = f ∙ sym v
 -- ---- all facts
 
 -- what a fact among others settles follows
-pub follows_by_item : (n : ℕ) (p : ℕ → ℤ) (facts : List Fact) (s i : ℕ) (fact : Fact) → i < length facts → fact ≡ get_or facts i fact → Settles n p s fact → Follows n p facts s
+pub follows_by_item : (n : ℕ) (p : ℕ → ℤ) (facts : List Fact) (s i : ℕ) (fact : Fact) → i < length facts → fact ≡ get_or facts i fact
+    → Settles n p s fact → Follows n p facts s
 unfolding Settles Follows
 follows_by_item n p facts s i fact h is settles q k all agree = settles q k (subst (IsTrueOf n q) (sym is) (all i fact h)) agree
 
@@ -193,7 +211,8 @@ pub rate_by_item : (facts : List Fact) (rate i : ℕ) (fact : Fact) → i < leng
 unfolding TellsRate TellRate
 rate_by_item facts rate i fact h is tells n p q a b = tells n p q (subst (IsTrueOf n p) (sym is) (a i fact h)) (subst (IsTrueOf n q) (sym is) (b i fact h))
 
-pub facts_determine : (n rates : ℕ) (p : ℕ → ℤ) (facts : List Fact) → All (IsFactOf n rates p) facts → ((s : ℕ) → s < 2 ^ n → Follows n p facts s) → ((r : ℕ) → r < rates → TellRate facts r) → Determine n rates facts p
+pub facts_determine : (n rates : ℕ) (p : ℕ → ℤ) (facts : List Fact) → All (IsFactOf n rates p) facts
+    → ((s : ℕ) → s < 2 ^ n → Follows n p facts s) → ((r : ℕ) → r < rates → TellRate facts r) → Determine n rates facts p
 unfolding Follows TellRate
 facts_determine n rates p facts are sets others = record {
   over = λ i d h. (are i d h).over;

@@ -3,7 +3,7 @@ ghost use Rattle.std.specs.Prelude.{◌≡◌, ◌≢◌, ℕ, ◌+◌, ◌^◌,
 ghost use Rattle.std.specs.Bool.{OnFalse, OnTrue};
 ghost use Rattle.it_space.specs.Rows.{point_of};
 ghost use Rattle.it_space.specs.Sets.{has_member};
-ghost use Rattle.it_space.specs.Spaces.{IsSpace};
+ghost use Rattle.it_space.specs.Spaces.{IsSpace, most_variables};
 ghost use Rattle.it_facts.specs.Points.{Determine, IsFunction, IsFactOver, IsSomeSet, IsTrueOf, sum_of_members};
 ghost use Rattle.it_facts.specs.Settling.{Follows, IsFactOf, Settles, TellRate, TellsRate};
 ghost use Rattle.it_facts.specs.declared.facts.Fact.TheVariants as fact;
@@ -144,7 +144,7 @@ fn is_over(fact: &Fact, space: Space) -> bool
 
 /// Whether `set` is a nonempty set of `n` variables.
 fn is_some_set(set: VarSet, n: u8) -> bool
-    requires { n ≤ 10 }
+    requires { n ≤ most_variables }
     ensures { OnTrue result (IsSomeSet n set) }
 {
     let number = set.number() as u32;
@@ -178,7 +178,7 @@ fn are_facts_of(facts: &[Fact], point: &Point, space: Space) -> bool
 
 /// Whether `set` has the same value without its member `variable`, which is a function of `of`, a part of its other members.
 fn settles_function(point: &Point, n: u8, set: VarSet, variable: u8, of: VarSet) -> bool
-    requires few { n ≤ 10 }
+    requires few { n ≤ most_variables }
     requires below { set < 2 ^ n }
     requires variable { variable < n }
     ensures { OnTrue result (Settles n (point_of point.now) set (fact.Function variable of)) }
@@ -193,7 +193,7 @@ fn settles_function(point: &Point, n: u8, set: VarSet, variable: u8, of: VarSet)
 
 /// Whether `set` has the same value without its member `variable`, which is constant.
 fn settles_constant(point: &Point, n: u8, set: VarSet, variable: u8) -> bool
-    requires few { n ≤ 10 }
+    requires few { n ≤ most_variables }
     requires below { set < 2 ^ n }
     requires variable { variable < n }
     ensures { OnTrue result (Settles n (point_of point.now) set (fact.Constant variable)) }
@@ -204,7 +204,7 @@ fn settles_constant(point: &Point, n: u8, set: VarSet, variable: u8) -> bool
 /// Whether `set` has the same value with `other` in the place of its member `variable`, where each is a function of the other, and
 /// whether the set with `other` comes before it.
 fn settles_equal(point: &Point, n: u8, set: VarSet, variable: u8, other: u8) -> bool
-    requires few { n ≤ 10 }
+    requires few { n ≤ most_variables }
     requires below { set < 2 ^ n }
     requires variable { variable < n }
     requires other { other < n }
@@ -221,7 +221,7 @@ fn settles_equal(point: &Point, n: u8, set: VarSet, variable: u8, other: u8) -> 
 
 /// Whether `set` is that of one variable, of the first `n`.
 fn is_single(set: VarSet, n: u8) -> bool
-    requires { n ≤ 10 }
+    requires { n ≤ most_variables }
     ensures { OnFalse result ((i : ℕ) → i < n → set ≢ 2 ^ i) }
 {
     for variable in 0..n {
@@ -234,7 +234,7 @@ fn is_single(set: VarSet, n: u8) -> bool
 
 /// Whether `set` isn't that of one variable, lies in the independent set `whole`, and has the sum of its members' values as its value.
 fn settles_independent(point: &Point, n: u8, set: VarSet, whole: VarSet) -> bool
-    requires few { n ≤ 10 }
+    requires few { n ≤ most_variables }
     requires below { whole < 2 ^ n }
     ensures { OnTrue result (Settles n (point_of point.now) set (fact.Independent whole)) }
 {

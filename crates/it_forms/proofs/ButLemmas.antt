@@ -18,7 +18,8 @@ any_append : (f : List ℕ → Bool) (ts us : List (List ℕ)) → list_any f ts
 any_append f [] us e = refl
 any_append f (t ∷ ts) us e = by_test (f t) e (any_append f ts us)
   where
-    by_test : (b : Bool) → (b || list_any f ts) ≡ false → (list_any f ts ≡ false → list_any f (ts ++ us) ≡ list_any f us) → (b || list_any f (ts ++ us)) ≡ list_any f us
+    by_test : (b : Bool) → (b || list_any f ts) ≡ false → (list_any f ts ≡ false → list_any f (ts ++ us) ≡ list_any f us)
+        → (b || list_any f (ts ++ us)) ≡ list_any f us
     by_test true e h = absurd cc
     by_test false e h = h e
 
@@ -32,11 +33,14 @@ same_kind ts k l ls e = refl
 
 same_kinds : (ts : List (List ℕ)) (ks : List Kind) (l : Letter) (ls : List Letter) → NoneStands ts (l ∷ ls) → is_among (map (without ts) ks) l ≡ is_among ks l
 same_kinds ts [] l ls e = refl
-same_kinds ts (k ∷ ks) l ls e = ap (λ (b : Bool). b || is_among (map (without ts) ks) l) (same_kind ts k l ls e) ∙ ap (λ (b : Bool). is_of k l || b) (same_kinds ts ks l ls e)
+same_kinds ts (k ∷ ks) l ls e = ap (λ (b : Bool). b || is_among (map (without ts) ks) l) (same_kind ts k l ls e)
+    ∙ ap (λ (b : Bool). is_of k l || b) (same_kinds ts ks l ls e)
 
-same_terminal : {A B : Type 0} (ts : List (List ℕ)) (t : Terminal A) (ls : List Letter) (g : A → Reader B) (other same : Reads B) → NoneStands ts ls → other ≡ same → if_taken (terminal_but ts t) ls g other ≡ if_taken t ls g same
+same_terminal : {A B : Type 0} (ts : List (List ℕ)) (t : Terminal A) (ls : List Letter) (g : A → Reader B) (other same : Reads B)
+    → NoneStands ts ls → other ≡ same → if_taken (terminal_but ts t) ls g other ≡ if_taken t ls g same
 same_terminal ts t [] g other same h e = e
-same_terminal ts t (l ∷ ls) g other same h e = ap (λ (b : Bool). cond b (if_unflagged (t.says l) l ls (λ a. g a ls)) other) (same_kinds ts t.kinds l ls h) ∙ ap (λ (r : Reads _). cond (is_among t.kinds l) (if_unflagged (t.says l) l ls (λ a. g a ls)) r) e
+same_terminal ts t (l ∷ ls) g other same h e = ap (λ (b : Bool). cond b (if_unflagged (t.says l) l ls (λ a. g a ls)) other)
+    (same_kinds ts t.kinds l ls h) ∙ ap (λ (r : Reads _). cond (is_among t.kinds l) (if_unflagged (t.says l) l ls (λ a. g a ls)) r) e
 
 pub read_but : {A : Type 0} (ts : List (List ℕ)) (f : Form A) (ls : List Letter) → NoneStands ts ls → read (but ts f) ls ≡ read f ls
 unfolding but read
@@ -55,7 +59,8 @@ no_word t w ls e = by_test (bytes_eq w t) e
     by_test true e = absurd cc
     by_test false e = refl
 
-pub none_stands : (t u v : List ℕ) (ls : List Letter) → after (word t) ls ≡ None → after (word u) ls ≡ None → after (word v) ls ≡ None → NoneStands (t ∷ u ∷ v ∷ []) ls
+pub none_stands : (t u v : List ℕ) (ls : List Letter) → after (word t) ls ≡ None → after (word u) ls ≡ None → after (word v) ls ≡ None
+    → NoneStands (t ∷ u ∷ v ∷ []) ls
 none_stands t u v (Word w ∷ ls) a b c = rw (no_word t w ls a, no_word u w ls b, no_word v w ls c) refl
 none_stands t u v [] a b c = tt
 none_stands t u v (Number n ∷ ls) a b c = tt

@@ -55,7 +55,8 @@ any_before : (f : List ℕ → Bool) (ts us : List (List ℕ)) → not (list_any
 any_before f [] us e = e
 any_before f (t ∷ ts) us e = by_test (f t) e (any_before f ts us)
   where
-    by_test : (b : Bool) → not (b || list_any f (ts ++ us)) ≡ true → (not (list_any f (ts ++ us)) ≡ true → not (list_any f us) ≡ true) → not (list_any f us) ≡ true
+    by_test : (b : Bool) → not (b || list_any f (ts ++ us)) ≡ true → (not (list_any f (ts ++ us)) ≡ true → not (list_any f us) ≡ true)
+        → not (list_any f us) ≡ true
     by_test true e h = absurd cc
     by_test false e h = h e
 
@@ -68,7 +69,8 @@ among_wider_kinds : (ts : List (List ℕ)) (ks : List Kind) (l : Letter) → is_
 among_wider_kinds ts [] l e = e
 among_wider_kinds ts (k ∷ ks) l e = by_tests (is_of (without ts k) l) (is_of k l) e (of_wider_kind ts k l) (among_wider_kinds ts ks l)
   where
-    by_tests : (a b : Bool) → (a || is_among (map (without ts) ks) l) ≡ true → (a ≡ true → b ≡ true) → (is_among (map (without ts) ks) l ≡ true → is_among ks l ≡ true) → (b || is_among ks l) ≡ true
+    by_tests : (a b : Bool) → (a || is_among (map (without ts) ks) l) ≡ true → (a ≡ true → b ≡ true)
+        → (is_among (map (without ts) ks) l ≡ true → is_among ks l ≡ true) → (b || is_among ks l) ≡ true
     by_tests a true e h more = refl
     by_tests true false e h more = let x = h refl in absurd cc
     by_tests false false e h more = more e

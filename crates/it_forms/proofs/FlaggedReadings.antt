@@ -38,7 +38,14 @@ passes_then : (m n k : FlaggedLetters) → Clears m n → Clears n k → Clears 
 passes_then m n k p q = record { prefix = p.prefix ++ q.prefix; is = append_cleaned p.prefix q.prefix m n k p.is q.is }
 
 flags_then : (m n : FlaggedLetters) (f : Fault) → Clears m n → Flags n f → Flags m f
-flags_then m n f p q = record { prefix = p.prefix ++ q.prefix; letter = q.letter; rest = q.rest; is = append_cleaned p.prefix q.prefix m n ((q.letter, Some f.0) ∷ q.rest) p.is q.is; left = q.left }
+flags_then m n f p q = record {
+  prefix = p.prefix ++ q.prefix;
+  letter = q.letter;
+  rest = q.rest;
+  is = append_cleaned p.prefix q.prefix m n
+      ((q.letter, Some f.0) ∷ q.rest) p.is q.is;
+  left = q.left;
+}
 
 -- nothing more to read
 pub answers_ok : {A : Type 0} (x : A) (k : FlaggedLetters) → Answers (Ok (x, letters k)) k x k
@@ -50,7 +57,8 @@ answers_cons l r m x k (inl a) = inl (a.0, passes_cons l m k a.1)
 answers_cons l r m x k (inr b) = inr (b.0, (b.1.0, flags_cons l m b.0 b.1.1))
 
 -- one reading, and then another that may depend on its value
-pub answers_bind : {A B : Type 0} (r : Reads A) (f : (A × List Letter) → Reads B) (m n k : FlaggedLetters) (x : A) (y : B) → Answers r m x n → Answers (f (x, letters n)) n y k → Answers (r >>= f) m y k
+pub answers_bind : {A B : Type 0} (r : Reads A) (f : (A × List Letter) → Reads B) (m n k : FlaggedLetters) (x : A) (y : B) → Answers r m x n
+    → Answers (f (x, letters n)) n y k → Answers (r >>= f) m y k
 answers_bind r f m n k x y (inl a) (inl b) = inl (ap (λ (q : Reads _). q >>= f) a.0 ∙ b.0, passes_then m n k a.1 b.1)
 answers_bind r f m n k x y (inl a) (inr b) = inr (b.0, (ap (λ (q : Reads _). q >>= f) a.0 ∙ b.1.0, flags_then m n b.0 a.1 b.1.1))
 answers_bind r f m n k x y (inr a) b = inr (a.0, (ap (λ (q : Reads _). q >>= f) a.1.0, a.1.1))

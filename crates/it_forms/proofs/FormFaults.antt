@@ -16,7 +16,8 @@ use Rattle.it_forms.proofs.Outlines.{Outline, Has}
 use Rattle.it_forms.proofs.FormFound.{reading_tells}
 use Rattle.it_forms.proofs.FormWritten.{written_is_read}
 
-each_flagged : {A : Type 0} (f : Form A) (o : Outline) → Has f o → (prefix : List Letter) (c : Code) (q : List Letter) → read f (prefix ++ q) ≡ Err (c, q) → (x : Written f) → letters x.1 ≡ prefix ++ q → FlaggedAt x.1 prefix c
+each_flagged : {A : Type 0} (f : Form A) (o : Outline) → Has f o → (prefix : List Letter) (c : Code) (q : List Letter)
+    → read f (prefix ++ q) ≡ Err (c, q) → (x : Written f) → letters x.1 ≡ prefix ++ q → FlaggedAt x.1 prefix c
 each_flagged {A} f o s prefix c q e x h = by_answer (written_is_read f o s x.0 x.1 [] x.2 tt)
   where
     here : read f (letters x.1) ≡ Err (c, q)
@@ -29,10 +30,19 @@ each_flagged {A} f o s prefix c q e x h = by_answer (written_is_read f o s x.0 x
 why_code : {A : Type 0} (f : Form A) (x : Written f) (q : FlaggedLetters) (c : Code) (prefix r : List Letter) → x.1 ≡ without_flags prefix ++ q → Why q c r
     → (own_code r ≡ c) ⊎ ((x : Written f) × (q : List Letter) × ((slice_get q 0 ≡ slice_get r 0) × (letters x.1 ≡ prefix ++ q)))
 why_code f x q c prefix r h (inl o) = inl o
-why_code f x q c prefix r h (inr w) = inr (x, letters q, (ap (λ (ls : List Letter). slice_get ls 0) (ap letters w.2.0) ∙ sym w.2.1, ap letters h ∙ letters_after prefix q))
+why_code f x q c prefix r h (inr w) = inr (
+  x,
+  letters q,
+  (
+    ap (λ (ls : List Letter). slice_get ls 0) (ap letters w.2.0)
+        ∙ sym w.2.1,
+    ap letters h ∙ letters_after prefix q,
+  ),
+)
 
 -- where the reading stops is the first fault
-pub first_fault : {A : Type 0} (f : Form A) (o : Outline) → Has f o → (ls : List Letter) (c : Code) (r : List Letter) → read f ls ≡ Err (c, r) → IsFirstFault f ls c r
+pub first_fault : {A : Type 0} (f : Form A) (o : Outline) → Has f o → (ls : List Letter) (c : Code) (r : List Letter)
+    → read f ls ≡ Err (c, r) → IsFirstFault f ls c r
 first_fault {A} f o s ls c r e =
     let w : Stuck (read f) (Spells f) ls c r = subst (λ (t : Reads A). By (read f) (Spells f) ls t) e (reading_tells f o s ls) in
     let q = w.spells [] in
@@ -54,7 +64,8 @@ append_none (x ∷ xs) = ap (λ (t : List _). x ∷ t) (append_none xs)
 pub read_is_said : {A : Type 0} (f : Form A) (o : Outline) → Has f o → (ls : List Letter) (y : A) → read f ls ≡ Ok (y, []) → Says f ls y
 read_is_said {A} f o s ls y e =
     let w : Went (read f) (Spells f) ls y [] = subst (λ (t : Reads A). By (read f) (Spells f) ls t) e (reading_tells f o s ls) in
-    subst (λ (m : FlaggedLetters). Spells f y m []) (append_none (without_flags w.prefix) ∙ ap without_flags (sym (append_none w.prefix)) ∙ ap without_flags (sym w.parts)) (w.spells [])
+    subst (λ (m : FlaggedLetters). Spells f y m []) (append_none (without_flags w.prefix) ∙ ap without_flags (sym (append_none w.prefix))
+    ∙ ap without_flags (sym w.parts)) (w.spells [])
 
 -- what is written is read
 pub said_is_read : {A : Type 0} (f : Form A) (o : Outline) → Has f o → (ls : List Letter) (y : A) → Says f ls y → read f ls ≡ Ok (y, [])

@@ -29,20 +29,39 @@ pub record Moves {A : Type 0} (f : Form A) (y : A) (m k : FlaggedLetters) : Type
   pub is : m ≡ prefix ++ k
   pub moves : (q : FlaggedLetters) → Spells f y (prefix ++ q) q
 
-terminal_moves : {A : Type 0} (t : Terminal A) (a : A) (m k : FlaggedLetters) → IsTaken t a m k → (x : Letter × Option Code) × ((m ≡ x ∷ k) × ((q : FlaggedLetters) → IsTaken t a (x ∷ q) q))
+terminal_moves : {A : Type 0} (t : Terminal A) (a : A) (m k : FlaggedLetters) → IsTaken t a m k
+    → (x : Letter × Option Code) × ((m ≡ x ∷ k) × ((q : FlaggedLetters) → IsTaken t a (x ∷ q) q))
 terminal_moves t a m k s = ((s.0, (t.says s.0).0), (s.3, λ q. (s.0, s.1, s.2, refl)))
 
-turns_move : {A B : Type 0} (ks : List Kind) (says : A → Letter → Option Code × B) (step : A → B → Form A) → ((a : A) (b : B) (c : A) (m k : FlaggedLetters) → Spells (step a b) c m k → Moves (step a b) c m k)
-    → (n : ℕ) (a y : A) (m k : FlaggedLetters) → AreTurns (λ a. record { kinds = ks; says = says a }) (λ a b. Spells (step a b)) n a y m k → Moves (While ks says step a) y m k
+turns_move : {A B : Type 0} (ks : List Kind) (says : A → Letter → Option Code × B) (step : A → B → Form A)
+    → ((a : A) (b : B) (c : A) (m k : FlaggedLetters) → Spells (step a b) c m k → Moves (step a b) c m k)
+    → (n : ℕ) (a y : A) (m k : FlaggedLetters) → AreTurns (λ a. record { kinds = ks; says = says a }) (λ a b. Spells (step a b)) n a y m k
+    → Moves (While ks says step a) y m k
 unfolding Spells
 turns_move ks says step h zero a y m k s = record { prefix = []; is = s.1; moves = λ q. (zero, (s.0, refl)) }
-turns_move {A} {B} ks says step h (suc n) a y m k s = both (terminal_moves (record { kinds = ks; says = says a }) s.0 m s.1 s.4) (h a s.0 s.2 s.1 s.3 s.5) (turns_move ks says step h n s.2 y s.3 k s.6)
+turns_move {A} {B} ks says step h (suc n) a y m k s = both (terminal_moves (record { kinds = ks; says = says a }) s.0 m s.1 s.4)
+    (h a s.0 s.2 s.1 s.3 s.5) (turns_move ks says step h n s.2 y s.3 k s.6)
   where
-    both : (x : Letter × Option Code) × ((m ≡ x ∷ s.1) × ((q : FlaggedLetters) → IsTaken (record { kinds = ks; says = says a }) s.0 (x ∷ q) q)) → Moves (step a s.0) s.2 s.1 s.3 → Moves (While ks says step s.2) y s.3 k → Moves (While ks says step a) y m k
+    both : (x : Letter × Option Code) × ((m ≡ x ∷ s.1) × ((q : FlaggedLetters)
+        → IsTaken (record { kinds = ks; says = says a }) s.0 (x ∷ q) q)) → Moves (step a s.0) s.2 s.1 s.3
+        → Moves (While ks says step s.2) y s.3 k → Moves (While ks says step a) y m k
     both x b c = record {
       prefix = x.0 ∷ (b.prefix ++ c.prefix);
       is = x.1.0 ∙ ap (λ (t : FlaggedLetters). x.0 ∷ t) (b.is ∙ ap (λ (t : FlaggedLetters). b.prefix ++ t) c.is ∙ sym (append_assoc b.prefix c.prefix k));
-      moves = λ q. let w = c.moves q in (suc w.0, (s.0, (b.prefix ++ c.prefix) ++ q, s.2, c.prefix ++ q, x.1.1 ((b.prefix ++ c.prefix) ++ q), subst (λ (t : FlaggedLetters). Spells (step a s.0) s.2 t (c.prefix ++ q)) (sym (append_assoc b.prefix c.prefix q)) (b.moves (c.prefix ++ q)), w.1));
+      moves = λ q. let w = c.moves q in (
+        suc w.0,
+        (
+          s.0,
+          (b.prefix ++ c.prefix) ++ q,
+          s.2,
+          c.prefix
+              ++ q,
+          x.1.1 ((b.prefix ++ c.prefix) ++ q),
+          subst (λ (t : FlaggedLetters). Spells (step a s.0) s.2 t (c.prefix ++ q))
+              (sym (append_assoc b.prefix c.prefix q)) (b.moves (c.prefix ++ q)),
+          w.1,
+        ),
+      );
     }
 
 pub prefix_moves : {A : Type 0} (f : Form A) (y : A) (m k : FlaggedLetters) → Spells f y m k → Moves f y m k
@@ -55,11 +74,22 @@ prefix_moves (Then f g) y m k s = both (prefix_moves f s.0 m s.1 s.2) (prefix_mo
     both a b = record {
       prefix = a.prefix ++ b.prefix;
       is = a.is ∙ ap (λ (t : FlaggedLetters). a.prefix ++ t) b.is ∙ sym (append_assoc a.prefix b.prefix k);
-      moves = λ q. (s.0, b.prefix ++ q, subst (λ (t : FlaggedLetters). Spells f s.0 t (b.prefix ++ q)) (sym (append_assoc a.prefix b.prefix q)) (a.moves (b.prefix ++ q)), b.moves q);
+      moves = λ q. (
+        s.0,
+        b.prefix ++ q,
+        subst (λ (t : FlaggedLetters). Spells f s.0 t (b.prefix ++ q))
+            (sym (append_assoc a.prefix b.prefix q)) (a.moves (b.prefix ++ q)),
+        b.moves q,
+      );
     }
 prefix_moves (If t g h) y m k (inl s) = both (terminal_moves t s.0 m s.1 s.2) (prefix_moves (g s.0) y s.1 k s.3)
   where
     both : (x : Letter × Option Code) × ((m ≡ x ∷ s.1) × ((q : FlaggedLetters) → IsTaken t s.0 (x ∷ q) q)) → Moves (g s.0) y s.1 k → Moves (If t g h) y m k
-    both x b = record { prefix = x.0 ∷ b.prefix; is = x.1.0 ∙ ap (λ (t : FlaggedLetters). x.0 ∷ t) b.is; moves = λ q. inl (s.0, b.prefix ++ q, x.1.1 (b.prefix ++ q), b.moves q) }
+    both x b = record {
+      prefix = x.0 ∷ b.prefix;
+      is = x.1.0 ∙ ap (λ (t : FlaggedLetters). x.0 ∷ t) b.is;
+      moves = λ q. inl
+          (s.0, b.prefix ++ q, x.1.1 (b.prefix ++ q), b.moves q);
+    }
 prefix_moves (If t g h) y m k (inr s) = let b = prefix_moves h y m k s in record { prefix = b.prefix; is = b.is; moves = λ q. inr (b.moves q) }
 prefix_moves (While ks says step a) y m k s = turns_move ks says step (λ a b c m k t. prefix_moves (step a b) c m k t) s.0 a y m k s.1

@@ -31,4 +31,9 @@ pub clean_is_clean : (ls prefix : List Letter) (c : Code) → FlaggedAt (without
 clean_is_clean [] [] c k = let e = k.2 in absurd cc
 clean_is_clean (l ∷ ls) [] c k = let e : None ≡ Some c = second_is (l, None) (k.0, Some c) (without_flags ls) k.1 k.2 in absurd cc
 clean_is_clean [] (x ∷ prefix) c k = let e = k.2 in absurd cc
-clean_is_clean (l ∷ ls) (x ∷ prefix) c k = clean_is_clean ls prefix c (k.0, k.1, same_tails (l, None) (x, None) (without_flags ls) (without_flags prefix ++ ((k.0, Some c) ∷ k.1)) k.2)
+clean_is_clean (l ∷ ls) (x ∷ prefix) c k = clean_is_clean ls prefix c (
+  k.0,
+  k.1,
+  same_tails (l, None) (x, None) (without_flags ls)
+      (without_flags prefix ++ ((k.0, Some c) ∷ k.1)) k.2,
+)

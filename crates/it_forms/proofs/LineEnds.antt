@@ -30,7 +30,8 @@ no_end_flagged o (While ks says step a) h = h
 -- nor do words that may not stand in front
 line_end_apart : (ts : List (List ℕ)) (ks : List Kind) → is_apart LineEnd (map (without ts) ks) ≡ is_apart LineEnd ks
 line_end_apart ts [] = refl
-line_end_apart ts (k ∷ ks) = ap (λ (b : Bool). b && is_apart LineEnd (map (without ts) ks)) (by_kind k) ∙ ap (λ (b : Bool). are_apart LineEnd k && b) (line_end_apart ts ks)
+line_end_apart ts (k ∷ ks) = ap (λ (b : Bool). b && is_apart LineEnd (map (without ts) ks)) (by_kind k)
+    ∙ ap (λ (b : Bool). are_apart LineEnd k && b) (line_end_apart ts ks)
   where
     by_kind : (k : Kind) → are_apart LineEnd (without ts k) ≡ are_apart LineEnd k
     by_kind (WordBut us) = refl
@@ -38,14 +39,16 @@ line_end_apart ts (k ∷ ks) = ap (λ (b : Bool). b && is_apart LineEnd (map (wi
 
 file_end_apart : (ts : List (List ℕ)) (ks : List Kind) → is_apart FileEnd (map (without ts) ks) ≡ is_apart FileEnd ks
 file_end_apart ts [] = refl
-file_end_apart ts (k ∷ ks) = ap (λ (b : Bool). b && is_apart FileEnd (map (without ts) ks)) (by_kind k) ∙ ap (λ (b : Bool). are_apart FileEnd k && b) (file_end_apart ts ks)
+file_end_apart ts (k ∷ ks) = ap (λ (b : Bool). b && is_apart FileEnd (map (without ts) ks)) (by_kind k)
+    ∙ ap (λ (b : Bool). are_apart FileEnd k && b) (file_end_apart ts ks)
   where
     by_kind : (k : Kind) → are_apart FileEnd (without ts k) ≡ are_apart FileEnd k
     by_kind (WordBut us) = refl
     by_kind k = refl
 
 no_end_without : (ts : List (List ℕ)) (ks : List Kind) → NoEndAmong ks → NoEndAmong (map (without ts) ks)
-no_end_without ts ks h = ap (λ (b : Bool). b && (is_apart FileEnd (map (without ts) ks) && true)) (line_end_apart ts ks) ∙ ap (λ (b : Bool). is_apart LineEnd ks && (b && true)) (file_end_apart ts ks) ∙ h
+no_end_without ts ks h = ap (λ (b : Bool). b && (is_apart FileEnd (map (without ts) ks) && true)) (line_end_apart ts ks)
+    ∙ ap (λ (b : Bool). is_apart LineEnd ks && (b && true)) (file_end_apart ts ks) ∙ h
 
 pub no_end_but : {A : Type 0} (ts : List (List ℕ)) (f : Form A) → HasNoEnd f → HasNoEnd (but ts f)
 unfolding HasNoEnd but

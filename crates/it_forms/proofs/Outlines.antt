@@ -99,15 +99,18 @@ pub has_take : {A : Type 0} (t : Terminal A) (l : Letter) → is_among t.kinds l
 unfolding Has
 has_take t l e = (l, e, fits_same (one_of t.kinds))
 
-pub has_then : {A B : Type 0} (f : Form A) (g : A → Form B) (i j : Outline) → Has f i → ((a : A) → Has (g a) j) → all_apart i.goes j.begins ≡ true → Has (Then f g) (one_then i j)
+pub has_then : {A B : Type 0} (f : Form A) (g : A → Form B) (i j : Outline) → Has f i → ((a : A) → Has (g a) j)
+    → all_apart i.goes j.begins ≡ true → Has (Then f g) (one_then i j)
 unfolding Has
 has_then f g i j h e p = (i, j, h, e, p, fits_same (one_then i j))
 
-pub has_if : {A B : Type 0} (t : Terminal A) (g : A → Form B) (h : Form B) (i j : Outline) → ((a : A) → Has (g a) i) → Has h j → all_apart t.kinds j.begins ≡ true → Has (If t g h) (one_or t.kinds i j)
+pub has_if : {A B : Type 0} (t : Terminal A) (g : A → Form B) (h : Form B) (i j : Outline) → ((a : A) → Has (g a) i) → Has h j
+    → all_apart t.kinds j.begins ≡ true → Has (If t g h) (one_or t.kinds i j)
 unfolding Has
 has_if t g h i j e f p = (i, j, e, f, p, fits_same (one_or t.kinds i j))
 
-pub has_while : {A B : Type 0} (ks : List Kind) (says : A → Letter → Option Code × B) (step : A → B → Form A) (a : A) (i : Outline) → ((c : A) (b : B) → Has (step c b) i) → all_apart i.goes ks ≡ true → Has (While ks says step a) (repeated ks i)
+pub has_while : {A B : Type 0} (ks : List Kind) (says : A → Letter → Option Code × B) (step : A → B → Form A) (a : A) (i : Outline)
+    → ((c : A) (b : B) → Has (step c b) i) → all_apart i.goes ks ≡ true → Has (While ks says step a) (repeated ks i)
 unfolding Has
 has_while ks says step a i e p = (i, e, p, fits_same (repeated ks i))
 

@@ -45,7 +45,8 @@ module _ (n : ℤ) (d g : ℕ) (h : 0 < d) (e : g ≡ gcd (unsigned_abs n) d) wh
       law x p g = ring ring_ℤ (x ∷ p ∷ g ∷ []) (times (v 0) (times (v 1) (v 2))) (times (times (v 0) (v 2)) (v 1)) refl
 
       cross_products : int_quotient n g *ℤ pos d ≡ n *ℤ pos (d / g)
-      cross_products = ap (λ (m : ℕ). int_quotient n g *ℤ pos m) (sym (div-mul_cancel g gcd_law.1)) ∙ law (int_quotient n g) (pos (d / g)) (pos g) ∙ ap (λ z. z *ℤ pos (d / g)) (over_back n g gcd_law.0)
+      cross_products = ap (λ (m : ℕ). int_quotient n g *ℤ pos m) (sym (div-mul_cancel g gcd_law.1))
+          ∙ law (int_quotient n g) (pos (d / g)) (pos g) ∙ ap (λ z. z *ℤ pos (d / g)) (over_back n g gcd_law.0)
 
 -- a least common multiple as it is formed
 pub lcm-formed : (a b left right shared rest : ℕ) → left ≡ a → right ≡ b → shared ≡ gcd left right → rest ≡ right / shared → left * rest ≡ lcm a b

@@ -17,10 +17,13 @@ use native.Mathlib.Nat.{div-mul_cancel}
 use native.Mathlib.Nat.{div-le_self}
 
 -- the parts that the sum over the shared divisor forms are those of the sum
-sum_across : (a c : ℤ) (b d g b' d' g' : ℕ) → 0 < g → 0 < g' → b' * g ≡ b → d' * g ≡ d → (d / g') * g' ≡ d → (t : ℤ) → t ≡ a *ℤ pos d' +ℤ c *ℤ pos b' → int_quotient t g' *ℤ pos g' ≡ t
+sum_across : (a c : ℤ) (b d g b' d' g' : ℕ) → 0 < g → 0 < g' → b' * g ≡ b → d' * g ≡ d → (d / g') * g' ≡ d → (t : ℤ)
+    → t ≡ a *ℤ pos d' +ℤ c *ℤ pos b' → int_quotient t g' *ℤ pos g' ≡ t
     → int_quotient t g' *ℤ pos (b * d) ≡ (a *ℤ pos d +ℤ c *ℤ pos b) *ℤ pos (b' * (d / g'))
-sum_across a c b d g b' d' g' some some' eb ed e t et back = cancel_factor (int_quotient t g' *ℤ pos (b * d)) ((a *ℤ pos d +ℤ c *ℤ pos b) *ℤ pos (b' * (d / g'))) g' some'
-    (factors_swap (int_quotient t g') (pos b) (pos d) (pos g') ∙ ap (λ x. x *ℤ (pos b *ℤ pos d)) (back ∙ et) ∙ ap (λ n. (a *ℤ pos d' +ℤ c *ℤ pos b') *ℤ (pos n *ℤ pos d)) (sym eb)
+sum_across a c b d g b' d' g' some some' eb ed e t et back = cancel_factor (int_quotient t g' *ℤ pos (b * d))
+    ((a *ℤ pos d +ℤ c *ℤ pos b) *ℤ pos (b' * (d / g'))) g' some'
+    (factors_swap (int_quotient t g') (pos b) (pos d) (pos g') ∙ ap (λ x. x *ℤ (pos b *ℤ pos d)) (back ∙ et)
+    ∙ ap (λ n. (a *ℤ pos d' +ℤ c *ℤ pos b') *ℤ (pos n *ℤ pos d)) (sym eb)
     ∙ sums_cross a c (pos b') (pos d') (pos g) (pos d)
     ∙ ap (λ n. (a *ℤ pos n +ℤ c *ℤ (pos b' *ℤ pos g)) *ℤ (pos b' *ℤ pos d)) ed ∙ ap₂ (λ n m. (a *ℤ pos d +ℤ c *ℤ pos n) *ℤ (pos b' *ℤ pos m)) eb (sym e)
     ∙ factors_join (a *ℤ pos d +ℤ c *ℤ pos b) (pos b') (pos (d / g')) (pos g'))
@@ -29,10 +32,13 @@ sum_across a c b d g b' d' g' some some' eb ed e t et back = cancel_factor (int_
     factors_swap n b d g = ring ring_ℤ (n ∷ b ∷ d ∷ g ∷ []) (times (times (v 0) (times (v 1) (v 2))) (v 3)) (times (times (v 0) (v 3)) (times (v 1) (v 2))) refl
 
     sums_cross : (a c b' d' g d : ℤ) → (a *ℤ d' +ℤ c *ℤ b') *ℤ ((b' *ℤ g) *ℤ d) ≡ (a *ℤ (d' *ℤ g) +ℤ c *ℤ (b' *ℤ g)) *ℤ (b' *ℤ d)
-    sums_cross a c b' d' g d = ring ring_ℤ (a ∷ c ∷ b' ∷ d' ∷ g ∷ d ∷ []) (times (plus (times (v 0) (v 3)) (times (v 1) (v 2))) (times (times (v 2) (v 4)) (v 5))) (times (plus (times (v 0) (times (v 3) (v 4))) (times (v 1) (times (v 2) (v 4)))) (times (v 2) (v 5))) refl
+    sums_cross a c b' d' g d = ring ring_ℤ (a ∷ c ∷ b' ∷ d' ∷ g ∷ d ∷ [])
+        (times (plus (times (v 0) (v 3)) (times (v 1) (v 2))) (times (times (v 2) (v 4)) (v 5)))
+        (times (plus (times (v 0) (times (v 3) (v 4))) (times (v 1) (times (v 2) (v 4)))) (times (v 2) (v 5))) refl
 
     factors_join : (s b' e g : ℤ) → s *ℤ (b' *ℤ (e *ℤ g)) ≡ (s *ℤ (b' *ℤ e)) *ℤ g
-    factors_join s b' e g = ring ring_ℤ (s ∷ b' ∷ e ∷ g ∷ []) (times (v 0) (times (v 1) (times (v 2) (v 3)))) (times (times (v 0) (times (v 1) (v 2))) (v 3)) refl
+    factors_join s b' e g = ring ring_ℤ (s ∷ b' ∷ e ∷ g ∷ []) (times (v 0) (times (v 1) (times (v 2) (v 3))))
+        (times (times (v 0) (times (v 1) (v 2))) (v 3)) refl
 
 -- n / e are the parts of the sum of a / b and c / d: above 0, in lowest terms, and equal to it
 pub record AreParts (a : ℤ) (b : ℕ) (c : ℤ) (d : ℕ) (n : ℤ) (e : ℕ) : Type 0 where
@@ -77,7 +83,8 @@ pub record AreSteps (a : ℤ) (b : ℕ) (c : ℤ) (d : ℕ) (left right sum : �
 
 module _ (a : ℤ) (b : ℕ) (c : ℤ) (d : ℕ) (left right sum : ℤ) (rest bottom : ℕ) (s : AreSteps a b c d left right sum rest) where
   -- they lead to the parts of the sum
-  pub steps-parts : bottom ≡ (b / gcd b d) * (d / rest) → 0 < b → 0 < d → IsGcd (unsigned_abs a) b 1 → IsGcd (unsigned_abs c) d 1 → AreParts a b c d (int_quotient sum rest) bottom
+  pub steps-parts : bottom ≡ (b / gcd b d) * (d / rest) → 0 < b → 0 < d → IsGcd (unsigned_abs a) b 1 → IsGcd (unsigned_abs c) d 1
+      → AreParts a b c d (int_quotient sum rest) bottom
   steps-parts e hb hd la lc = rw (e, s.rest_is, s.sum_is, s.left_is, s.right_is) (sum_parts a b c d hb hd la lc)
 
   -- and the sum fits where they do
@@ -90,5 +97,6 @@ module _ (a : ℤ) (b : ℕ) (c : ℤ) (d : ℕ) (left right sum : ℤ) (rest bo
         bottom = rw (← s.left_is, ← s.right_is, ← s.sum_is, ← s.rest_is, ← e) wb;
       }
 
-pub fit-bottom : (a : ℤ) (b : ℕ) (c : ℤ) (d : ℕ) (left right sum : ℤ) (rest : ℕ) → AreSteps a b c d left right sum rest → PartsFit a b c d → IsWithin (pos ((b / gcd b d) * (d / rest)))
+pub fit-bottom : (a : ℤ) (b : ℕ) (c : ℤ) (d : ℕ) (left right sum : ℤ) (rest : ℕ) → AreSteps a b c d left right sum rest → PartsFit a b c d
+    → IsWithin (pos ((b / gcd b d) * (d / rest)))
 fit-bottom a b c d left right sum rest s fit = rw (s.rest_is, s.sum_is, s.left_is, s.right_is) fit.bottom

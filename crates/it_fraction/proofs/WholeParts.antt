@@ -30,7 +30,8 @@ less_by_whole_parts a b c d hb hd h =
 
 -- equal whole parts: the remainders compare the same
 pub compare_by_rests : (a b c d : ℕ) → a / b ≡ c / d → nat_cmp (a * d) (c * b) ≡ nat_cmp ((a % b) * d) ((c % d) * b)
-compare_by_rests a b c d e = ap₂ nat_cmp (law a b d) (law c d b ∙ ap (λ n. (c % d) * b + n) (same_whole_parts e)) ∙ same_shift ((a % b) * d) ((c % d) * b) ((a / b) * b * d)
+compare_by_rests a b c d e = ap₂ nat_cmp (law a b d) (law c d b ∙ ap (λ n. (c % d) * b + n) (same_whole_parts e))
+    ∙ same_shift ((a % b) * d) ((c % d) * b) ((a / b) * b * d)
   where
     law : (x y z : ℕ) → x * z ≡ (x % y) * z + (x / y) * y * z
     law x y z = omega (arith, ap (λ n. n * z) (rest_and_whole x y))

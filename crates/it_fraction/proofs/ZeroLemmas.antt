@@ -58,7 +58,8 @@ no_product : (a b : ℤ) → a ≡ pos 0 → a *ℤ b ≡ pos 0
 no_product a b e = ap (λ z. z *ℤ b) e ∙ zero-*ℤ b
 
 -- the sum of x and y where x is whole
-whole_left_fits : (x y : Rational) → x.den ≡ 1 → IsWithin (x.num *ℤ pos y.den) → IsWithin y.num → IsWithin (x.num *ℤ pos y.den +ℤ y.num) → IsWithin (pos y.den) → SumFits x y
+whole_left_fits : (x y : Rational) → x.den ≡ 1 → IsWithin (x.num *ℤ pos y.den) → IsWithin y.num → IsWithin (x.num *ℤ pos y.den +ℤ y.num)
+    → IsWithin (pos y.den) → SumFits x y
 whole_left_fits x y e wl wr wt wb = subst (λ (d : ℕ). PartsFit x.num d y.num y.den) (sym e) (one_fits x.num y.num y.den wl wr wt wb)
 
 -- sums of whole numbers

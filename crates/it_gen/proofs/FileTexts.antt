@@ -27,10 +27,11 @@ use Rattle.it_syntax.specs.NamesViews.{NamesView}
 use Rattle.it_question.specs.Files.{IsFile}
 use Rattle.it_question.specs.NewNames.{Variable, no_names, with_name, is_taken, new_flag}
 use Rattle.it_question.specs.QuestionForms.{new_name, more_new, new_names, names_line, own_lines, more_own_lines, verb, question, more_questions, file}
-use Rattle.it_question.specs.QuestionLimits.{most_questions, most_variables, most_lines}
+use Rattle.it_question.specs.QuestionLimits.{most_questions, most_lines}
 use Rattle.it_question.specs.Questions.{BodyView, Prove, no_lines}
 use Rattle.it_gen.proofs.SpelledForms.{IsLetter, IsWritten, letter_written, then_written, none_written, one_written}
 use Rattle.it_gen.proofs.PartTexts.{four_variables, relation_text, relation_written}
+use Rattle.it_space.specs.Spaces.{most_variables}
 
 -- ---- the lines of a question
 
@@ -38,9 +39,17 @@ keyword : (w : List ℕ) → IsText kinds.Word w → Writes Anything (w ++ 32 �
 unfolding is_word_byte
 keyword w h = writes_then (writes_word w h) writes_space (λ rest d. refl)
 
-new_written : (v : NamesView) (w : List ℕ) → IsText kinds.Word w → new_flag (is_measure w) (is_taken v w) (most_variables - length v.variables) ≡ None → IsWritten (Stops is_word_byte) w (new_name Variable most_variables v)
+new_written : (v : NamesView) (w : List ℕ) → IsText kinds.Word w
+    → new_flag (is_measure w) (is_taken v w) (most_variables - length v.variables) ≡ None
+    → IsWritten (Stops is_word_byte) w (new_name Variable most_variables v)
 unfolding new_name
-new_written v w h e = letter_written (record { letter = Word w; writes = writes_word w h; among = refl; says = ap (λ (flag : Option Code). (flag, with_name Variable v w)) e })
+new_written v w h e = letter_written (record {
+  letter = Word w;
+  writes = writes_word w h;
+  among = refl;
+  says = ap
+      (λ (flag : Option Code). (flag, with_name Variable v w)) e;
+})
 
 comma : IsLetter Anything (codes ", ") (record { kinds = Punctuation symbols.Comma ∷ []; says = λ l. (None, tt {0}) }) tt
 comma = record { letter = Sym symbols.Comma; writes = writes_then (writes_symbol symbols.Comma) writes_space (λ rest d. tt); among = refl; says = refl }
@@ -88,24 +97,37 @@ record AreRead (n : ℕ) (bytes : List ℕ) (m : FlaggedLetters) : Type 0 where
   cut : AreLines n (split_lines bytes) lines
   same : m ≡ without_flags (letters_of_lines lines)
 
-line_is_filled : (line : List ℕ) (ts : List Token) (tail k : FlaggedLetters) (w : List ℕ) → without_flags (letters_until line ts End) ++ tail ≡ (Word w, None) ∷ k → IsFilled ts None
+line_is_filled : (line : List ℕ) (ts : List Token) (tail k : FlaggedLetters) (w : List ℕ)
+    → without_flags (letters_until line ts End) ++ tail ≡ (Word w, None) ∷ k → IsFilled ts None
 line_is_filled line [] tail k w e = let clash : End ∷ letters tail ≡ Word w ∷ letters k = ap letters e in absurd cc
 line_is_filled line (t ∷ ts) tail k w e = tt
 
-line_read : (n : ℕ) (line more : List ℕ) (w : List ℕ) (k tail : FlaggedLetters) → IsSpelled tail [] line ((Word w, None) ∷ k) → AreRead (n + 1) more tail → AreRead n (line ++ 10 ∷ more) ((Word w, None) ∷ k)
+line_read : (n : ℕ) (line more : List ℕ) (w : List ℕ) (k tail : FlaggedLetters) → IsSpelled tail [] line ((Word w, None) ∷ k)
+    → AreRead (n + 1) more tail → AreRead n (line ++ 10 ∷ more) ((Word w, None) ∷ k)
 line_read n line more w k tail h r =
     let l : LineView = record { number = n; text = line; tokens = h.tokens; misspelling = None } in
     let plain = spelled_plain 0 line h.tokens h.spelled in
     record {
       lines = l ∷ r.lines;
       cut = subst (λ (split : List (List ℕ)). AreLines n split (l ∷ r.lines)) (sym (plain_first line more plain))
-          (inr (l, r.lines, refl, record { number = refl; text = sym (plain_same line plain); spelled = h.spelled }, line_is_filled line h.tokens tail k w h.same, r.cut));
-      same = sym h.same ∙ ap (λ (t : FlaggedLetters). without_flags (letters_until line h.tokens End) ++ t) r.same ∙ sym (cleaned_append (letters_until line h.tokens End) (letters_of_lines r.lines));
+          (inr (
+            l,
+            r.lines,
+            refl,
+            record { number = refl; text = sym (plain_same line plain); spelled = h.spelled },
+            line_is_filled line
+                h.tokens tail k w h.same,
+            r.cut,
+          ));
+      same = sym h.same ∙ ap (λ (t : FlaggedLetters). without_flags (letters_until line h.tokens End) ++ t) r.same
+          ∙ sym (cleaned_append (letters_until line h.tokens End) (letters_of_lines r.lines));
     }
 
 -- a whole line
-line_is_spelled : {C : List ℕ → Type 0} {text : List ℕ} {s : FlaggedLetters → FlaggedLetters} → Writes C text s → C [] → (tail : FlaggedLetters) → IsSpelled tail [] text (s ((End, None) ∷ tail))
-line_is_spelled {C} {text} {s} p c tail = subst (λ (bytes : List ℕ). IsSpelled tail [] bytes (s ((End, None) ∷ tail))) (append-nil text) (p.go tail [] [] ((End, None) ∷ tail) c (end_spelled tail text))
+line_is_spelled : {C : List ℕ → Type 0} {text : List ℕ} {s : FlaggedLetters → FlaggedLetters} → Writes C text s → C []
+    → (tail : FlaggedLetters) → IsSpelled tail [] text (s ((End, None) ∷ tail))
+line_is_spelled {C} {text} {s} p c tail = subst (λ (bytes : List ℕ). IsSpelled tail [] bytes (s ((End, None) ∷ tail))) (append-nil text)
+    (p.go tail [] [] ((End, None) ∷ tail) c (end_spelled tail text))
 
 question_lines_are : (x : ℕ) (more : List ℕ) → question_text x ++ more ≡ vars_line ++ 10 ∷ (prove_line x ++ 10 ∷ more)
 unfolding question_text vars_line prove_line
@@ -134,7 +156,18 @@ question_says x k =
       tt,
       r,
       (Word (codes "prove"), refl, refl, ap (λ (c : Option Code). (Word (codes "prove"), c) ∷ r) (sym four_small)),
-      ((relation_written x).value, k, ((relation_written x).value, (End, None) ∷ k, (relation_written x).says ((End, None) ∷ k), (tt, k, end_says k, (refl, refl))), (refl, refl)),
+      (
+        (relation_written x).value,
+        k,
+        (
+          (relation_written x).value,
+          (End, None)
+              ∷ k,
+          (relation_written x).says ((End, None) ∷ k),
+          (tt, k, end_says k, (refl, refl)),
+        ),
+        (refl, refl),
+      ),
     ) in
     (four_variables, p, names_say p, (four_variables, p, inr (refl, refl), (no_lines, p, own, (Prove (relation_written x).value, k, aim, (refl, refl)))))
 
@@ -159,7 +192,8 @@ file_letters seed (suc count) = (Word (codes "vars"), None) ∷ question_letters
 file_read : (seed count n : ℕ) → AreRead n (generated_file seed count) (file_letters seed count)
 unfolding file_letters
 file_read seed zero n = record { lines = end_line n ∷ []; cut = refl; same = refl }
-file_read seed (suc count) n = question_read n seed (generated_file (state_after 8 seed) count) (file_letters (state_after 8 seed) count) (file_read (state_after 8 seed) count (n + 1 + 1))
+file_read seed (suc count) n = question_read n seed (generated_file (state_after 8 seed) count) (file_letters (state_after 8 seed) count)
+    (file_read (state_after 8 seed) count (n + 1 + 1))
 
 not_many : (i : ℕ) → i < most_questions → limit_flag (most_questions - i) ≡ None
 not_many i h = by_number (most_questions - i) (omega (arith, h))
@@ -168,20 +202,27 @@ not_many i h = by_number (most_questions - i) (omega (arith, h))
     by_number zero h = absurd (omega (arith, h))
     by_number (suc n) h = refl
 
-questions_say : (seed count : ℕ) (qs : List BodyView) → length qs + count ≤ most_questions → Spells (more_questions qs) (qs ++ bodies seed count) (file_letters seed count) ((file_end, None) ∷ [])
+questions_say : (seed count : ℕ) (qs : List BodyView) → length qs + count ≤ most_questions
+    → Spells (more_questions qs) (qs ++ bodies seed count) (file_letters seed count) ((file_end, None) ∷ [])
 unfolding Spells more_questions bodies file_letters
 questions_say seed zero qs few = (zero, (sym (append-nil qs), refl))
 questions_say seed (suc count) qs few =
     let q = body seed in
     let next = file_letters (state_after 8 seed) count in
     let m = question_letters seed next in
-    let w = subst (λ (all : List BodyView). Spells (more_questions (qs ++ q ∷ [])) all next ((file_end, None) ∷ [])) (append_assoc qs (q ∷ []) (bodies (state_after 8 seed) count))
+    let w = subst (λ (all : List BodyView). Spells (more_questions (qs ++ q ∷ [])) all next ((file_end, None) ∷ []))
+    (append_assoc qs (q ∷ []) (bodies (state_after 8 seed) count))
     (questions_say (state_after 8 seed) count (qs ++ q ∷ []) (omega (arith, few, length-append qs (q ∷ [])))) in
     (suc w.0, (tt, m, qs ++ q ∷ [], next, (Word (codes "vars"), refl, refl, ap (λ (c : Option Code). (Word (codes "vars"), c) ∷ m) (sym (not_many (length qs) (omega (arith, few))))), (q, next, question_says seed next, (refl, refl)), w.1))
 
 file_says : (seed count : ℕ) → count ≤ most_questions → Spells file (bodies seed count) (file_letters seed count) []
 unfolding Spells file
-file_says seed count few = (bodies seed count, (file_end, None) ∷ [], questions_say seed count [] (omega (arith, few)), (tt, [], (file_end, refl, refl, refl), (refl, refl)))
+file_says seed count few = (
+  bodies seed count,
+  (file_end, None) ∷ [],
+  questions_say seed count [] (omega (arith, few)),
+  (tt, [], (file_end, refl, refl, refl), (refl, refl)),
+)
 
 question_count : (seed count : ℕ) (lines : List LineView) → length (with_texts lines (bodies seed count)) ≡ count
 unfolding bodies
@@ -197,5 +238,19 @@ pub generated_is_file : GeneratedIsFile
 generated_is_file seed count few =
     let r = file_read seed count 1 in
     let qs = with_texts r.lines (bodies seed count) in
-    let asked : IsFile (generated_file seed count) qs = record { lines = r.lines; cut = r.cut; tree = (bodies seed count, file_letters seed count, file_says seed count few); spelled = r.same; says = refl } in
-    record { questions = qs; asked = asked; counted = question_count seed count r.lines; prove = all_prove seed count r.lines; short = generated_short seed count few }
+    let asked : IsFile (generated_file seed count) qs = record {
+      lines = r.lines;
+      cut = r.cut;
+      tree
+          = (bodies seed count, file_letters seed count, file_says seed count few);
+      spelled = r.same;
+      says = refl;
+    } in
+    record {
+      questions = qs;
+      asked = asked;
+      counted = question_count seed count r.lines;
+      prove = all_prove seed count r.lines;
+      short
+          = generated_short seed count few;
+    }

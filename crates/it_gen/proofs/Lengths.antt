@@ -25,7 +25,8 @@ unfolding commas
 members_fewer i [] set = omega arith
 members_fewer i (w ∷ ws) set = by_test (has_member set i) (members_fewer (i + 1) ws set)
   where
-    by_test : (b : Bool) → commas (members_from (i + 1) ws set) ≤ commas ws → commas ((if b then w ∷ [] else []) ++ members_from (i + 1) ws set) ≤ 1 + length w + commas ws
+    by_test : (b : Bool) → commas (members_from (i + 1) ws set) ≤ commas ws
+        → commas ((if b then w ∷ [] else []) ++ members_from (i + 1) ws set) ≤ 1 + length w + commas ws
     by_test true h = omega (arith, h)
     by_test false h = omega (arith, h)
 
@@ -104,7 +105,13 @@ question_short x =
 
 questions_short : (seed count : ℕ) → length (generated_file seed count) ≤ 139 * count
 questions_short seed zero = omega arith
-questions_short seed (suc count) = omega (arith, length-append (question_text seed) (generated_file (state_after 8 seed) count), question_short seed, questions_short (state_after 8 seed) count)
+questions_short seed (suc count) = omega (
+  arith,
+  length-append (question_text seed)
+      (generated_file (state_after 8 seed) count),
+  question_short seed,
+  questions_short (state_after 8 seed) count,
+)
 
 pub generated_short : (seed count : ℕ) → count ≤ 1000 → length (generated_file seed count) ≤ 1048576
 generated_short seed count few = omega (arith, questions_short seed count, few)

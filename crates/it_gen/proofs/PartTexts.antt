@@ -65,7 +65,8 @@ members_known i (w ∷ ws) set h = by_test (has_member set i) (members_known (i 
     by_test true more = (h.0, more)
     by_test false more = more
 
-name_letter : (w : List ℕ) → IsKnown w → IsLetter (Stops is_word_byte) w (any_word (λ w. (if is_measure w then Some codes.Word else missing_flag codes.Name (env w), unwrap_or (env w) 0))) (unwrap_or (env w) 0)
+name_letter : (w : List ℕ) → IsKnown w → IsLetter (Stops is_word_byte) w
+    (any_word (λ w. (if is_measure w then Some codes.Word else missing_flag codes.Name (env w), unwrap_or (env w) 0))) (unwrap_or (env w) 0)
 name_letter w h = record { letter = Word w; writes = writes_word w h.0; among = refl; says = ap (λ (flag : Option Code). (flag, unwrap_or (env w) 0)) h.1 }
 
 variable_written : (w : List ℕ) → IsKnown w → IsWritten (Stops is_word_byte) w (variable env)
@@ -83,7 +84,8 @@ unfolding more_names
 more_written [] set h = none_written set
 more_written (w ∷ ws) set h =
     let name = variable_written w h.0 in
-    one_written (record { letter = Sym symbols.Comma; writes = writes_symbol symbols.Comma; among = refl; says = refl }) name (more_written ws (bit_or set (2 ^ name.value)) h.1) (after_name ws)
+    one_written (record { letter = Sym symbols.Comma; writes = writes_symbol symbols.Comma; among = refl; says = refl }) name
+    (more_written ws (bit_or set (2 ^ name.value)) h.1) (after_name ws)
 
 names_written : (w : List ℕ) (ws : List (List ℕ)) → AreKnown (w ∷ ws) → IsWritten (Stops is_word_byte) (joined_texts (codes ",") false (w ∷ ws)) (names env)
 unfolding names
@@ -164,7 +166,8 @@ given_or_nothing z c = cond z [] (codes "|" ++ set_text four_names c)
 given_written : (c : ℕ) → c < 16 → (z : Bool) → (c == 0) ≡ z → IsWritten Anything (given_or_nothing z c ++ codes ")") (given_set env)
 unfolding given_set is_word_byte
 given_written c l true e = other_written (last_written (letter_written right_paren))
-given_written c l false e = first_written bar (then_written (set_written c (some_of c l e)) (last_written (letter_written right_paren)) (λ rest d. refl)) (λ rest d. tt)
+given_written c l false e = first_written bar (then_written (set_written c (some_of c l e)) (last_written (letter_written right_paren))
+    (λ rest d. refl)) (λ rest d. tt)
 
 -- a set ends where what is given begins
 set_ends : (z : Bool) (c : ℕ) (rest : List ℕ) → Stops is_word_byte (given_or_nothing z c ++ codes ")" ++ rest)
@@ -175,22 +178,29 @@ set_ends false c rest = refl
 entropy_written : (a c : ℕ) → IsSome a → c < 16 → (z : Bool) → (c == 0) ≡ z → (other : Form Atom) → IsWritten Anything (codes "H(" ++ (set_text four_names a ++ (given_or_nothing z c ++ codes ")"))) (measure_or env other)
 unfolding entropy is_word_byte
 entropy_written a c h l z e other =
-    first_written entropy_letter (then_written (letter_written left_paren) (then_written (set_written a h) (last_written (given_written c l z e)) (λ rest d. set_ends z c rest)) (λ rest d. tt)) (λ rest d. refl)
+    first_written entropy_letter (then_written (letter_written left_paren)
+    (then_written (set_written a h) (last_written (given_written c l z e)) (λ rest d. set_ends z c rest)) (λ rest d. tt))
+    (λ rest d. refl)
 
 mutual_written : (a b c : ℕ) → IsSome a → IsSome b → c < 16 → (z : Bool) → (c == 0) ≡ z → (other : Form Atom)
     → IsWritten Anything (codes "I(" ++ (set_text four_names a ++ (codes ";" ++ (set_text four_names b ++ (given_or_nothing z c ++ codes ")"))))) (measure_or env other)
 unfolding mutual_information is_word_byte
 mutual_written a b c h g l z e other =
     other_written
-    (first_written mutual_letter (then_written (letter_written left_paren) (then_written (set_written a h) (then_written (letter_written semicolon) (then_written (set_written b g) (last_written (given_written c l z e)) (λ rest d. set_ends z c rest)) (λ rest d. tt)) (λ rest d. refl)) (λ rest d. tt)) (λ rest d. refl))
+    (first_written mutual_letter (then_written (letter_written left_paren)
+    (then_written (set_written a h) (then_written (letter_written semicolon)
+    (then_written (set_written b g) (last_written (given_written c l z e)) (λ rest d. set_ends z c rest)) (λ rest d. tt))
+    (λ rest d. refl)) (λ rest d. tt)) (λ rest d. refl))
 
 power_some : (i : ℕ) → i < 4 → IsSome (2 ^ i)
 power_some i h = (pow_mono {i = 0} {j = i} (omega arith), pow_below i 4 h)
 
 elemental_written : (e : Elemental) → IsElemental 4 e → (other : Form Atom) → IsWritten Anything (elemental_text four_names e) (measure_or env other)
 unfolding elemental_text
-elemental_written (Conditional i) h other = let c = 2 ^ 4 - 1 - 2 ^ i in same_text (simp append_assoc) (entropy_written (2 ^ i) c (power_some i h) (omega arith) (c == 0) refl other)
-elemental_written (Mutual i j k) h other = same_text (simp append_assoc) (mutual_written (2 ^ i) (2 ^ j) k (power_some i (omega (arith, h.0, h.1))) (power_some j h.1) h.2 (k == 0) refl other)
+elemental_written (Conditional i) h other = let c = 2 ^ 4 - 1 - 2 ^ i
+    in same_text (simp append_assoc) (entropy_written (2 ^ i) c (power_some i h) (omega arith) (c == 0) refl other)
+elemental_written (Mutual i j k) h other = same_text (simp append_assoc)
+    (mutual_written (2 ^ i) (2 ^ j) k (power_some i (omega (arith, h.0, h.1))) (power_some j h.1) h.2 (k == 0) refl other)
 
 -- ---- terms
 
@@ -214,8 +224,11 @@ digit_writes c h = writes_then (writes_number c (decimal c) (digit_text c h)) wr
 -- a digit, a space and an atom
 counted_written : (m c : ℕ) → c < 5 → (text : List ℕ) → ((other : Form Atom) → IsWritten Anything text (measure_or env other)) → IsWritten Anything (decimal c ++ codes " " ++ text) (flagged None (term m scope false))
 unfolding flagged term atom atom_or_nothing scope_of
-counted_written m zero h text p = first_written (record { letter = Number 0; writes = digit_writes 0 h; among = refl; says = refl }) (other_written (last_written (p (If (rate scope.rates) Give (Give Nothing))))) (λ rest d. tt)
-counted_written m (suc c) h text p = other_written (first_written (record { letter = Number (suc c); writes = digit_writes (suc c) h; among = refl; says = refl }) (other_written (last_written (p (Take (rate scope.rates))))) (λ rest d. tt))
+counted_written m zero h text p = first_written (record { letter = Number 0; writes = digit_writes 0 h; among = refl; says = refl })
+    (other_written (last_written (p (If (rate scope.rates) Give (Give Nothing))))) (λ rest d. tt)
+counted_written m (suc c) h text p = other_written (first_written
+    (record { letter = Number (suc c); writes = digit_writes (suc c) h; among = refl; says = refl })
+    (other_written (last_written (p (Take (rate scope.rates))))) (λ rest d. tt))
 
 -- a drawn number is below its bound
 pub drawn_below : (n m x : ℕ) → 0 < m → draw n m x < m
@@ -229,7 +242,8 @@ term_written : (m x : ℕ) → IsWritten Anything (generated_term_text x) (flagg
 unfolding generated_term_text
 term_written m x =
     let e = elemental_at 4 (draw 2 28 x) in
-    counted_written m (1 + draw 1 4 x) (omega (arith, drawn_below 1 4 x (omega arith))) (elemental_text four_names e) (elemental_written e (is_elemental 4 (draw 2 28 x) (drawn_listed x)))
+    counted_written m (1 + draw 1 4 x) (omega (arith, drawn_below 1 4 x (omega arith))) (elemental_text four_names e)
+    (elemental_written e (is_elemental 4 (draw 2 28 x) (drawn_listed x)))
 
 -- the drawn bound
 bound_written : (m x : ℕ) → IsWritten Anything (bound_text x) (flagged None (term m scope false))
@@ -242,7 +256,13 @@ bound_written m x =
 -- ---- the relation
 
 plus : IsLetter Anything (codes " + ") (record { kinds = signs; says = λ l. (None, is_of (Punctuation Minus) l) }) false
-plus = record { letter = Sym symbols.Plus; writes = writes_then writes_space (writes_then (writes_symbol symbols.Plus) writes_space (λ rest d. tt)) (λ rest d. tt); among = refl; says = refl }
+plus = record {
+  letter = Sym symbols.Plus;
+  writes = writes_then writes_space
+      (writes_then (writes_symbol symbols.Plus) writes_space (λ rest d. tt)) (λ rest d. tt);
+  among = refl;
+  says = refl;
+}
 
 -- three terms with plus signs between them
 three_text : ℕ → List ℕ
@@ -253,7 +273,8 @@ unfolding three_text sum terms more_terms
 three_written x =
     same_text (simp (append_assoc, append-nil))
     (other_written (other_written (then_written (term_written 1 x)
-    (one_written plus (term_written _ (state_after 2 x)) (one_written plus (term_written _ (state_after 4 x)) (none_written _) (λ rest d. d)) (λ rest d. tt)) (λ rest d. tt))))
+    (one_written plus (term_written _ (state_after 2 x)) (one_written plus (term_written _ (state_after 4 x)) (none_written _)
+    (λ rest d. d)) (λ rest d. tt)) (λ rest d. tt))))
 
 three_long : (x : ℕ) → length (three_written x).value ≡ 3
 unfolding three_written same_text other_written then_written one_written none_written
@@ -261,7 +282,15 @@ three_long x = refl
 
 at_least_written : IsWritten Anything (codes " >= ") compare
 unfolding compare
-at_least_written = same_text refl (first_written (record { letter = Sym symbols.AtLeast; writes = writes_then writes_space (writes_then (writes_symbol symbols.AtLeast) writes_space (λ rest d. tt)) (λ rest d. tt); among = refl; says = refl }) (give_written AtLeast) (λ rest d. tt))
+at_least_written = same_text refl (first_written
+    (record {
+      letter = Sym symbols.AtLeast;
+      writes = writes_then writes_space
+          (writes_then (writes_symbol symbols.AtLeast) writes_space (λ rest d. tt)) (λ rest d. tt);
+      among = refl;
+      says = refl;
+    })
+    (give_written AtLeast) (λ rest d. tt))
 
 -- a sum of the drawn bound alone
 one_term_written : (n m x : ℕ) → IsWritten Anything (bound_text x) (sum (suc n) m scope)
@@ -276,5 +305,6 @@ unfolding relation three_text
 relation_written x =
     let m = multiple_from 1 (three_written x).value in
     let right : IsWritten Anything (bound_text (state_after 6 x)) (sum (most_terms - length (three_written x).value) m scope) =
-    subst (λ (n : ℕ). IsWritten Anything (bound_text (state_after 6 x)) (sum (most_terms - n) m scope)) (sym (three_long x)) (one_term_written 252 m (state_after 6 x)) in
+    subst (λ (n : ℕ). IsWritten Anything (bound_text (state_after 6 x)) (sum (most_terms - n) m scope)) (sym (three_long x))
+    (one_term_written 252 m (state_after 6 x)) in
     same_text (simp append_assoc) (then_written (three_written x) (then_written at_least_written (last_written right) (λ rest d. tt)) (λ rest d. tt))

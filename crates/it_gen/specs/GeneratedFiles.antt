@@ -6,6 +6,7 @@ use Rattle.it_question.specs.Questions.{QuestionView, VerbView, Prove, Eliminate
 use Rattle.it_question.specs.Files.{IsFile}
 use Rattle.it_print.specs.Lines.{set_text, elemental_text}
 use Rattle.it_gen.specs.Draws.{state_after, draw}
+use Rattle.it_question.specs.QuestionLimits.{most_file_bytes}
 
 -- the names of the variables
 abbrev pub four_names : List (List ℕ)
@@ -47,7 +48,7 @@ pub record IsProveFile (bytes : List ℕ) (count : ℕ) : Type 0 where
   pub asked : IsFile bytes questions
   pub counted : length questions ≡ count
   pub prove : All IsProve questions
-  pub short : length bytes ≤ 1048576
+  pub short : length bytes ≤ most_file_bytes
 
 -- Up to the greatest number of questions of a file, the generated questions are such a file.
 abbrev pub GeneratedIsFile : Type 0

@@ -7,10 +7,10 @@ use Rattle.it_number.proofs.Integers.{zring, mul_assoc}
 use Rattle.it_number.proofs.IntegerRing.{ring_ℤ}
 use Rattle.it_number.proofs.Ring.{ring, v as var, plus, times}
 use Rattle.it_number.proofs.SignLemmas.{product_least, sum_least, least_by_multiple}
-use Rattle.it_space.specs.declared.problems.Constraint.{Constraint}
-use Rattle.it_space.specs.declared.problems.Kind.{Kind}
-use Rattle.it_space.specs.declared.problems.Kind.TheVariants.{Inequality, Equation}
-use Rattle.it_space.specs.Problems.{Meets, IsMet, AreMet}
+use Rattle.it_problems.specs.declared.problems.Constraint.{Constraint}
+use Rattle.it_problems.specs.declared.problems.Kind.{Kind}
+use Rattle.it_problems.specs.declared.problems.Kind.TheVariants.{Inequality, Equation}
+use Rattle.it_problems.specs.Problems.{Meets, IsMet, AreMet}
 use Rattle.it_space.specs.Rows.{Terms, value, point_of}
 use Rattle.it_space.proofs.EveryLemmas.{all_of, every_of}
 use Rattle.it_polymatroid.specs.Polymatroid.{IsPolymatroid}
@@ -22,10 +22,12 @@ use Rattle.it_hull.proofs.ValueLemmas.{value_linear, value_scaled, value_zero}
 -- ---- spanned points are attained
 
 ring_sum : (g h w r y : ℤ) → g *ℤ (h *ℤ (w *ℤ r +ℤ y)) ≡ h *ℤ (w *ℤ (g *ℤ r)) +ℤ g *ℤ (h *ℤ y)
-ring_sum g h w r y = ring ring_ℤ (g ∷ h ∷ w ∷ r ∷ y ∷ []) (times (var 0) (times (var 1) (plus (times (var 2) (var 3)) (var 4)))) (plus (times (var 1) (times (var 2) (times (var 0) (var 3)))) (times (var 0) (times (var 1) (var 4)))) refl
+ring_sum g h w r y = ring ring_ℤ (g ∷ h ∷ w ∷ r ∷ y ∷ []) (times (var 0) (times (var 1) (plus (times (var 2) (var 3)) (var 4))))
+    (plus (times (var 1) (times (var 2) (times (var 0) (var 3)))) (times (var 0) (times (var 1) (var 4)))) refl
 
 -- f x is w r and y, p is g r and q is h y: then g h f x is h w p and g q
-sum_of_points : (f w g h : ℕ) (x r y p q : ℤ) → pos f *ℤ x ≡ pos w *ℤ r +ℤ y → p ≡ pos g *ℤ r → q ≡ pos h *ℤ y → pos (h * w) *ℤ p +ℤ (pos g *ℤ q +ℤ pos 0) ≡ pos (g * (h * f)) *ℤ x
+sum_of_points : (f w g h : ℕ) (x r y p q : ℤ) → pos f *ℤ x ≡ pos w *ℤ r +ℤ y → p ≡ pos g *ℤ r → q ≡ pos h *ℤ y
+    → pos (h * w) *ℤ p +ℤ (pos g *ℤ q +ℤ pos 0) ≡ pos (g * (h * f)) *ℤ x
 sum_of_points f w g h x r y p q a b c =
     let weights : pos (h * w) *ℤ p ≡ pos h *ℤ (pos w *ℤ (pos g *ℤ r)) = mul_assoc (pos h) (pos w) p ∙ ap (λ z. pos h *ℤ (pos w *ℤ z)) b in
     let factors : pos (g * (h * f)) *ℤ x ≡ pos g *ℤ (pos h *ℤ (pos w *ℤ r +ℤ y)) =
@@ -34,9 +36,17 @@ sum_of_points f w g h x r y p q a b c =
     let sum = ring_sum (pos g) (pos h) (pos w) r y in
     omega (arith, ints, weights, factors, rest, sum)
 
-spanned_attained : (Holds : (ℕ → ℤ) → Type 0) (kept : List ℕ) (rays : List (List ℤ)) (x : ℕ → ℤ) → IsCone Holds → Every (λ ray. IsAttained kept Holds (point_of ray)) rays
+spanned_attained : (Holds : (ℕ → ℤ) → Type 0) (kept : List ℕ) (rays : List (List ℤ)) (x : ℕ → ℤ) → IsCone Holds
+    → Every (λ ray. IsAttained kept Holds (point_of ray)) rays
     → IsSpanned kept rays x → IsAttained kept Holds x
-spanned_attained Holds kept [] x cone held s = record { factor = 1; some = omega arith; point = λ c. pos 0; same = λ c m. let z = s c m in omega (arith, ints, z); holds = cone.zero }
+spanned_attained Holds kept [] x cone held s = record {
+  factor = 1;
+  some = omega arith;
+  point = λ c. pos 0;
+  same = λ c m. let z = s c m
+      in omega (arith, ints, z);
+  holds = cone.zero;
+}
 spanned_attained Holds kept (ray ∷ rays) x cone held (f, w, y, some, sum, s) =
     let r = held.0 in
     let a = spanned_attained Holds kept rays y cone held.1 s in record {
@@ -53,7 +63,8 @@ attained_holds : (Holds : (ℕ → ℤ) → Type 0) (kept : List ℕ) (rows : Li
     → Every (λ row. (p : ℕ → ℤ) → Holds p → pos 0 ≤ℤ value row p) rows → IsAttained kept Holds x → Every (λ row. pos 0 ≤ℤ value row x) rows
 attained_holds Holds kept [] x o h a = tt
 attained_holds Holds kept (row ∷ rows) x o h a = (
-  least_by_multiple (pos a.factor) (value row x) (let s = a.some in omega (arith, ints, s)) (subst (λ (z : ℤ). pos 0 ≤ℤ z) (value_scaled kept (pos a.factor) row a.point x o.0 a.same) (h.0 a.point a.holds)),
+  least_by_multiple (pos a.factor) (value row x) (let s = a.some in omega (arith, ints, s))
+      (subst (λ (z : ℤ). pos 0 ≤ℤ z) (value_scaled kept (pos a.factor) row a.point x o.0 a.same) (h.0 a.point a.holds)),
   attained_holds Holds kept rows x o.1 h.1 a,
 )
 
@@ -78,7 +89,8 @@ module _ (k : ℕ) (p q : ℕ → ℤ) where
   are_met_more : (cs : List Constraint) → AreMet p cs → AreMet q cs → AreMet sum cs
   are_met_more [] a b = All-nil (IsMet sum)
   are_met_more (c ∷ cs) a b = All-cons (IsMet sum) c cs
-      (meets_more c.kind k (value c.row p) (value c.row q) (value c.row sum) (value_linear (pos k) c.row p q) (All-head (IsMet p) c cs a) (All-head (IsMet q) c cs b))
+      (meets_more c.kind k (value c.row p) (value c.row q) (value c.row sum) (value_linear (pos k) c.row p q) (All-head (IsMet p) c cs a)
+      (All-head (IsMet q) c cs b))
       (are_met_more cs (All-tail (IsMet p) c cs a) (All-tail (IsMet q) c cs b))
 
   in_order : (x y u v : ℤ) → x ≤ℤ y → u ≤ℤ v → (pos k *ℤ x +ℤ u) ≤ℤ (pos k *ℤ y +ℤ v)
@@ -92,7 +104,8 @@ module _ (k : ℕ) (p q : ℕ → ℤ) where
     empty = let x = a.empty in let y = b.empty in let m : pos k *ℤ p 0 ≡ pos k *ℤ pos 0 = ap (λ v. pos k *ℤ v) x in omega (arith, zring, m, y);
     rises = λ s t l i. in_order (p s) (p t) (q s) (q t) (a.rises s t l i) (b.rises s t l i);
     submodular = λ s t l m.
-        let h = in_order (p (bit_or s t) +ℤ p (bit_and s t)) (p s +ℤ p t) (q (bit_or s t) +ℤ q (bit_and s t)) (q s +ℤ q t) (a.submodular s t l m) (b.submodular s t l m) in
+        let h = in_order (p (bit_or s t) +ℤ p (bit_and s t)) (p s +ℤ p t) (q (bit_or s t) +ℤ q (bit_and s t)) (q s +ℤ q t)
+        (a.submodular s t l m) (b.submodular s t l m) in
         let u : pos k *ℤ (p (bit_or s t) +ℤ p (bit_and s t)) ≡ pos k *ℤ p (bit_or s t) +ℤ pos k *ℤ p (bit_and s t) = omega (arith, zring) in
         let v : pos k *ℤ (p s +ℤ p t) ≡ pos k *ℤ p s +ℤ pos k *ℤ p t = omega (arith, zring) in
         omega (arith, ints, h, u, v);
@@ -108,7 +121,8 @@ problems_are_cones q = record {
 
 pub hull_is_projection : HullIsProjection
 hull_is_projection q kept rows rays hull valid held x = (
-  λ a. spanned_attained (MeetsProblem q) kept rays x (problems_are_cones q) (every_of (λ (ray : List ℤ). IsAttained kept (MeetsProblem q) (point_of ray)) rays held) ((hull.exact x).0 a),
+  λ a. spanned_attained (MeetsProblem q) kept rays x (problems_are_cones q)
+      (every_of (λ (ray : List ℤ). IsAttained kept (MeetsProblem q) (point_of ray)) rays held) ((hull.exact x).0 a),
   λ a. all_of (λ (row : Terms). pos 0 ≤ℤ value row x) rows (attained_holds (MeetsProblem q) kept rows x (every_of (UsesOnly kept) rows hull.over)
       (every_of (λ (row : Terms). (p : ℕ → ℤ) → MeetsProblem q p → pos 0 ≤ℤ value row p) rows valid) a),
 )

@@ -14,7 +14,8 @@ use Rattle.it_hull.specs.Places.{own_coordinate}
 
 -- ---- as a loop builds them
 
-first_rate : (s : Space) (gone : List ℕ) (rate count : ℕ) → map (λ r. 2 ^ s.variables + r) (rates_left gone rate (suc count)) ≡ own_coordinate s gone rate ++ map (λ r. 2 ^ s.variables + r) (rates_left gone (rate + 1) count)
+first_rate : (s : Space) (gone : List ℕ) (rate count : ℕ) → map (λ r. 2 ^ s.variables + r) (rates_left gone rate (suc count))
+    ≡ own_coordinate s gone rate ++ map (λ r. 2 ^ s.variables + r) (rates_left gone (rate + 1) count)
 first_rate s gone rate count = by_test (list_any (λ r. nat_eq r rate) gone)
   where
     by_test : (b : Bool) → map (λ r. 2 ^ s.variables + r) (if b then rates_left gone (rate + 1) count else rate ∷ rates_left gone (rate + 1) count)
@@ -22,16 +23,20 @@ first_rate s gone rate count = by_test (list_any (λ r. nat_eq r rate) gone)
     by_test true = refl
     by_test false = refl
 
-pub rate_more : (s : Space) (gone : List ℕ) (i n : ℕ) (xs ys all : List ℕ) → i < n → ys ≡ xs ++ own_coordinate s gone i → xs ++ map (λ r. 2 ^ s.variables + r) (rates_left gone i (n - i)) ≡ all
+pub rate_more : (s : Space) (gone : List ℕ) (i n : ℕ) (xs ys all : List ℕ) → i < n → ys ≡ xs ++ own_coordinate s gone i
+    → xs ++ map (λ r. 2 ^ s.variables + r) (rates_left gone i (n - i)) ≡ all
     → ys ++ map (λ r. 2 ^ s.variables + r) (rates_left gone (i + 1) (n - (i + 1))) ≡ all
 rate_more s gone i n xs ys all l pushed e =
     let left : n - i ≡ suc (n - (i + 1)) = omega arith in
     ap (λ (zs : List ℕ). zs ++ map (λ r. 2 ^ s.variables + r) (rates_left gone (i + 1) (n - (i + 1)))) pushed
     ∙ append_assoc xs (own_coordinate s gone i) (map (λ r. 2 ^ s.variables + r) (rates_left gone (i + 1) (n - (i + 1))))
-    ∙ ap (λ (zs : List ℕ). xs ++ zs) (sym (first_rate s gone i (n - (i + 1)))) ∙ ap (λ k. xs ++ map (λ r. 2 ^ s.variables + r) (rates_left gone i k)) (sym left) ∙ e
+    ∙ ap (λ (zs : List ℕ). xs ++ zs) (sym (first_rate s gone i (n - (i + 1))))
+    ∙ ap (λ k. xs ++ map (λ r. 2 ^ s.variables + r) (rates_left gone i k)) (sym left) ∙ e
 
-pub rates_done : (s : Space) (gone : List ℕ) (i n : ℕ) (xs all : List ℕ) → n ≤ i → xs ++ map (λ r. 2 ^ s.variables + r) (rates_left gone i (n - i)) ≡ all → xs ≡ all
-rates_done s gone i n xs all l e = let none : n - i ≡ 0 = omega arith in sym (append-nil xs) ∙ ap (λ k. xs ++ map (λ r. 2 ^ s.variables + r) (rates_left gone i k)) (sym none) ∙ e
+pub rates_done : (s : Space) (gone : List ℕ) (i n : ℕ) (xs all : List ℕ) → n ≤ i
+    → xs ++ map (λ r. 2 ^ s.variables + r) (rates_left gone i (n - i)) ≡ all → xs ≡ all
+rates_done s gone i n xs all l e = let none : n - i ≡ 0 = omega arith in sym (append-nil xs)
+    ∙ ap (λ k. xs ++ map (λ r. 2 ^ s.variables + r) (rates_left gone i k)) (sym none) ∙ e
 
 -- ---- where they are
 
@@ -67,7 +72,8 @@ kept_within s gone = every-map (λ c. (2 ^ s.variables ≤ c) × (c ≤ size_of 
     (λ r l. (omega arith, omega (arith, l.below, pow_pos s.variables))) (are_left gone 0 s.rates))
 
 gone_away : (s : Space) (gone : List ℕ) (rate : ℕ) → Contains gone rate → ¬ (Contains (kept_coordinates s gone) (2 ^ s.variables + rate))
-gone_away s gone rate g m = by_kept (member_mapped (λ r. 2 ^ s.variables + r) (2 ^ s.variables + rate) (rates_left gone 0 s.rates) (member_of (kept_coordinates s gone) (2 ^ s.variables + rate) m))
+gone_away s gone rate g m = by_kept (member_mapped (λ r. 2 ^ s.variables + r) (2 ^ s.variables + rate) (rates_left gone 0 s.rates)
+    (member_of (kept_coordinates s gone) (2 ^ s.variables + rate) m))
   where
     by_kept : (x : ℕ) × Member x (rates_left gone 0 s.rates) × (2 ^ s.variables + rate ≡ 2 ^ s.variables + x) → ⊥
     by_kept (x, k, e) =
@@ -77,7 +83,12 @@ gone_away s gone rate g m = by_kept (member_mapped (λ r. 2 ^ s.variables + r) (
 
 -- the first rate that goes isn't among them, and each is a rate's
 pub first_away : (s : Space) (gone : List ℕ) → 1 ≤ length gone → ¬ (Contains (kept_coordinates s gone) (2 ^ s.variables + slice_index_or gone 0 0))
-first_away s gone some = gone_away s gone (slice_index_or gone 0 0) (0, omega (arith, some), get_or_default gone 0 (slice_index_or gone 0 0) 0 (omega (arith, some)))
+first_away s gone some = gone_away s gone (slice_index_or gone 0 0) (
+  0,
+  omega (arith, some),
+  get_or_default gone 0
+      (slice_index_or gone 0 0) 0 (omega (arith, some)),
+)
 
 pub kept_rates : (s : Space) (gone : List ℕ) → All (λ c. (2 ^ s.variables ≤ c) × (c ≤ size_of s)) (kept_coordinates s gone)
 kept_rates s gone = all_of (λ (c : ℕ). (2 ^ s.variables ≤ c) × (c ≤ size_of s)) (kept_coordinates s gone) (kept_within s gone)

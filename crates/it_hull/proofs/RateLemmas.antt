@@ -8,10 +8,10 @@ use Rattle.std.proofs.lemmas.Nat.{pow_pos, or_lt, and_le_l}
 use Rattle.std.proofs.lemmas.Bool.{ltb-true, ltb-false}
 use Rattle.std.proofs.lemmas.List.Elements.{All-nil, All-cons, All-head, All-tail}
 use Rattle.std.proofs.Math.IntN.{*ℤ-zero}
-use Rattle.it_space.specs.declared.problems.Constraint.{Constraint}
-use Rattle.it_space.specs.declared.problems.Kind.{Kind}
-use Rattle.it_space.specs.declared.problems.Kind.TheVariants.{Inequality, Equation}
-use Rattle.it_space.specs.Problems.{Meets, IsMet, AreMet}
+use Rattle.it_problems.specs.declared.problems.Constraint.{Constraint}
+use Rattle.it_problems.specs.declared.problems.Kind.{Kind}
+use Rattle.it_problems.specs.declared.problems.Kind.TheVariants.{Inequality, Equation}
+use Rattle.it_problems.specs.Problems.{Meets, IsMet, AreMet}
 use Rattle.it_space.specs.declared.spaces.Space.{Space}
 use Rattle.it_space.specs.Rows.{Terms, IsOver, value}
 use Rattle.it_space.specs.Spaces.{size_of}
@@ -97,7 +97,8 @@ module _ (n : ℕ) (x : ℕ → ℤ) (zero : IsZeroAtSets n x) where
 
   zero_met : (cs : List Constraint) → All (λ c. IsOver (2 ^ n - 1) c.row) cs → AreMet x cs
   zero_met [] u = All-nil (IsMet x)
-  zero_met (c ∷ cs) u = All-cons (IsMet x) c cs (met_at_zero c.kind (value c.row x) (zero_value c.row (All-head (λ (c : Constraint). IsOver (2 ^ n - 1) c.row) c cs u)))
+  zero_met (c ∷ cs) u = All-cons (IsMet x) c cs (met_at_zero c.kind (value c.row x)
+      (zero_value c.row (All-head (λ (c : Constraint). IsOver (2 ^ n - 1) c.row) c cs u)))
       (zero_met cs (All-tail (λ (c : Constraint). IsOver (2 ^ n - 1) c.row) c cs u))
 
 pub rates_meet : RatesMeet
@@ -106,7 +107,8 @@ rates_meet q x sets zero = (zero_polymatroid q.space.variables x zero, zero_met 
 -- ---- the rows of the hull of no rays are of the space
 
 pub first_rows_over : (s : Space) (kept : List ℕ) → All (λ c. (2 ^ s.variables ≤ c) × (c ≤ size_of s)) kept → All (IsOver (size_of s)) (first_rows kept)
-first_rows_over s kept rates = all_of (IsOver (size_of s)) (first_rows kept) (each_over kept (every_of (λ (c : ℕ). (2 ^ s.variables ≤ c) × (c ≤ size_of s)) kept rates))
+first_rows_over s kept rates = all_of (IsOver (size_of s)) (first_rows kept)
+    (each_over kept (every_of (λ (c : ℕ). (2 ^ s.variables ≤ c) × (c ≤ size_of s)) kept rates))
   where
     each_over : (cs : List ℕ) → Every (λ c. (2 ^ s.variables ≤ c) × (c ≤ size_of s)) cs → Every (IsOver (size_of s)) (first_rows cs)
     each_over [] a = tt

@@ -12,7 +12,8 @@ some_product zero b h k = absurd (omega arith)
 some_product (suc a) zero h k = absurd (omega arith)
 
 -- f x is w p and y, and g y is u r and z: then g f x is u r and what is left
-first_apart : (f g w u : ℕ) (x p y r z : ℤ) → pos f *ℤ x ≡ pos w *ℤ p +ℤ y → pos g *ℤ y ≡ pos u *ℤ r +ℤ z → pos (g * f) *ℤ x ≡ pos u *ℤ r +ℤ (pos (g * w) *ℤ p +ℤ z)
+first_apart : (f g w u : ℕ) (x p y r z : ℤ) → pos f *ℤ x ≡ pos w *ℤ p +ℤ y → pos g *ℤ y ≡ pos u *ℤ r +ℤ z
+    → pos (g * f) *ℤ x ≡ pos u *ℤ r +ℤ (pos (g * w) *ℤ p +ℤ z)
 first_apart f g w u x p y r z a b =
     let e : pos g *ℤ (pos f *ℤ x) ≡ pos g *ℤ (pos w *ℤ p +ℤ y) = ap (λ t. pos g *ℤ t) a in
     let m : pos (g * f) *ℤ x ≡ pos g *ℤ (pos f *ℤ x) = mul_assoc (pos g) (pos f) x in
@@ -41,7 +42,8 @@ pub record MoreParts (kept : List ℕ) (rays : List (List ℤ)) (ray : List ℤ)
   pub sum : (c : ℕ) → Contains kept c → pos factor *ℤ x c ≡ pos weight *ℤ point_of ray c +ℤ rest c
   pub spanned : IsSpanned kept rays rest
 
-last_apart : (f g w u : ℕ) (x p y r z : ℤ) → pos f *ℤ x ≡ pos u *ℤ r +ℤ y → pos g *ℤ y ≡ pos w *ℤ p +ℤ z → pos (g * f) *ℤ x ≡ pos w *ℤ p +ℤ (pos (g * u) *ℤ r +ℤ z)
+last_apart : (f g w u : ℕ) (x p y r z : ℤ) → pos f *ℤ x ≡ pos u *ℤ r +ℤ y → pos g *ℤ y ≡ pos w *ℤ p +ℤ z
+    → pos (g * f) *ℤ x ≡ pos w *ℤ p +ℤ (pos (g * u) *ℤ r +ℤ z)
 last_apart f g w u x p y r z a b = first_apart f g u w x r y p z a b
 
 pub spanned_parts : (kept : List ℕ) (rays : List (List ℤ)) (ray : List ℤ) (x : ℕ → ℤ) → IsSpanned kept (rays ++ ray ∷ []) x → MoreParts kept rays ray x

@@ -33,7 +33,8 @@ module _ (kept : List ℕ) (at : ℕ) (away : ¬ (Contains kept at)) (ray : ℕ 
   rows_left [] q y o e = (λ a. tt, λ a. tt)
   rows_left (row ∷ rows) q y o e =
       let one : value (with_multiplier at ray row) q ≡ value row y =
-      (let a = value-with_multiplier at ray row q in let b = value_sum kept (q at) row q ray y o.0 e in let c : q at *ℤ value row ray ≡ value row ray *ℤ q at = omega (arith, zring) in omega (arith, ints, a, b, c)) in
+      (let a = value-with_multiplier at ray row q in let b = value_sum kept (q at) row q ray y o.0 e in let c : q at *ℤ value row ray
+      ≡ value row ray *ℤ q at = omega (arith, zring) in omega (arith, ints, a, b, c)) in
       let more = rows_left rows q y o.1 e in (
         λ a. (subst (λ (z : ℤ). pos 0 ≤ℤ z) one a.0, more.0 a.1),
         λ a. (subst (λ (z : ℤ). pos 0 ≤ℤ z) (sym one) a.0, more.1 a.1),
@@ -58,7 +59,8 @@ module _ (kept : List ℕ) (at : ℕ) (away : ¬ (Contains kept at)) (ray : ℕ 
       all = every_of (RowHolds e.point) (rows_with_multiplier at ray rows) e.meets
 
       front : Every (λ row. RowHolds e.point (with_multiplier at ray row)) rows
-      front = every_mapped (RowHolds e.point) (with_multiplier at ray) rows (every_front (RowHolds e.point) (map (with_multiplier at ray) rows) (((at, pos 1) ∷ []) ∷ []) all)
+      front = every_mapped (RowHolds e.point) (with_multiplier at ray) rows
+          (every_front (RowHolds e.point) (map (with_multiplier at ray) rows) (((at, pos 1) ∷ []) ∷ []) all)
 
       last : pos 0 ≤ℤ e.point at
       last = let b = every_back (RowHolds e.point) (map (with_multiplier at ray) rows) (((at, pos 1) ∷ []) ∷ []) all in omega (arith, ints, b.0)
@@ -72,7 +74,8 @@ module _ (kept : List ℕ) (at : ℕ) (away : ¬ (Contains kept at)) (ray : ℕ 
         some = e.some;
         sum = λ c m. omega (arith, ints);
         holds = (rows_left rows e.point (λ c. pos e.factor *ℤ x c -ℤ pos w *ℤ ray c) o
-            (λ c m. let k = e.kept c (other c m) in let i : e.point at *ℤ ray c ≡ pos w *ℤ ray c = ap (λ z. z *ℤ ray c) is in omega (arith, ints, k, i))).0 front;
+            (λ c m. let k = e.kept c (other c m) in let i : e.point at *ℤ ray c ≡ pos w *ℤ ray c = ap (λ z. z *ℤ ray c) is
+            in omega (arith, ints, k, i))).0 front;
       }
 
   extends : (rows : List Terms) (x : ℕ → ℤ) → Every (UsesOnly kept) rows → Left rows x → Extends (at ∷ []) (rows_with_multiplier at ray rows) x
@@ -83,7 +86,8 @@ module _ (kept : List ℕ) (at : ℕ) (away : ¬ (Contains kept at)) (ray : ℕ 
     kept = λ c n. off c (λ e. n (contains_of (at ∷ []) c (inl e)));
     meets = all_of (RowHolds q) (rows_with_multiplier at ray rows) (every-append (RowHolds q) (map (with_multiplier at ray) rows) (((at, pos 1) ∷ []) ∷ [])
         (every-map (RowHolds q) (with_multiplier at ray) rows
-        ((rows_left rows q l.rest o (λ c m. off c (λ e. away (subst (λ (d : ℕ). Contains kept d) e m)) ∙ l.sum c m ∙ ap (λ z. z *ℤ ray c +ℤ l.rest c) (sym on))).1 l.holds))
+        ((rows_left rows q l.rest o (λ c m. off c (λ e. away (subst (λ (d : ℕ). Contains kept d) e m)) ∙ l.sum c m
+        ∙ ap (λ z. z *ℤ ray c +ℤ l.rest c) (sym on))).1 l.holds))
         (omega (arith, ints, on), tt));
   }
     where
@@ -99,7 +103,8 @@ module _ (kept : List ℕ) (at : ℕ) (away : ¬ (Contains kept at)) (ray : ℕ 
 -- ---- the laws
 
 -- rows from which the multiplier of a further ray is eliminated are the hull with this ray
-pub eliminated_is_hull : (kept : List ℕ) (rows next : List Terms) (rays : List (List ℤ)) (ray : List ℤ) (at : ℕ) → ¬ (Contains kept at) → IsHull kept rows rays → All (UsesOnly kept) next
+pub eliminated_is_hull : (kept : List ℕ) (rows next : List Terms) (rays : List (List ℤ)) (ray : List ℤ) (at : ℕ) → ¬ (Contains kept at)
+    → IsHull kept rows rays → All (UsesOnly kept) next
     → ((x : ℕ → ℤ) → IsPointOf next x ↔ Extends (at ∷ []) (rows_with_multiplier at (point_of ray) rows) x) → IsHull kept next (rays ++ ray ∷ [])
 eliminated_is_hull kept rows next rays ray at away h over exact = record {
   over = over;
@@ -107,7 +112,15 @@ eliminated_is_hull kept rows next rays ray at away h over exact = record {
     λ a. let l = leaves kept at away (point_of ray) rows x only ((exact x).0 a) in
         spanned_more kept rays ray x l.factor l.weight l.rest l.some l.sum ((h.exact l.rest).0 (all_of (RowHolds l.rest) rows l.holds)),
     λ s. let p = spanned_parts kept rays ray x s in (exact x).1 (extends kept at away (point_of ray) rows x only
-        (record { factor = p.factor; weight = p.weight; rest = p.rest; some = p.some; sum = p.sum; holds = every_of (RowHolds p.rest) rows ((h.exact p.rest).1 p.spanned) })),
+        (record {
+          factor = p.factor;
+          weight = p.weight;
+          rest = p.rest;
+          some = p.some;
+          sum = p.sum;
+          holds = every_of (RowHolds p.rest) rows
+              ((h.exact p.rest).1 p.spanned);
+        })),
   );
 }
   where

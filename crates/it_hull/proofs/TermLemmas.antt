@@ -22,14 +22,16 @@ before_higher : (at : ℕ) (x : ℤ) (ts : Terms) → ((k : ℕ) (d : ℕ × ℤ
 before_higher at x [] h = sym (append-nil (single_term at x))
 before_higher at x (t ∷ ts) h = by_test (nat_lt at t.0) refl
   where
-    by_test : (b : Bool) → nat_lt at t.0 ≡ b → (if b then single_term at x ++ t ∷ ts else if nat_eq at t.0 then single_term at (x +ℤ t.1) ++ ts else t ∷ with_term at x ts) ≡ single_term at x ++ t ∷ ts
+    by_test : (b : Bool) → nat_lt at t.0 ≡ b → (if b then single_term at x ++ t ∷ ts else if nat_eq at t.0
+        then single_term at (x +ℤ t.1) ++ ts else t ∷ with_term at x ts) ≡ single_term at x ++ t ∷ ts
     by_test true e = refl
     by_test false e = let k : t.0 ≤ at = ltb-false at t.0 e in let f = h 0 t (omega arith) in absurd (omega (arith, k, f))
 
 after_lower : (at : ℕ) (x : ℤ) (t : ℕ × ℤ) (ts : Terms) → t.0 < at → with_term at x (t ∷ ts) ≡ t ∷ with_term at x ts
 after_lower at x t ts l = by_tests (nat_lt at t.0) (nat_eq at t.0) refl refl
   where
-    by_tests : (a b : Bool) → nat_lt at t.0 ≡ a → nat_eq at t.0 ≡ b → (if a then single_term at x ++ t ∷ ts else if b then single_term at (x +ℤ t.1) ++ ts else t ∷ with_term at x ts) ≡ t ∷ with_term at x ts
+    by_tests : (a b : Bool) → nat_lt at t.0 ≡ a → nat_eq at t.0 ≡ b → (if a then single_term at x ++ t ∷ ts else if b
+        then single_term at (x +ℤ t.1) ++ ts else t ∷ with_term at x ts) ≡ t ∷ with_term at x ts
     by_tests true b e f = let k : at < t.0 = ltb-true at t.0 e in absurd (omega (arith, k, l))
     by_tests false true e f = let k : at ≡ t.0 = eqb-true at t.0 f in absurd (omega (arith, k, l))
     by_tests false false e f = refl
@@ -56,8 +58,14 @@ pub none_put : (at : ℕ) (ts : Terms) (i : ℕ) → IsPlaceFor at ts i → ts �
 none_put at ts i p = sym (take-append-drop i ts) ∙ sym (term_at_place at (pos 0) ts i p)
 
 -- the place that a binary search finds
-pub place_found : (at : ℕ) (ts : Terms) (i : ℕ) → i ≤ length ts → IsPartitionPoint (λ (t : ℕ × ℤ). nat_cmp t.0 at ≡ Less) (λ (t : ℕ × ℤ). nat_cmp t.0 at ≡ Greater) ts i → IsPlaceFor at ts i
-place_found at ts i l p = record { within = l; lower = λ k d a b. is_less (get_or ts k d).0 (p.0 k d a b); higher = λ k d a b. is_greater (get_or ts k d).0 (p.1 k d a b) }
+pub place_found : (at : ℕ) (ts : Terms) (i : ℕ) → i ≤ length ts
+    → IsPartitionPoint (λ (t : ℕ × ℤ). nat_cmp t.0 at ≡ Less) (λ (t : ℕ × ℤ). nat_cmp t.0 at ≡ Greater) ts i → IsPlaceFor at ts i
+place_found at ts i l p = record {
+  within = l;
+  lower = λ k d a b. is_less (get_or ts k d).0 (p.0 k d a b);
+  higher = λ k d a b. is_greater
+      (get_or ts k d).0 (p.1 k d a b);
+}
   where
     is_less : (x : ℕ) → nat_cmp x at ≡ Less → x < at
     is_less x e = grind (arith, nat_tests)
@@ -76,11 +84,14 @@ found_is_some at ts i d a z l e = nonzero 0 ts i a l (sym (coefficient_at_term 0
 
 -- ---- what the row is
 
-pub canonical-with_term : (from at : ℕ) (x : ℤ) (ts : Terms) → from ≤ at → IsWithin x → Ascends from ts → coefficient ts at ≡ pos 0 → Ascends from (with_term at x ts)
-canonical-with_term from at x [] l w a z = subst (λ (xs : Terms). Ascends from xs) (sym (before_higher at x [] (λ k d l. absurd (omega arith)))) (ascends-single_term from at x [] l w tt)
+pub canonical-with_term : (from at : ℕ) (x : ℤ) (ts : Terms) → from ≤ at → IsWithin x → Ascends from ts → coefficient ts at ≡ pos 0
+    → Ascends from (with_term at x ts)
+canonical-with_term from at x [] l w a z = subst (λ (xs : Terms). Ascends from xs)
+    (sym (before_higher at x [] (λ k d l. absurd (omega arith)))) (ascends-single_term from at x [] l w tt)
 canonical-with_term from at x (t ∷ ts) l w a z = by_tests (nat_lt at t.0) (nat_eq at t.0) refl refl (canonical-with_term (t.0 + 1) at x ts)
   where
-    by_tests : (b d : Bool) → nat_lt at t.0 ≡ b → nat_eq at t.0 ≡ d → (t.0 + 1 ≤ at → IsWithin x → Ascends (t.0 + 1) ts → coefficient ts at ≡ pos 0 → Ascends (t.0 + 1) (with_term at x ts))
+    by_tests : (b d : Bool) → nat_lt at t.0 ≡ b → nat_eq at t.0 ≡ d → (t.0 + 1 ≤ at → IsWithin x → Ascends (t.0 + 1) ts
+        → coefficient ts at ≡ pos 0 → Ascends (t.0 + 1) (with_term at x ts))
         → Ascends from (if b then single_term at x ++ t ∷ ts else if d then single_term at (x +ℤ t.1) ++ ts else t ∷ with_term at x ts)
     by_tests true d e f ih = let k : at < t.0 = ltb-true at t.0 e in ascends-single_term from at x (t ∷ ts) l w (omega (arith, k), a.1, a.2, a.3)
     by_tests false true e f ih = let k : at ≡ t.0 = eqb-true at t.0 f in absurd (a.1 (sym (head_is from t ts a) ∙ ap (coefficient (t ∷ ts)) (sym k) ∙ z))
@@ -89,7 +100,8 @@ canonical-with_term from at x (t ∷ ts) l w a z = by_tests (nat_lt at t.0) (nat
         let n : at ≢ t.0 = eqb-false at t.0 f in (a.0, a.1, a.2, ih (omega (arith, k, n)) w a.3 (sym (other_is t ts at (λ m. n (sym m))) ∙ z))
 
 pub coefficient-with_term : (at : ℕ) (x : ℤ) (ts : Terms) (c : ℕ) → coefficient (with_term at x ts) c ≡ x *ℤ one_at c at +ℤ coefficient ts c
-coefficient-with_term at x ts c = sym (value-one_at (with_term at x ts) c) ∙ value-with_term at x ts (one_at c) ∙ ap (λ z. x *ℤ one_at c at +ℤ z) (value-one_at ts c)
+coefficient-with_term at x ts c = sym (value-one_at (with_term at x ts) c) ∙ value-with_term at x ts (one_at c)
+    ∙ ap (λ z. x *ℤ one_at c at +ℤ z) (value-one_at ts c)
 
 abbrev Within : ℕ → ℕ × ℤ → Type 0
 Within size t = (1 ≤ t.0) × (t.0 ≤ size)
@@ -100,10 +112,13 @@ single_over size at (pos (suc n)) ts some few e = ((some, few), e)
 single_over size at (negsuc n) ts some few e = ((some, few), e)
 
 with_term_over : (size at : ℕ) (x : ℤ) (ts : Terms) → 1 ≤ at → at ≤ size → Every (Within size) ts → Every (Within size) (with_term at x ts)
-with_term_over size at x [] some few e = subst (λ (xs : Terms). Every (Within size) xs) (sym (before_higher at x [] (λ k d l. absurd (omega arith)))) (single_over size at x [] some few tt)
+with_term_over size at x [] some few e = subst (λ (xs : Terms). Every (Within size) xs)
+    (sym (before_higher at x [] (λ k d l. absurd (omega arith)))) (single_over size at x [] some few tt)
 with_term_over size at x (t ∷ ts) some few e = by_tests (nat_lt at t.0) (nat_eq at t.0) (with_term_over size at x ts some few e.1)
   where
-    by_tests : (b d : Bool) → Every (Within size) (with_term at x ts) → Every (Within size) (if b then single_term at x ++ t ∷ ts else if d then single_term at (x +ℤ t.1) ++ ts else t ∷ with_term at x ts)
+    by_tests : (b d : Bool) → Every (Within size) (with_term at x ts)
+        → Every (Within size) (if b then single_term at x ++ t ∷ ts else if d then single_term at (x +ℤ t.1) ++ ts
+        else t ∷ with_term at x ts)
     by_tests true d ih = single_over size at x (t ∷ ts) some few e
     by_tests false true ih = single_over size at (x +ℤ t.1) ts some few e.1
     by_tests false false ih = (e.0, ih)

@@ -113,11 +113,13 @@ pub value_by_kept : (kept : List ℕ) (row : Terms) (p q : ℕ → ℤ) → Uses
 value_by_kept kept row p q only f = value_agrees row p q (λ c. ⊎_elim (λ m. inr (f c m)) (λ n. inl (only c n)) (contains_or kept c))
 
 -- at a sum there
-pub value_sum : (kept : List ℕ) (w : ℤ) (row : Terms) (q r y : ℕ → ℤ) → UsesOnly kept row → ((c : ℕ) → Contains kept c → q c ≡ w *ℤ r c +ℤ y c) → value row q ≡ w *ℤ value row r +ℤ value row y
+pub value_sum : (kept : List ℕ) (w : ℤ) (row : Terms) (q r y : ℕ → ℤ) → UsesOnly kept row
+    → ((c : ℕ) → Contains kept c → q c ≡ w *ℤ r c +ℤ y c) → value row q ≡ w *ℤ value row r +ℤ value row y
 value_sum kept w row q r y only f = value_by_kept kept row q (λ c. w *ℤ r c +ℤ y c) only f ∙ value_linear w row r y
 
 -- and at a multiple
-pub value_scaled : (kept : List ℕ) (k : ℤ) (row : Terms) (q x : ℕ → ℤ) → UsesOnly kept row → ((c : ℕ) → Contains kept c → q c ≡ k *ℤ x c) → value row q ≡ k *ℤ value row x
+pub value_scaled : (kept : List ℕ) (k : ℤ) (row : Terms) (q x : ℕ → ℤ) → UsesOnly kept row → ((c : ℕ) → Contains kept c → q c ≡ k *ℤ x c)
+    → value row q ≡ k *ℤ value row x
 value_scaled kept k row q x only f =
     let sum = value_sum kept k row q x (λ c. pos 0) only (λ c m. omega (arith, ints, f c m)) in
     omega (arith, ints, sum, value_zero row)
@@ -126,11 +128,13 @@ value_scaled kept k row q x only f =
 
 value_on_top : (sum : ℤ) (ts : Terms) (p : ℕ → ℤ) → IsWithin sum → FitsOnTop sum ts p → IsWithin (sum +ℤ value ts p)
 value_on_top sum [] p w f = subst IsWithin (let e : sum ≡ sum +ℤ pos 0 = omega (arith, ints) in e) w
-value_on_top sum (t ∷ ts) p w f = subst IsWithin (let e : (sum +ℤ t.1 *ℤ p t.0) +ℤ value ts p ≡ sum +ℤ (t.1 *ℤ p t.0 +ℤ value ts p) = omega (arith, ints) in e) (value_on_top (sum +ℤ t.1 *ℤ p t.0) ts p f.1 f.2)
+value_on_top sum (t ∷ ts) p w f = subst IsWithin (let e : (sum +ℤ t.1 *ℤ p t.0) +ℤ value ts p
+    ≡ sum +ℤ (t.1 *ℤ p t.0 +ℤ value ts p) = omega (arith, ints) in e) (value_on_top (sum +ℤ t.1 *ℤ p t.0) ts p f.1 f.2)
 
 pub value_within : (ts : Terms) (p : ℕ → ℤ) → ValueFits ts p → IsWithin (value ts p)
 value_within ts p f = subst IsWithin (let e : pos 0 +ℤ value ts p ≡ value ts p = omega (arith, ints) in e) (value_on_top (pos 0) ts p (omega (arith, ints)) f)
 
-pub turned_fits : {W : Type 0} (v x : ℤ) (Fits : Type 0) (r : Result ℤ W) → x ≡ v → Fits → IsWithin v → OkIff r (IsWithin (pos 0 -ℤ x)) (pos 0 -ℤ x) → OkIff r Fits (neg_ℤ v)
+pub turned_fits : {W : Type 0} (v x : ℤ) (Fits : Type 0) (r : Result ℤ W) → x ≡ v → Fits → IsWithin v
+    → OkIff r (IsWithin (pos 0 -ℤ x)) (pos 0 -ℤ x) → OkIff r Fits (neg_ℤ v)
 turned_fits v x Fits (Ok y) is f w k = (f, k.1 ∙ (omega (arith, ints, is)))
 turned_fits v x Fits (Err e) is f w k = λ g. k (omega (arith, ints, is, w))

@@ -1,10 +1,10 @@
 -- The problem in which all variables are constant: where it is met sets are 0, so that only rates count.
 use Rattle.std.specs.Prelude.{ℕ, zero, suc, ◌+◌, ◌^◌, pos, List, [], ◌∷◌}
-use Rattle.it_space.specs.declared.problems.Constraint.{Constraint}
-use Rattle.it_space.specs.declared.problems.Kind.TheVariants.{Equation}
-use Rattle.it_space.specs.declared.problems.Origin.TheVariants.{Given}
+use Rattle.it_problems.specs.declared.problems.Constraint.{Constraint}
+use Rattle.it_problems.specs.declared.problems.Kind.TheVariants.{Equation}
+use Rattle.it_problems.specs.declared.problems.Origin.TheVariants.{Given}
 use Rattle.it_space.specs.declared.spaces.Space.{Space}
-use Rattle.it_space.specs.Problems.{ProblemView}
+use Rattle.it_problems.specs.Problems.{ProblemView}
 
 -- the constraint of the line that says that a variable is constant
 abbrev pub constant_line : ℕ → Constraint

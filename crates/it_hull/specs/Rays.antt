@@ -1,7 +1,7 @@
 -- A hull with a further ray, and the ways in which that fails.
 use Rattle.std.specs.Prelude.{◌≡◌, ◌⊎◌, ℕ, ◌+◌, ◌^◌, ℤ, List, [], ◌∷◌, ◌++◌, All, Contains}
-use Rattle.it_space.specs.declared.problems.System.{System}
-use Rattle.it_space.specs.Problems.{IsSystem}
+use Rattle.it_problems.specs.declared.problems.System.{System}
+use Rattle.it_problems.specs.Problems.{IsSystem}
 use Rattle.it_space.specs.Rows.{Terms, ValueFits, point_of}
 use Rattle.it_eliminate.specs.declared.types.Eliminated.{Eliminated}
 use Rattle.it_eliminate.specs.declared.types.Eliminated.TheVariants as ends

@@ -1,6 +1,6 @@
 -- Laws of hulls.
 use Rattle.std.specs.Prelude.{◌≡◌, ◌↔◌, ℕ, ◌+◌, ◌-◌, ◌^◌, ◌<◌, ◌≤◌, ℤ, pos, ◌+ℤ◌, ◌*ℤ◌, ◌≤ℤ◌, List, [], ◌∷◌, ◌++◌, All, Contains}
-use Rattle.it_space.specs.Problems.{ProblemView, AreMet}
+use Rattle.it_problems.specs.Problems.{ProblemView, AreMet}
 use Rattle.it_space.specs.Rows.{Terms, IsOver, point_of, value}
 use Rattle.it_polymatroid.specs.Polymatroid.{IsPolymatroid}
 use Rattle.it_eliminate.specs.Elimination.{EliminatedView, Region}

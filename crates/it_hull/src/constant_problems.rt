@@ -1,14 +1,15 @@
 //! The problem in which all variables are constant. Under it no closed set has a coordinate, so that runs are over rates alone.
 ghost use Rattle.std.specs.Prelude.{◌≡◌, ◌<◌, IfOk};
-ghost use Rattle.it_space.specs.Spaces.{IsSpace};
+ghost use Rattle.it_space.specs.Spaces.{IsSpace, most_variables};
 ghost use Rattle.it_hull.specs.Constants.{constant_line, constants};
 
-use it_space::{Constraint, Kind, Origin, Problem, Row, Space};
+use it_problems::{Constraint, Kind, Origin, Problem};
+use it_space::{Row, Space};
 use std::alloc::{AllocError, Global};
 
 /// The constraint of the line that says that `variable`, counted from 0, is constant.
 fn constant_line(alloc: Global, variable: u8) -> Result<Constraint, AllocError>
-    requires { variable < 10 }
+    requires { variable < most_variables }
     ensures { IfOk result (λ c. c ≡ constant_line variable) }
 {
     let terms = vec![in alloc; (1u32 << variable, 1)]?;

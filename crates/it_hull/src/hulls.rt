@@ -1,7 +1,7 @@
 //! The hull of rays and a further ray.
 ghost use Rattle.std.specs.Prelude.{◌≡◌, ◌+◌, ◌<◌, ◌^◌, ◌∷◌, [], neg_ℤ, pos, length, All, IfErr, IfOk, OnOk, OkIff};
 ghost use Rattle.it_number.specs.Limit.{IsWithin};
-ghost use Rattle.it_space.specs.Problems.{IsSystem};
+ghost use Rattle.it_problems.specs.Problems.{IsSystem};
 ghost use Rattle.it_space.specs.Rows.{IsOver, ValueFits, coefficient, point_of, value};
 ghost use Rattle.it_space.specs.Spaces.{IsSpace, size_of};
 ghost use Rattle.it_space.specs.declared.faults.RowFault.TheVariants.{Wide as IsTooWide};
@@ -13,7 +13,8 @@ ghost use Rattle.it_hull.specs.Rays.{AddsRay, RayEnds, ValuesFit};
 use crate::terms::with_term;
 use it_eliminate::{Eliminated, step};
 use it_fraction::{Wide, difference};
-use it_space::{Point, Row, RowFault, Space, System, value};
+use it_problems::System;
+use it_space::{Point, Row, RowFault, Space, value};
 use std::alloc::{AllocError, Global};
 
 /// The coordinate of `rate`.

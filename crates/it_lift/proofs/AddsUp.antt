@@ -34,10 +34,12 @@ weighted_linear size g l (w ∷ ws) a =
 abbrev left_over : CertificateView → Form → Generators → Form
 left_over w target g h = w.scale *ℤ target h -ℤ combination w.weights (λ i. g.form i h)
 
-left_over_linear : (size : ℕ) (target : Form) (g : Generators) (w : CertificateView) → IsLinear size target → ((i : ℕ) → i < g.count → IsLinear size (g.form i)) → All (λ p. p.0 < g.count) w.weights
+left_over_linear : (size : ℕ) (target : Form) (g : Generators) (w : CertificateView) → IsLinear size target
+    → ((i : ℕ) → i < g.count → IsLinear size (g.form i)) → All (λ p. p.0 < g.count) w.weights
     → (h : ℕ → ℤ) → h 0 ≡ pos 0 → left_over w target g h ≡ dot size (excess w target g) h
 left_over_linear size target g w l m a h z =
-    (Rattle.it_polymatroid.proofs.Forms.linear-sub size (λ h. w.scale *ℤ target h) (λ h. combination w.weights (λ i. g.form i h)) (linear-scale size w.scale target l) (weighted_linear size g m w.weights a)).sum h z
+    (Rattle.it_polymatroid.proofs.Forms.linear-sub size (λ h. w.scale *ℤ target h) (λ h. combination w.weights (λ i. g.form i h))
+    (linear-scale size w.scale target l) (weighted_linear size g m w.weights a)).sum h z
 
 -- a sum of products with differences
 dot-less : (n : ℕ) (f p q : ℕ → ℤ) → dot n f (λ c. p c -ℤ q c) ≡ dot n f p -ℤ dot n f q
@@ -69,7 +71,8 @@ moves-value n ds h v e r w (suc m) l =
     ap (λ ss. combination (flat_map (λ s. moves_at n ds s (e s)) ss) v) (span-last 0 m ∙ ap (λ k. span 0 m ++ k ∷ []) z)
     ∙ ap (λ xs. combination xs v) (flat_map-append (λ s. moves_at n ds s (e s)) (span 0 m) (m ∷ []))
     ∙ weighted-append (flat_map (λ s. moves_at n ds s (e s)) (span 0 m)) (last ++ []) v
-    ∙ ap₂ (λ x y. x +ℤ y) (moves-value n ds h v e r w m (omega arith)) (weighted-append last [] v ∙ ap (λ x. x +ℤ pos 0) (at-value n ds h v m (e m) r w (omega arith)))
+    ∙ ap₂ (λ x y. x +ℤ y) (moves-value n ds h v e r w m (omega arith)) (weighted-append last [] v
+    ∙ ap (λ x. x +ℤ pos 0) (at-value n ds h v m (e m) r w (omega arith)))
     ∙ sum_commutes (dot m e (λ s. h s -ℤ h (closure n ds s))) (e m *ℤ (h m -ℤ h (closure n ds m)))
   where
     sum_commutes : (x y : ℤ) → x +ℤ (y +ℤ pos 0) ≡ y +ℤ x
@@ -117,7 +120,8 @@ sums_even_out n ds e h z (suc m) l = by_test (nat_eq (closure n ds (suc m)) (clo
     null o w s T x y k t ih e = rw e (omega (arith, zring, ih))
 
     by_test : (b : Bool) → nat_eq (closure n ds (suc m)) (closure n ds 0) ≡ b → place_sum +ℤ S *ℤ K ≡ closure_sum +ℤ sum_over e (nulls n ds m) *ℤ K
-        → (e (suc m) *ℤ (h (suc m) -ℤ h (place n ds (suc m))) +ℤ place_sum) +ℤ S *ℤ K ≡ (e (suc m) *ℤ (h (suc m) -ℤ h (closure n ds (suc m))) +ℤ closure_sum) +ℤ sum_over e (nulls n ds (suc m)) *ℤ K
+        → (e (suc m) *ℤ (h (suc m) -ℤ h (place n ds (suc m))) +ℤ place_sum) +ℤ S *ℤ K
+        ≡ (e (suc m) *ℤ (h (suc m) -ℤ h (closure n ds (suc m))) +ℤ closure_sum) +ℤ sum_over e (nulls n ds (suc m)) *ℤ K
     by_test true f ih =
         let c : closure n ds (suc m) ≡ closure n ds 0 = Rattle.std.proofs.lemmas.Bool.eqb-true (closure n ds (suc m)) (closure n ds 0) f in
         let sums : sum_over e (nulls n ds (suc m)) ≡ sum_over e (nulls n ds m) +ℤ e (suc m) =
@@ -132,7 +136,8 @@ sums_even_out n ds e h z (suc m) l = by_test (nat_eq (closure n ds (suc m)) (clo
         ap (sum_over e) nulls_with_next ∙ sum_over-append e (nulls n ds m) (filter (λ s. nat_eq (closure n ds s) (closure n ds 0)) (suc m ∷ []))
         ∙ ap (λ b. sum_over e (nulls n ds m) +ℤ sum_over e (cond b (suc m ∷ []) [])) f ∙ +ℤ_idr (sum_over e (nulls n ds m)) in
         ap (λ y. (e (suc m) *ℤ (h (suc m) -ℤ h y) +ℤ place_sum) +ℤ S *ℤ K) (place-set n ds (suc m) (omega arith) c)
-        ∙ same_terms place_sum closure_sum S (sum_over e (nulls n ds m)) (e (suc m)) (h (suc m)) (h (closure n ds (suc m))) K (sum_over e (nulls n ds (suc m))) ih sums
+        ∙ same_terms place_sum closure_sum S (sum_over e (nulls n ds m)) (e (suc m)) (h (suc m)) (h (closure n ds (suc m))) K
+        (sum_over e (nulls n ds (suc m))) ih sums
 
 -- at the end all excesses cancel
 all_evened : (n : ℕ) (ds : List Dependence) (e h : ℕ → ℤ) → h 0 ≡ pos 0
@@ -158,7 +163,8 @@ place_below size n ds k r c l = by_cases (cases_lt c (2 ^ n))
     by_cases (inl m) = set m (null_or_not n ds c)
     by_cases (inr m) = rw (place-rate n ds c m) l
 
-linear_spread : (size n : ℕ) (ds : List Dependence) (f : Form) → 2 ^ n ≤ size → AreDependences n ds → IsLinear size f → IsLinear size (λ h. f (spread_out n ds h))
+linear_spread : (size n : ℕ) (ds : List Dependence) (f : Form) → 2 ^ n ≤ size → AreDependences n ds → IsLinear size f
+    → IsLinear size (λ h. f (spread_out n ds h))
 linear_spread size n ds f k r l =
     linear_same size (λ h. dot size (λ c. f (one_at c)) (spread_out n ds h)) (λ h. f (spread_out n ds h))
     (λ h z. sym (l.sum (spread_out n ds h) (ap h (place-zero n ds) ∙ z))) (sums size (omega arith))
@@ -167,7 +173,8 @@ linear_spread size n ds f k r l =
     sums zero h = linear_zero size
     sums (suc m) h =
         linear-add size (λ h. f (one_at m) *ℤ h (place n ds m)) (λ h. dot m (λ c. f (one_at c)) (spread_out n ds h))
-        (linear-scale size (f (one_at m)) (λ h. h (place n ds m)) (linear_at size (place n ds m) (place_below size n ds k r m (omega arith)))) (sums m (omega arith))
+        (linear-scale size (f (one_at m)) (λ h. h (place n ds m)) (linear_at size (place n ds m)
+        (place_below size n ds k r m (omega arith)))) (sums m (omega arith))
 
 no_difference : (x y : ℤ) → x ≡ y → x -ℤ y ≡ pos 0
 no_difference x y e = omega (arith, ints, e)
@@ -194,9 +201,11 @@ lift_adds_up size n ds target g w k r d l m a up h z =
     let apart : dot size e (λ c. h c -ℤ h (place n ds c)) ≡ dot size e h -ℤ dot size e h' = dot-less size e h h' in
     let size_is : (size - 2 ^ n) + 2 ^ n ≡ size = omega arith in
     let short : dot size e (λ c. h c -ℤ h (place n ds c)) ≡ dot (2 ^ n) e (λ c. h c -ℤ h (place n ds c)) =
-    ap (λ s. dot s e (λ c. h c -ℤ h (place n ds c))) (sym size_is) ∙ dot_short (2 ^ n) (size - 2 ^ n) e (λ c. h c -ℤ h (place n ds c)) (λ c q. no_difference (h c) (h (place n ds c)) (ap h (sym (place-rate n ds c q)))) in
+    ap (λ s. dot s e (λ c. h c -ℤ h (place n ds c))) (sym size_is) ∙ dot_short (2 ^ n) (size - 2 ^ n) e (λ c. h c -ℤ h (place n ds c))
+    (λ c q. no_difference (h c) (h (place n ds c)) (ap h (sym (place-rate n ds c q)))) in
     let elemental_value : combination (moves n ds e) v ≡ dot (2 ^ n) (with_empty n ds e) (λ c. h c -ℤ h (closure n ds c)) =
-    moves-value n ds h v (with_empty n ds e) r (record { elemental = λ i q. d.elemental i q h z; equation = λ i x q. d.equation i x q h z }) (2 ^ n) (omega arith) in
+    moves-value n ds h v (with_empty n ds e) r (record { elemental = λ i q. d.elemental i q h z; equation = λ i x q. d.equation i x q h z })
+    (2 ^ n) (omega arith) in
     let even = all_evened n ds e h z in
     let whole = weighted-append w.weights (moves n ds e) v in
     whole_is (w.scale *ℤ target h) (combination w.weights v) (combination (moves n ds e) v) (combination (w.weights ++ moves n ds e) v) (dot size e h)

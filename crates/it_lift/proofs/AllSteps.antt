@@ -13,36 +13,46 @@ use Rattle.it_lift.specs.Sums.{AreWeightsAdded}
 use Rattle.it_lift.proofs.AddsUp.{span-last}
 use Rattle.it_lift.proofs.SumSteps.{added-append, stops-after, stops-before}
 
-pub others-more : (F : ℕ → List (ℕ × ℤ)) (m : ℕ) (a b c : List ℤ) → 1 ≤ m → AreWeightsAdded a b (flat_map F (span 1 (m - 1))) → AreWeightsAdded b c (F m) → AreWeightsAdded a c (flat_map F (span 1 (m + 1 - 1)))
+pub others-more : (F : ℕ → List (ℕ × ℤ)) (m : ℕ) (a b c : List ℤ) → 1 ≤ m → AreWeightsAdded a b (flat_map F (span 1 (m - 1)))
+    → AreWeightsAdded b c (F m) → AreWeightsAdded a c (flat_map F (span 1 (m + 1 - 1)))
 others-more F m a b c h k l =
     let e : m + 1 - 1 ≡ suc (m - 1) = omega arith in
     let f : 1 + (m - 1) ≡ m = omega arith in
     let split : flat_map F (span 1 (m + 1 - 1)) ≡ flat_map F (span 1 (m - 1)) ++ F m =
-    ap (λ x. flat_map F (span 1 x)) e ∙ ap (flat_map F) (span-last 1 (m - 1) ∙ ap (λ x. span 1 (m - 1) ++ x ∷ []) f) ∙ flat_map-append F (span 1 (m - 1)) (m ∷ [])
+    ap (λ x. flat_map F (span 1 x)) e ∙ ap (flat_map F) (span-last 1 (m - 1) ∙ ap (λ x. span 1 (m - 1) ++ x ∷ []) f)
+    ∙ flat_map-append F (span 1 (m - 1)) (m ∷ [])
     ∙ ap (λ y. flat_map F (span 1 (m - 1)) ++ y) (append-nil (F m)) in
     subst (AreWeightsAdded a c) (sym split) (added-append a b c (flat_map F (span 1 (m - 1))) (F m) k l)
 
-pub others-stop : (F : ℕ → List (ℕ × ℤ)) (m n : ℕ) (a b : List ℤ) → 1 ≤ m → m < 2 ^ n → AreWeightsAdded a b (flat_map F (span 1 (m - 1))) → ¬ (WeightSumsFit (number_at b) (F m)) → ¬ (WeightSumsFit (number_at a) (flat_map F (span 1 (2 ^ n - 1))))
+pub others-stop : (F : ℕ → List (ℕ × ℤ)) (m n : ℕ) (a b : List ℤ) → 1 ≤ m → m < 2 ^ n → AreWeightsAdded a b (flat_map F (span 1 (m - 1)))
+    → ¬ (WeightSumsFit (number_at b) (F m)) → ¬ (WeightSumsFit (number_at a) (flat_map F (span 1 (2 ^ n - 1))))
 others-stop F m n a b h l k w =
     let e : 2 ^ n - 1 ≡ (m - 1) + suc (2 ^ n - (m + 1)) = omega arith in
     let f : 1 + (m - 1) ≡ m = omega arith in
     let rest : List (ℕ × ℤ) = flat_map F (span (m + 1) (2 ^ n - (m + 1))) in
     let split : flat_map F (span 1 (2 ^ n - 1)) ≡ flat_map F (span 1 (m - 1)) ++ (F m ++ rest) =
-    ap (λ x. flat_map F (span 1 x)) e ∙ ap (flat_map F) (span-append 1 (m - 1) (suc (2 ^ n - (m + 1))) ∙ ap (λ x. span 1 (m - 1) ++ span x (suc (2 ^ n - (m + 1)))) f)
+    ap (λ x. flat_map F (span 1 x)) e ∙ ap (flat_map F) (span-append 1 (m - 1) (suc (2 ^ n - (m + 1)))
+    ∙ ap (λ x. span 1 (m - 1) ++ span x (suc (2 ^ n - (m + 1)))) f)
     ∙ flat_map-append F (span 1 (m - 1)) (span m (suc (2 ^ n - (m + 1)))) in
-    subst (λ (ms : List (ℕ × ℤ)). ¬ (WeightSumsFit (number_at a) ms)) (sym split) (stops-after a b (flat_map F (span 1 (m - 1))) (F m ++ rest) k (stops-before (number_at b) (F m) rest w))
+    subst (λ (ms : List (ℕ × ℤ)). ¬ (WeightSumsFit (number_at a) ms)) (sym split)
+    (stops-after a b (flat_map F (span 1 (m - 1))) (F m ++ rest) k (stops-before (number_at b) (F m) rest w))
 
 all-split : (F : ℕ → List (ℕ × ℤ)) (n : ℕ) → flat_map F (span 0 (2 ^ n)) ≡ F 0 ++ flat_map F (span 1 (2 ^ n - 1))
 all-split F n = let e : 2 ^ n ≡ suc (2 ^ n - 1) = omega (arith, pow_pos n) in ap (λ x. flat_map F (span 0 x)) e
 
-pub all-added : (F : ℕ → List (ℕ × ℤ)) (n : ℕ) (a b c : List ℤ) → AreWeightsAdded a b (F 0) → AreWeightsAdded b c (flat_map F (span 1 (2 ^ n - 1))) → AreWeightsAdded a c (flat_map F (span 0 (2 ^ n)))
+pub all-added : (F : ℕ → List (ℕ × ℤ)) (n : ℕ) (a b c : List ℤ) → AreWeightsAdded a b (F 0)
+    → AreWeightsAdded b c (flat_map F (span 1 (2 ^ n - 1))) → AreWeightsAdded a c (flat_map F (span 0 (2 ^ n)))
 all-added F n a b c h k = subst (AreWeightsAdded a c) (sym (all-split F n)) (added-append a b c (F 0) (flat_map F (span 1 (2 ^ n - 1))) h k)
 
-pub first-stops : (F : ℕ → List (ℕ × ℤ)) (n : ℕ) (a : List ℤ) (E : Type 0) → ¬ (WeightSumsFit (number_at a) (F 0)) → ¬ (E × WeightSumsFit (number_at a) (flat_map F (span 0 (2 ^ n))))
-first-stops F n a E h w = stops-before (number_at a) (F 0) (flat_map F (span 1 (2 ^ n - 1))) h (subst (λ (ms : List (ℕ × ℤ)). WeightSumsFit (number_at a) ms) (all-split F n) w.1)
+pub first-stops : (F : ℕ → List (ℕ × ℤ)) (n : ℕ) (a : List ℤ) (E : Type 0) → ¬ (WeightSumsFit (number_at a) (F 0))
+    → ¬ (E × WeightSumsFit (number_at a) (flat_map F (span 0 (2 ^ n))))
+first-stops F n a E h w = stops-before (number_at a) (F 0) (flat_map F (span 1 (2 ^ n - 1))) h
+    (subst (λ (ms : List (ℕ × ℤ)). WeightSumsFit (number_at a) ms) (all-split F n) w.1)
 
-pub later-stops : (F : ℕ → List (ℕ × ℤ)) (n : ℕ) (a b : List ℤ) (E : Type 0) → AreWeightsAdded a b (F 0) → ¬ (WeightSumsFit (number_at b) (flat_map F (span 1 (2 ^ n - 1)))) → ¬ (E × WeightSumsFit (number_at a) (flat_map F (span 0 (2 ^ n))))
-later-stops F n a b E k h w = stops-after a b (F 0) (flat_map F (span 1 (2 ^ n - 1))) k h (subst (λ (ms : List (ℕ × ℤ)). WeightSumsFit (number_at a) ms) (all-split F n) w.1)
+pub later-stops : (F : ℕ → List (ℕ × ℤ)) (n : ℕ) (a b : List ℤ) (E : Type 0) → AreWeightsAdded a b (F 0)
+    → ¬ (WeightSumsFit (number_at b) (flat_map F (span 1 (2 ^ n - 1)))) → ¬ (E × WeightSumsFit (number_at a) (flat_map F (span 0 (2 ^ n))))
+later-stops F n a b E k h w = stops-after a b (F 0) (flat_map F (span 1 (2 ^ n - 1))) k h
+    (subst (λ (ms : List (ℕ × ℤ)). WeightSumsFit (number_at a) ms) (all-split F n) w.1)
 
 -- what the code adds at a set
 pub moves_found : (n : ℕ) (ds : List Dependence) (e : ℕ → ℤ) (m s : ℕ) (x : ℤ) → 1 ≤ m → s ≡ m → x ≡ e s → moves_at n ds s x ≡ moves_of n ds e m

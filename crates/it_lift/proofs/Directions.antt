@@ -72,7 +72,8 @@ within-more f m w v i = by_test (nat_eq m.0 i) refl
     by_test true e = subst (λ (k : ℕ). IsWithin (f k +ℤ m.1)) (eqb-true m.0 i e) v
     by_test false e = subst IsWithin (sym (+ℤ_idr (f i))) (w i)
 
-pub way_from_end : (up : ℕ → Bool) (f : ℕ → ℤ) (ms : List (ℕ × ℤ)) → GoTheirWay up ms → ((i : ℕ) → IsWithin (f i)) → ((i : ℕ) → IsWithin (f i +ℤ coefficient ms i)) → WeightSumsFit f ms
+pub way_from_end : (up : ℕ → Bool) (f : ℕ → ℤ) (ms : List (ℕ × ℤ)) → GoTheirWay up ms → ((i : ℕ) → IsWithin (f i))
+    → ((i : ℕ) → IsWithin (f i +ℤ coefficient ms i)) → WeightSumsFit f ms
 way_from_end up f [] g w e = tt
 way_from_end up f (m ∷ ms) g w e =
     let total : plus_at f m m.0 +ℤ coefficient ms m.0 ≡ f m.0 +ℤ coefficient (m ∷ ms) m.0 = plus-total f m ms m.0 in
@@ -91,7 +92,8 @@ goes_up (d ∷ ds) i = cond (nat_eq d.generator i) d.negated (goes_up ds i)
 
 up_before : (from : ℕ) (ds : List Dependence) (i : ℕ) → GeneratorsAscend from ds → i < from → goes_up ds i ≡ true
 up_before from [] i a h = refl
-up_before from (d ∷ ds) i a h = ap (λ b. cond b d.negated (goes_up ds i)) (ne_eqb d.generator i (λ e. omega (arith, a.0))) ∙ up_before (d.generator + 1) ds i a.1 (omega (arith, a.0))
+up_before from (d ∷ ds) i a h = ap (λ b. cond b d.negated (goes_up ds i)) (ne_eqb d.generator i (λ e. omega (arith, a.0)))
+    ∙ up_before (d.generator + 1) ds i a.1 (omega (arith, a.0))
 
 -- each dependence goes its own way
 own_way : (from : ℕ) (ds : List Dependence) → GeneratorsAscend from ds → Every (λ d. goes_up ds d.generator ≡ d.negated) ds
@@ -101,9 +103,14 @@ own_way from (d ∷ ds) a = (
   later_ways_stay (d.generator + 1) ds a.1 (omega arith) (own_way (d.generator + 1) ds a.1),
 )
   where
-    later_ways_stay : (from : ℕ) (es : List Dependence) → GeneratorsAscend from es → d.generator < from → Every (λ e. goes_up ds e.generator ≡ e.negated) es → Every (λ e. goes_up (d ∷ ds) e.generator ≡ e.negated) es
+    later_ways_stay : (from : ℕ) (es : List Dependence) → GeneratorsAscend from es → d.generator < from
+        → Every (λ e. goes_up ds e.generator ≡ e.negated) es → Every (λ e. goes_up (d ∷ ds) e.generator ≡ e.negated) es
     later_ways_stay from [] a h v = tt
-    later_ways_stay from (e ∷ es) a h v = (ap (λ b. cond b d.negated (goes_up ds e.generator)) (ne_eqb d.generator e.generator (λ q. omega (arith, a.0))) ∙ v.0, later_ways_stay (e.generator + 1) es a.1 (omega (arith, a.0)) v.1)
+    later_ways_stay from (e ∷ es) a h v = (
+      ap (λ b. cond b d.negated (goes_up ds e.generator))
+          (ne_eqb d.generator e.generator (λ q. omega (arith, a.0))) ∙ v.0,
+      later_ways_stay (e.generator + 1) es a.1 (omega (arith, a.0)) v.1,
+    )
 
 -- ---- what holds of each weight that is moved: of weights of inequalities that aren't below 0, and of the dependences' own
 
@@ -113,7 +120,8 @@ record HasMove (P : ℕ × ℤ → Type 0) (d : Dependence) : Type 0 where
 
 module _ (n : ℕ) (P : ℕ × ℤ → Type 0) (low : (i : ℕ) (x : ℤ) → i < length (elementals n) → pos 0 ≤ℤ x → P (i, x)) where
   each-have : (x : ℤ) (es : List Elemental) → pos 0 ≤ℤ x → Every (IsElemental n) es → Every P (each_weight n x es)
-  each-have x es p v = every-map P (λ e. (elemental_index n e, x)) es (every-same (IsElemental n) (λ e. P (elemental_index n e, x)) es (λ e w. low (elemental_index n e) x (at_index n e w).0 p) v)
+  each-have x es p v = every-map P (λ e. (elemental_index n e, x)) es (every-same (IsElemental n) (λ e. P (elemental_index n e, x)) es
+      (λ e w. low (elemental_index n e) x (at_index n e w).0 p) v)
 
   turn-have : (x : ℤ) (a : ℕ) (d : Dependence) → pos 0 ≤ℤ x → a < 2 ^ n → d.to < 2 ^ n → IsInside d.from a → HasMove P d → Every P (turn_moves n x (a, d))
   turn-have x a d p ha ht i m =
@@ -125,7 +133,8 @@ module _ (n : ℕ) (P : ℕ × ℤ → Type 0) (low : (i : ℕ) (x : ℤ) → i 
       every-append P (xs ++ ys) ((d.generator, cond d.negated x (neg_ℤ x)) ∷ [])
       (every-append P xs ys
       (each-have x (mutual_expansion (members n (set_difference d.to a)) (members n (set_difference a d.to)) (bit_and a d.to)) p
-      (mutual_valid n (set_difference d.to a) (set_difference a d.to) (bit_and a d.to) low' (less_meet_right n d.to a ht ha) (less_meet n a d.to ha ht) (less_less n d.to a ht ha)))
+      (mutual_valid n (set_difference d.to a) (set_difference a d.to) (bit_and a d.to) low' (less_meet_right n d.to a ht ha)
+      (less_meet n a d.to ha ht) (less_less n d.to a ht ha)))
       (each-have x (conditional_expansion n (members n (set_difference (bit_and a d.to) d.from)) d.from) p
       (conditional_valid n (set_difference (bit_and a d.to) d.from) d.from from (less_apart n (bit_and a d.to) d.from low' from))))
       (m.own x p, tt)
@@ -142,13 +151,15 @@ module _ (n : ℕ) (P : ℕ × ℤ → Type 0) (low : (i : ℕ) (x : ℤ) → i 
             let q : IsOpenOf n ds a d = open_where n ds a d r.below e in
             let more : a < bit_or a d.to = grows a d.to q.new in
             subst (λ (ts : List (ℕ × Dependence)). Every P (flat_map (turn_moves n x) ts)) (sym (way-more n ds a d r.below l e))
-            (every-append P (turn_moves n x (a, d)) (flat_map (turn_moves n x) (way n ds (bit_or a d.to))) (turn-have x a d p l q.below q.known (some_open (HasMove P) ds a d w e).0)
+            (every-append P (turn_moves n x (a, d)) (flat_map (turn_moves n x) (way n ds (bit_or a d.to)))
+            (turn-have x a d p l q.below q.known (some_open (HasMove P) ds a d w e).0)
             (ih (bit_or a d.to) (omega arith) (or_lt n a d.to l q.below)))
 
     at-have : (s : ℕ) (x : ℤ) → s < 2 ^ n → Every P (moves_at n ds s x)
     at-have s (negsuc k) l =
         let i : IsClosureOf n ds s (closure n ds s) = closure_is n ds s r.below l in
-        each-have (pos (suc k)) (conditional_expansion n (members n (set_difference (closure n ds s) s)) s) (omega (arith, ints)) (conditional_valid n (set_difference (closure n ds s) s) s l (less_apart n (closure n ds s) s i.below l))
+        each-have (pos (suc k)) (conditional_expansion n (members n (set_difference (closure n ds s) s)) s) (omega (arith, ints))
+        (conditional_valid n (set_difference (closure n ds s) s) s l (less_apart n (closure n ds s) s i.below l))
     at-have s (pos zero) l = tt
     at-have s (pos (suc k)) l = way-have (pos (suc k)) (omega (arith, ints)) (2 ^ n) s (omega arith) l
 
@@ -156,25 +167,31 @@ module _ (n : ℕ) (P : ℕ × ℤ → Type 0) (low : (i : ℕ) (x : ℤ) → i 
     moves_have e = every-flat_map P (λ s. moves_at n ds s (with_empty n ds e s)) (span 0 (2 ^ n))
         (every-span (λ s. Every P (moves_at n ds s (with_empty n ds e s))) 0 (2 ^ n) (λ s a b. at-have s (with_empty n ds e s) (omega arith)))
 
-have_moves : (P : ℕ × ℤ → Type 0) (n : ℕ) (ds : List Dependence) → AreDependences n ds → Every (λ d. (x : ℤ) → pos 0 ≤ℤ x → P (d.generator, cond d.negated x (neg_ℤ x))) ds → Every (HasMove P) ds
+have_moves : (P : ℕ × ℤ → Type 0) (n : ℕ) (ds : List Dependence) → AreDependences n ds
+    → Every (λ d. (x : ℤ) → pos 0 ≤ℤ x → P (d.generator, cond d.negated x (neg_ℤ x))) ds → Every (HasMove P) ds
 have_moves P n ds r o = each_has_move ds (every_of (λ d. IsInside d.from d.to) ds r.inside) o
   where
-    each_has_move : (es : List Dependence) → Every (λ d. IsInside d.from d.to) es → Every (λ d. (x : ℤ) → pos 0 ≤ℤ x → P (d.generator, cond d.negated x (neg_ℤ x))) es → Every (HasMove P) es
+    each_has_move : (es : List Dependence) → Every (λ d. IsInside d.from d.to) es
+        → Every (λ d. (x : ℤ) → pos 0 ≤ℤ x → P (d.generator, cond d.negated x (neg_ℤ x))) es → Every (HasMove P) es
     each_has_move [] a b = tt
     each_has_move (e ∷ es) a b = (record { inside = a.0; own = b.0 }, each_has_move es a.1 b.1)
 
 -- each goes its way
 pub moves_go : (n : ℕ) (ds : List Dependence) (e : ℕ → ℤ) → AreDependences n ds → AreNumbered n ds → GoTheirWay (goes_up ds) (moves n ds e)
-moves_go n ds e r o = moves_have n (λ m. Goes (goes_up ds m.0) m.1) (λ i x l p. subst (λ (b : Bool). Goes b x) (sym (up_before (length (elementals n)) ds i o l)) p) ds r
-    (have_moves (λ m. Goes (goes_up ds m.0) m.1) n ds r (every-same (λ d. goes_up ds d.generator ≡ d.negated) (λ d. (x : ℤ) → pos 0 ≤ℤ x → Goes (goes_up ds d.generator) (cond d.negated x (neg_ℤ x))) ds
-    (λ d is x p. subst (λ (b : Bool). Goes b (cond d.negated x (neg_ℤ x))) (sym is) (signed_value_goes d.negated x p)) (own_way (length (elementals n)) ds o))) e
+moves_go n ds e r o = moves_have n (λ m. Goes (goes_up ds m.0) m.1) (λ i x l p. subst (λ (b : Bool). Goes b x)
+    (sym (up_before (length (elementals n)) ds i o l)) p) ds r
+    (have_moves (λ m. Goes (goes_up ds m.0) m.1) n ds r (every-same (λ d. goes_up ds d.generator ≡ d.negated)
+    (λ d. (x : ℤ) → pos 0 ≤ℤ x → Goes (goes_up ds d.generator) (cond d.negated x (neg_ℤ x))) ds
+    (λ d is x p. subst (λ (b : Bool). Goes b (cond d.negated x (neg_ℤ x))) (sym is) (signed_value_goes d.negated x p))
+    (own_way (length (elementals n)) ds o))) e
   where
     signed_value_goes : (b : Bool) (x : ℤ) → pos 0 ≤ℤ x → Goes b (cond b x (neg_ℤ x))
     signed_value_goes true x p = p
     signed_value_goes false x p = omega (arith, ints, p)
 
 -- each is of a generator that is there
-pub moves_placed : (n count : ℕ) (ds : List Dependence) (e : ℕ → ℤ) → AreDependences n ds → length (elementals n) ≤ count → Every (λ d. d.generator < count) ds → Every (λ m. m.0 < count) (moves n ds e)
+pub moves_placed : (n count : ℕ) (ds : List Dependence) (e : ℕ → ℤ) → AreDependences n ds → length (elementals n) ≤ count
+    → Every (λ d. d.generator < count) ds → Every (λ m. m.0 < count) (moves n ds e)
 moves_placed n count ds e r h o = moves_have n (λ m. m.0 < count) (λ i x l p. omega arith) ds r
     (have_moves (λ m. m.0 < count) n ds r (every-same (λ d. d.generator < count) (λ d. (x : ℤ) → pos 0 ≤ℤ x → d.generator < count) ds (λ d l x p. l) o)) e
 
@@ -182,5 +199,6 @@ pub weight_sums_fit_as_end : WeightSumsFitAsEnd
 weight_sums_fit_as_end n ds target g w r o v =
     let ms : List (ℕ × ℤ) = moves n ds (excess w target g) in (
       λ f i. subst IsWithin (sym (coefficient-append w.weights ms i)) (end_from_way (coefficient w.weights) ms v f i),
-      λ f. way_from_end (goes_up ds) (coefficient w.weights) ms (moves_go n ds (excess w target g) r o) v (λ i. subst IsWithin (coefficient-append w.weights ms i) (f i)),
+      λ f. way_from_end (goes_up ds) (coefficient w.weights) ms (moves_go n ds (excess w target g) r o) v
+          (λ i. subst IsWithin (coefficient-append w.weights ms i) (f i)),
     )

@@ -25,12 +25,14 @@ pub record IsEvening (n : ℕ) (ds : List Dependence) (target : Form) (g : Gener
   pub fits : PartialSumsFit sum (excess w target g) (nulls_from n ds m) ↔ PartialSumsFit (pos 0) (excess w target g) (null_sets n ds)
   pub total : sum +ℤ sum_over (excess w target g) (nulls_from n ds m) ≡ sum_over (excess w target g) (null_sets n ds)
 
-nulls_from_next : (n : ℕ) (ds : List Dependence) (m : ℕ) (b : Bool) → m < 2 ^ n → nat_eq (closure n ds m) (closure n ds 0) ≡ b → nulls_from n ds m ≡ cond b (m ∷ nulls_from n ds (m + 1)) (nulls_from n ds (m + 1))
+nulls_from_next : (n : ℕ) (ds : List Dependence) (m : ℕ) (b : Bool) → m < 2 ^ n → nat_eq (closure n ds m) (closure n ds 0) ≡ b
+    → nulls_from n ds m ≡ cond b (m ∷ nulls_from n ds (m + 1)) (nulls_from n ds (m + 1))
 nulls_from_next n ds m b h e =
     let c : 2 ^ n - m ≡ suc (2 ^ n - (m + 1)) = omega arith in
     ap (λ k. filter (λ s. nat_eq (closure n ds s) (closure n ds 0)) (span m k)) c ∙ ap (λ t. cond t (m ∷ nulls_from n ds (m + 1)) (nulls_from n ds (m + 1))) e
 
-more-excesses : (w : CertificateView) (target : Form) (g : Generators) (m : ℕ) → ((s : ℕ) → 0 < s → s < m → ExcessFits w target g s) → ExcessFits w target g m → (s : ℕ) → 0 < s → s < m + 1 → ExcessFits w target g s
+more-excesses : (w : CertificateView) (target : Form) (g : Generators) (m : ℕ) → ((s : ℕ) → 0 < s → s < m → ExcessFits w target g s)
+    → ExcessFits w target g m → (s : ℕ) → 0 < s → s < m + 1 → ExcessFits w target g s
 more-excesses w target g m f e s h k = by_cases (cases_order s m)
   where
     by_cases : (s ≡ m) ⊎ ((s < m) ⊎ (m < s)) → ExcessFits w target g s
@@ -38,7 +40,8 @@ more-excesses w target g m f e s h k = by_cases (cases_order s m)
     by_cases (inr (inl l)) = f s h l
     by_cases (inr (inr l)) = absurd (omega arith)
 
-pub evening-more : (n : ℕ) (ds : List Dependence) (target : Form) (g : Generators) (w : CertificateView) (m : ℕ) (sum x next' : ℤ) (b : Bool) → m < 2 ^ n → nat_eq (closure n ds m) (closure n ds 0) ≡ b
+pub evening-more : (n : ℕ) (ds : List Dependence) (target : Form) (g : Generators) (w : CertificateView) (m : ℕ) (sum x next' : ℤ)
+    (b : Bool) → m < 2 ^ n → nat_eq (closure n ds m) (closure n ds 0) ≡ b
     → ExcessFits w target g m → x ≡ excess w target g m → IsWithin (sum +ℤ cond b x (pos 0)) → next' ≡ sum +ℤ cond b x (pos 0)
     → IsEvening n ds target g w m sum → IsEvening n ds target g w (m + 1) next'
 evening-more n ds target g w m sum x next' true h t e is v k u =
@@ -59,12 +62,14 @@ evening-more n ds target g w m sum x next' false h t e is v k u =
     record {
       within = rw k' u.within;
       excesses = more-excesses w target g m u.excesses e;
-      fits = rw k' (subst (λ (r : List ℕ). PartialSumsFit sum (excess w target g) r ↔ PartialSumsFit (pos 0) (excess w target g) (null_sets n ds)) split u.fits);
+      fits = rw k' (subst (λ (r : List ℕ). PartialSumsFit sum (excess w target g) r ↔ PartialSumsFit (pos 0) (excess w target g)
+          (null_sets n ds)) split u.fits);
       total = rw k' (subst (λ (r : List ℕ). sum +ℤ sum_over (excess w target g) r ≡ sum_over (excess w target g) (null_sets n ds)) split u.total);
     }
 
 -- where a sum doesn't fit
-pub evening-stops : (n : ℕ) (ds : List Dependence) (target : Form) (g : Generators) (w : CertificateView) (m : ℕ) (sum x : ℤ) (b : Bool) → m < 2 ^ n → nat_eq (closure n ds m) (closure n ds 0) ≡ b
+pub evening-stops : (n : ℕ) (ds : List Dependence) (target : Form) (g : Generators) (w : CertificateView) (m : ℕ) (sum x : ℤ) (b : Bool)
+    → m < 2 ^ n → nat_eq (closure n ds m) (closure n ds 0) ≡ b
     → x ≡ excess w target g m → ¬ (IsWithin (sum +ℤ cond b x (pos 0))) → IsEvening n ds target g w m sum → ¬ (EmptyFits n ds target g w)
 evening-stops n ds target g w m sum x true h t is v u all =
     let split : nulls_from n ds m ≡ m ∷ nulls_from n ds (m + 1) = nulls_from_next n ds m true h t in

@@ -16,7 +16,8 @@ pub falling-more : (ws : List (ℕ × ℤ)) (f : ℕ → ℤ) (whole : ℤ) (i :
 falling-more ws f whole i left next x w h is at v e u =
     let split = drop_item ws i w h is in
     let g : FallFits left (w ∷ drop (i + 1) ws) f ↔ FallFits whole ws f = subst (λ (r : List (ℕ × ℤ)). FallFits left r f ↔ FallFits whole ws f) split u.fits in
-    let t : left -ℤ combination (w ∷ drop (i + 1) ws) f ≡ whole -ℤ combination ws f = subst (λ (r : List (ℕ × ℤ)). left -ℤ combination r f ≡ whole -ℤ combination ws f) split u.total in
+    let t : left -ℤ combination (w ∷ drop (i + 1) ws) f
+    ≡ whole -ℤ combination ws f = subst (λ (r : List (ℕ × ℤ)). left -ℤ combination r f ≡ whole -ℤ combination ws f) split u.total in
     let e' : next ≡ left -ℤ w.1 *ℤ f w.0 = e ∙ ap (λ y. left -ℤ w.1 *ℤ y) at in
     let v' : IsWithin (w.1 *ℤ f w.0) × IsWithin (left -ℤ w.1 *ℤ f w.0) = subst (λ (y : ℤ). IsWithin (w.1 *ℤ y) × IsWithin (left -ℤ w.1 *ℤ y)) at v in
     record {
@@ -31,7 +32,8 @@ falling-stops ws f whole i left x w h is at wide u all =
     wide (subst (λ (y : ℤ). IsWithin (w.1 *ℤ y) × IsWithin (left -ℤ w.1 *ℤ y)) (sym at) (here.0, here.1))
 
 -- the whole excess, from its first product and the products that are subtracted
-pub excess_is : {E : Type 0} (r : Result ℤ E) (x y : ℤ) (us ws : List (ℕ × ℤ)) (f : ℕ → ℤ) → x ≡ y → IsWithin y → us ≡ ws → OkIff r (FallFits x us f) (x -ℤ combination us f)
+pub excess_is : {E : Type 0} (r : Result ℤ E) (x y : ℤ) (us ws : List (ℕ × ℤ)) (f : ℕ → ℤ) → x ≡ y → IsWithin y → us ≡ ws
+    → OkIff r (FallFits x us f) (x -ℤ combination us f)
     → OkIff r (IsWithin y × FallFits y ws f) (y -ℤ combination ws f)
 excess_is {E = E} r x y us ws f e w s k = by_result r (subst₂ (λ (z : ℤ) (vs : List (ℕ × ℤ)). OkIff r (FallFits z vs f) (z -ℤ combination vs f)) e s k)
   where

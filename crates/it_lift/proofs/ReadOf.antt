@@ -1,8 +1,8 @@
 -- The dependences that are read from a problem are equations of it, in order.
 use Rattle.std.proofs.Common.{◌≡◌, ℕ, zero, suc, ◌+◌, ◌-◌, ◌<◌, ◌≤◌, ℤ, pos, negsuc, ◌+ℤ◌, ◌-ℤ◌, ◌*ℤ◌, List, [], ◌∷◌, ◌++◌, Option, Some, None, length, get_or, Bool, true, false, refl, sym, ap, subst, ◌∙◌, arith, All}
 use Rattle.std.proofs.lemmas.Int.{ints}
-use Rattle.it_space.specs.declared.problems.Constraint.{Constraint}
-use Rattle.it_space.specs.Problems.{ProblemView}
+use Rattle.it_problems.specs.declared.problems.Constraint.{Constraint}
+use Rattle.it_problems.specs.Problems.{ProblemView}
 use Rattle.it_space.specs.Rows.{value, IsOver}
 use Rattle.it_space.specs.Spaces.{size_of}
 use Rattle.it_polymatroid.specs.Elementals.{elementals}
@@ -26,11 +26,14 @@ ascend_from_lower : (from to : ℕ) (ds : List Dependence) → from ≤ to → G
 ascend_from_lower from to [] h a = tt
 ascend_from_lower from to (d ∷ ds) h a = (omega (arith, a.0), a.1)
 
-ascend_read : (s : Rattle.it_space.specs.declared.spaces.Space.Space) (size g : ℕ) (cs : List Constraint) → All (λ c. IsOver size c.row) cs → GeneratorsAscend g (read_from s.variables g cs)
+ascend_read : (s : Rattle.it_space.specs.declared.spaces.Space.Space) (size g : ℕ) (cs : List Constraint) → All (λ c. IsOver size c.row) cs
+    → GeneratorsAscend g (read_from s.variables g cs)
 ascend_read s size g [] u = tt
-ascend_read s size g (c ∷ cs) u = by_option (read_one s.variables g c) refl (ascend_read s size (g + 1) cs (Rattle.std.proofs.lemmas.List.Elements.All-tail (λ c. IsOver size c.row) c cs u))
+ascend_read s size g (c ∷ cs) u = by_option (read_one s.variables g c) refl
+    (ascend_read s size (g + 1) cs (Rattle.std.proofs.lemmas.List.Elements.All-tail (λ c. IsOver size c.row) c cs u))
   where
-    by_option : (o : Option Dependence) → read_one s.variables g c ≡ o → GeneratorsAscend (g + 1) (read_from s.variables (g + 1) cs) → GeneratorsAscend g (dependence_list o ++ read_from s.variables (g + 1) cs)
+    by_option : (o : Option Dependence) → read_one s.variables g c ≡ o → GeneratorsAscend (g + 1) (read_from s.variables (g + 1) cs)
+        → GeneratorsAscend g (dependence_list o ++ read_from s.variables (g + 1) cs)
     by_option None e a = ascend_from_lower g (g + 1) (read_from s.variables (g + 1) cs) (omega arith) a
     by_option (Some d) e a =
         let r = (reads_exactly s size g c d (Rattle.std.proofs.lemmas.List.Elements.All-head (λ c. IsOver size c.row) c cs u)).0 e in
@@ -63,7 +66,8 @@ equation_of q d r =
     let c : Constraint = get_or q.constraints r.place x in
     let place : d.generator - length (elementals q.space.variables) ≡ r.place = omega (arith, r.number) in
     let is : generator_at (generators q) d.generator ≡ record { kind = c.kind; row = c.row } =
-    constraint_is q d.generator (length (elementals q.space.variables)) c refl (omega (arith, r.number)) (omega (arith, place, r.inside)) (get_or_default q.constraints r.place x c r.inside ∙ ap (λ k. get_or q.constraints k c) (sym place)) in
+    constraint_is q d.generator (length (elementals q.space.variables)) c refl (omega (arith, r.number)) (omega (arith, place, r.inside))
+    (get_or_default q.constraints r.place x c r.inside ∙ ap (λ k. get_or q.constraints k c) (sym place)) in
     record {
       placed = omega (arith, r.number, r.inside, total_is q);
       kind = ap (λ (g : Generator). is_equation g.kind) is ∙ ap is_equation (r.is x).equation;
@@ -74,12 +78,15 @@ pub reading_gives_dependences : ReadingGivesDependences
 reading_gives_dependences q d p s e =
     let g : ℕ = length (elementals q.space.variables) in
     let n : q.space.variables ≡ d.space.variables = ap (λ t. t.variables) (sym s) in
-    let equations : Every (IsEquation q) (dependences_of q) = every-same (IsRead q.space q.constraints g) (IsEquation q) (dependences_of q) (λ x r. equation_of q x r) (all_read q.space (size_of q.space) g q.constraints p.rows) in
+    let equations : Every (IsEquation q) (dependences_of q) = every-same (IsRead q.space q.constraints g) (IsEquation q) (dependences_of q)
+    (λ x r. equation_of q x r) (all_read q.space (size_of q.space) g q.constraints p.rows) in
     let all : All (IsEquation q) d.list = subst (All (IsEquation q)) (sym e) (all_of (IsEquation q) (dependences_of q) equations) in
     record {
       shape = rw (s, e) (read_of_space q g p);
       space = s;
-      numbered = subst (GeneratorsAscend (length (elementals d.space.variables))) (sym e) (subst (λ (k : ℕ). GeneratorsAscend k (dependences_of q)) (ap (λ m. length (elementals m)) n) (ascend_read q.space (size_of q.space) g q.constraints p.rows));
+      numbered = subst (GeneratorsAscend (length (elementals d.space.variables))) (sym e)
+          (subst (λ (k : ℕ). GeneratorsAscend k (dependences_of q)) (ap (λ m. length (elementals m)) n)
+          (ascend_read q.space (size_of q.space) g q.constraints p.rows));
       placed = λ i x l. (all i x l).placed;
       kinds = λ i x l. (all i x l).kind;
       equations = λ i x l. (all i x l).equation;

@@ -20,14 +20,17 @@ order_at from (w ∷ ws) zero d o h = o.0
 order_at from (w ∷ ws) (suc k) d o h = omega (arith, o.0, order_at (w.0 + 1) ws k d o.1 (omega arith))
 
 -- the earlier ones have other numbers
-no_earlier_weight : (from : ℕ) (ws : List (ℕ × ℤ)) (k : ℕ) (d : ℕ × ℤ) → WeightsAscend from ws → k < length ws → coefficient (take k ws) (get_or ws k d).0 ≡ pos 0
+no_earlier_weight : (from : ℕ) (ws : List (ℕ × ℤ)) (k : ℕ) (d : ℕ × ℤ) → WeightsAscend from ws → k < length ws
+    → coefficient (take k ws) (get_or ws k d).0 ≡ pos 0
 no_earlier_weight from [] k d o h = absurd (omega arith)
 no_earlier_weight from (w ∷ ws) zero d o h = refl
 no_earlier_weight from (w ∷ ws) (suc k) d o h =
     let later : w.0 + 1 ≤ (get_or ws k d).0 = order_at (w.0 + 1) ws k d o.1 (omega arith) in
-    ap (λ b. cond b w.1 (pos 0) +ℤ coefficient (take k ws) (get_or ws k d).0) (ne_eqb w.0 (get_or ws k d).0 (λ e. omega arith)) ∙ ap (λ y. pos 0 +ℤ y) (no_earlier_weight (w.0 + 1) ws k d o.1 (omega arith)) ∙ omega (arith, ints)
+    ap (λ b. cond b w.1 (pos 0) +ℤ coefficient (take k ws) (get_or ws k d).0) (ne_eqb w.0 (get_or ws k d).0 (λ e. omega arith))
+    ∙ ap (λ y. pos 0 +ℤ y) (no_earlier_weight (w.0 + 1) ws k d o.1 (omega arith)) ∙ omega (arith, ints)
 
-pub start-more : (ws : List (ℕ × ℤ)) (k : ℕ) (d : ℕ × ℤ) (xs : List ℤ) → WeightsAscend 0 ws → k < length ws → (get_or ws k d).0 < length xs → ((i : ℕ) → number_at xs i ≡ coefficient (take k ws) i)
+pub start-more : (ws : List (ℕ × ℤ)) (k : ℕ) (d : ℕ × ℤ) (xs : List ℤ) → WeightsAscend 0 ws → k < length ws → (get_or ws k d).0 < length xs
+    → ((i : ℕ) → number_at xs i ≡ coefficient (take k ws) i)
     → (i : ℕ) → number_at (set xs (get_or ws k d).0 (get_or ws k d).1) i ≡ coefficient (take (k + 1) ws) i
 start-more ws k d xs o h l same i = by_test (nat_eq next_weight.0 i) refl ∙ sym coefficient_with_next
   where
@@ -43,7 +46,8 @@ start-more ws k d xs o h l same i = by_test (nat_eq next_weight.0 i) refl ∙ sy
     weight_stays : (a : ℤ) → a ≡ a +ℤ (pos 0 +ℤ pos 0)
     weight_stays a = omega (arith, ints)
 
-    by_test : (b : Bool) → nat_eq next_weight.0 i ≡ b → number_at (set xs next_weight.0 next_weight.1) i ≡ coefficient (take k ws) i +ℤ (cond (nat_eq next_weight.0 i) next_weight.1 (pos 0) +ℤ pos 0)
+    by_test : (b : Bool) → nat_eq next_weight.0 i ≡ b → number_at (set xs next_weight.0 next_weight.1) i ≡ coefficient (take k ws) i
+        +ℤ (cond (nat_eq next_weight.0 i) next_weight.1 (pos 0) +ℤ pos 0)
     by_test true e =
         let s : i ≡ next_weight.0 = sym (eqb-true next_weight.0 i e) in
         get_or-set_at xs next_weight.0 i next_weight.1 (pos 0) s l
@@ -74,7 +78,8 @@ parts_within ws o a i = by_list 0 ws o (every_of (λ p. IsWithin p.1) ws a)
   where
     none_above : (from : ℕ) (ws : List (ℕ × ℤ)) → WeightsAscend from ws → i < from → coefficient ws i ≡ pos 0
     none_above from [] o h = refl
-    none_above from (w ∷ ws) o h = ap (λ b. cond b w.1 (pos 0) +ℤ coefficient ws i) (ne_eqb w.0 i (λ e. omega (arith, o.0))) ∙ ap (λ y. pos 0 +ℤ y) (none_above (w.0 + 1) ws o.1 (omega (arith, o.0)))
+    none_above from (w ∷ ws) o h = ap (λ b. cond b w.1 (pos 0) +ℤ coefficient ws i) (ne_eqb w.0 i (λ e. omega (arith, o.0)))
+        ∙ ap (λ y. pos 0 +ℤ y) (none_above (w.0 + 1) ws o.1 (omega (arith, o.0)))
 
     by_list : (from : ℕ) (ws : List (ℕ × ℤ)) → WeightsAscend from ws → Every (λ p. IsWithin p.1) ws → IsWithin (coefficient ws i)
     by_list from [] o v = lit< tt

@@ -44,35 +44,44 @@ added-append a b c xs ys h k = record {
 }
 
 -- what doesn't fit afterwards doesn't fit
-pub stops-after : (a b : List ℤ) (xs ys : List (ℕ × ℤ)) → AreWeightsAdded a b xs → ¬ (WeightSumsFit (number_at b) ys) → ¬ (WeightSumsFit (number_at a) (xs ++ ys))
+pub stops-after : (a b : List ℤ) (xs ys : List (ℕ × ℤ)) → AreWeightsAdded a b xs → ¬ (WeightSumsFit (number_at b) ys)
+    → ¬ (WeightSumsFit (number_at a) (xs ++ ys))
 stops-after a b xs ys h n w = n (subst (λ (f : ℕ → ℤ). WeightSumsFit f ys) (sym h.same) (fits_back (number_at a) xs ys w))
 
 pub stops-before : (f : ℕ → ℤ) (xs ys : List (ℕ × ℤ)) → ¬ (WeightSumsFit f xs) → ¬ (WeightSumsFit f (xs ++ ys))
 stops-before f xs ys n w = n (fits_front f xs ys w)
 
 -- one amount
-pub added_one : {X E : Type 0} (r : Result X E) (old new : List ℤ) (i : ℕ) (x y : ℤ) → y ≡ x → OnOk r (IsAdded old new i y) → OnOk r (AreWeightsAdded old new ((i, x) ∷ []))
+pub added_one : {X E : Type 0} (r : Result X E) (old new : List ℤ) (i : ℕ) (x y : ℤ) → y ≡ x → OnOk r (IsAdded old new i y)
+    → OnOk r (AreWeightsAdded old new ((i, x) ∷ []))
 added_one (Ok v) old new i x y e a = rw (← e) (record { fits = (a.fits, tt); same = a.same; complete = a.complete })
 added_one (Err v) old new i x y e a = tt
 
-pub one_stops : {X E : Type 0} (r : Result X E) (old : List ℤ) (i : ℕ) (x y : ℤ) → y ≡ x → OnErr r (¬ IsWithin (number_at old i +ℤ y)) → OnErr r (¬ WeightSumsFit (number_at old) ((i, x) ∷ []))
+pub one_stops : {X E : Type 0} (r : Result X E) (old : List ℤ) (i : ℕ) (x y : ℤ) → y ≡ x → OnErr r (¬ IsWithin (number_at old i +ℤ y))
+    → OnErr r (¬ WeightSumsFit (number_at old) ((i, x) ∷ []))
 one_stops (Ok v) old i x y e a = tt
 one_stops (Err v) old i x y e a = λ w. a (rw e w.0)
 
-split_each : (x : ℤ) (is : List ℕ) (k i : ℕ) → k < length is → i ≡ get_or is k i → for_each x is ≡ for_each x (take k is) ++ (i, x) ∷ for_each x (drop (k + 1) is)
+split_each : (x : ℤ) (is : List ℕ) (k i : ℕ) → k < length is → i ≡ get_or is k i
+    → for_each x is ≡ for_each x (take k is) ++ (i, x) ∷ for_each x (drop (k + 1) is)
 split_each x is k i h e = ap (for_each x) (sym (take-append-drop k is) ∙ ap (λ r. take k is ++ r) (drop_item is k i h e))
     ∙ map-append (λ i. (i, x)) (take k is) (i ∷ drop (k + 1) is)
 
-pub each-more : (x : ℤ) (is : List ℕ) (k i : ℕ) (a b c : List ℤ) → k < length is → i ≡ get_or is k i → AreWeightsAdded a b (for_each x (take k is)) → AreWeightsAdded b c ((i, x) ∷ []) → AreWeightsAdded a c (for_each x (take (k + 1) is))
-each-more x is k i a b c h e u v = subst (AreWeightsAdded a c) (sym (ap (for_each x) (take_more is k i h ∙ ap (λ y. take k is ++ y ∷ []) (sym e)) ∙ map-append (λ i. (i, x)) (take k is) (i ∷ [])))
+pub each-more : (x : ℤ) (is : List ℕ) (k i : ℕ) (a b c : List ℤ) → k < length is → i ≡ get_or is k i
+    → AreWeightsAdded a b (for_each x (take k is)) → AreWeightsAdded b c ((i, x) ∷ []) → AreWeightsAdded a c (for_each x (take (k + 1) is))
+each-more x is k i a b c h e u v = subst (AreWeightsAdded a c) (sym
+    (ap (for_each x) (take_more is k i h ∙ ap (λ y. take k is ++ y ∷ []) (sym e)) ∙ map-append (λ i. (i, x)) (take k is) (i ∷ [])))
     (added-append a b c (for_each x (take k is)) ((i, x) ∷ []) u v)
 
-pub each-stops : (x : ℤ) (is : List ℕ) (k i : ℕ) (a b : List ℤ) → k < length is → i ≡ get_or is k i → AreWeightsAdded a b (for_each x (take k is)) → ¬ (WeightSumsFit (number_at b) ((i, x) ∷ [])) → ¬ (WeightSumsFit (number_at a) (for_each x is))
+pub each-stops : (x : ℤ) (is : List ℕ) (k i : ℕ) (a b : List ℤ) → k < length is → i ≡ get_or is k i
+    → AreWeightsAdded a b (for_each x (take k is)) → ¬ (WeightSumsFit (number_at b) ((i, x) ∷ []))
+    → ¬ (WeightSumsFit (number_at a) (for_each x is))
 each-stops x is k i a b h e u n = subst (λ (ms : List (ℕ × ℤ)). ¬ (WeightSumsFit (number_at a) ms)) (sym (split_each x is k i h e))
     (stops-after a b (for_each x (take k is)) ((i, x) ∷ for_each x (drop (k + 1) is)) u (λ w. n (w.0, tt)))
 
 -- the numbers of some inequalities
-pub weights_by_number : (n : ℕ) (x : ℤ) (is : List ℕ) (es : List Elemental) → All (λ i. i < length (elementals n)) is → map (elemental_at n) is ≡ es → for_each x is ≡ each_weight n x es
+pub weights_by_number : (n : ℕ) (x : ℤ) (is : List ℕ) (es : List Elemental) → All (λ i. i < length (elementals n)) is
+    → map (elemental_at n) is ≡ es → for_each x is ≡ each_weight n x es
 weights_by_number n x is es a e = by_list is (every_of (λ i. i < length (elementals n)) is a) ∙ ap (each_weight n x) e
   where
     by_list : (is : List ℕ) → Every (λ i. i < length (elementals n)) is → for_each x is ≡ each_weight n x (map (elemental_at n) is)
@@ -84,9 +93,12 @@ pub less_found : (s t r : ℕ) → r + bit_and t s ≡ s → r ≡ set_differenc
 less_found s t r e = omega arith
 
 -- the three parts of a step of the way
-pub turn_parts : (n : ℕ) (x : ℤ) (a : ℕ) (d : Dependence) (u v w z : ℕ) → u ≡ set_difference d.to a → v ≡ set_difference a d.to → w ≡ bit_and a d.to → z ≡ set_difference w d.from
-    → (each_weight n x (mutual_expansion (members n u) (members n v) w) ++ each_weight n x (conditional_expansion n (members n z) d.from)) ++ (d.generator, signed_value (not d.negated) x) ∷ [] ≡ turn_moves n x (a, d)
-turn_parts n x a d u v w z eu ev ew ez = rw (ez, ew, eu, ev) (ap (λ y. (each_weight n x (mutual_expansion (members n (set_difference d.to a)) (members n (set_difference a d.to)) (bit_and a d.to))
+pub turn_parts : (n : ℕ) (x : ℤ) (a : ℕ) (d : Dependence) (u v w z : ℕ) → u ≡ set_difference d.to a → v ≡ set_difference a d.to
+    → w ≡ bit_and a d.to → z ≡ set_difference w d.from
+    → (each_weight n x (mutual_expansion (members n u) (members n v) w) ++ each_weight n x (conditional_expansion n (members n z) d.from))
+    ++ (d.generator, signed_value (not d.negated) x) ∷ [] ≡ turn_moves n x (a, d)
+turn_parts n x a d u v w z eu ev ew ez = rw (ez, ew, eu, ev) (ap
+    (λ y. (each_weight n x (mutual_expansion (members n (set_difference d.to a)) (members n (set_difference a d.to)) (bit_and a d.to))
     ++ each_weight n x (conditional_expansion n (members n (set_difference (bit_and a d.to) d.from)) d.from)) ++ (d.generator, y) ∷ []) (by_test d.negated))
   where
     by_test : (b : Bool) → signed_value (not b) x ≡ cond b x (neg_ℤ x)
@@ -95,13 +107,19 @@ turn_parts n x a d u v w z eu ev ew ez = rw (ez, ew, eu, ev) (ap (λ y. (each_we
 
 -- where a first, a second or a third part doesn't fit
 pub first_stops : (a : List ℤ) (xs ys zs ms : List (ℕ × ℤ)) → (xs ++ ys) ++ zs ≡ ms → ¬ (WeightSumsFit (number_at a) xs) → ¬ (WeightSumsFit (number_at a) ms)
-first_stops a xs ys zs ms e n = subst (λ (m : List (ℕ × ℤ)). ¬ (WeightSumsFit (number_at a) m)) e (stops-before (number_at a) (xs ++ ys) zs (stops-before (number_at a) xs ys n))
+first_stops a xs ys zs ms e n = subst (λ (m : List (ℕ × ℤ)). ¬ (WeightSumsFit (number_at a) m)) e
+    (stops-before (number_at a) (xs ++ ys) zs (stops-before (number_at a) xs ys n))
 
-pub second_stops : (a b : List ℤ) (xs ys zs ms : List (ℕ × ℤ)) → (xs ++ ys) ++ zs ≡ ms → AreWeightsAdded a b xs → ¬ (WeightSumsFit (number_at b) ys) → ¬ (WeightSumsFit (number_at a) ms)
-second_stops a b xs ys zs ms e h n = subst (λ (m : List (ℕ × ℤ)). ¬ (WeightSumsFit (number_at a) m)) e (stops-before (number_at a) (xs ++ ys) zs (stops-after a b xs ys h n))
+pub second_stops : (a b : List ℤ) (xs ys zs ms : List (ℕ × ℤ)) → (xs ++ ys) ++ zs ≡ ms → AreWeightsAdded a b xs
+    → ¬ (WeightSumsFit (number_at b) ys) → ¬ (WeightSumsFit (number_at a) ms)
+second_stops a b xs ys zs ms e h n = subst (λ (m : List (ℕ × ℤ)). ¬ (WeightSumsFit (number_at a) m)) e
+    (stops-before (number_at a) (xs ++ ys) zs (stops-after a b xs ys h n))
 
-pub third_stops : (a b c : List ℤ) (xs ys zs ms : List (ℕ × ℤ)) → (xs ++ ys) ++ zs ≡ ms → AreWeightsAdded a b xs → AreWeightsAdded b c ys → ¬ (WeightSumsFit (number_at c) zs) → ¬ (WeightSumsFit (number_at a) ms)
-third_stops a b c xs ys zs ms e h k n = subst (λ (m : List (ℕ × ℤ)). ¬ (WeightSumsFit (number_at a) m)) e (stops-after a c (xs ++ ys) zs (added-append a b c xs ys h k) n)
+pub third_stops : (a b c : List ℤ) (xs ys zs ms : List (ℕ × ℤ)) → (xs ++ ys) ++ zs ≡ ms → AreWeightsAdded a b xs → AreWeightsAdded b c ys
+    → ¬ (WeightSumsFit (number_at c) zs) → ¬ (WeightSumsFit (number_at a) ms)
+third_stops a b c xs ys zs ms e h k n = subst (λ (m : List (ℕ × ℤ)). ¬ (WeightSumsFit (number_at a) m)) e
+    (stops-after a c (xs ++ ys) zs (added-append a b c xs ys h k) n)
 
-pub all_added : (a b c d : List ℤ) (xs ys zs ms : List (ℕ × ℤ)) → (xs ++ ys) ++ zs ≡ ms → AreWeightsAdded a b xs → AreWeightsAdded b c ys → AreWeightsAdded c d zs → AreWeightsAdded a d ms
+pub all_added : (a b c d : List ℤ) (xs ys zs ms : List (ℕ × ℤ)) → (xs ++ ys) ++ zs ≡ ms → AreWeightsAdded a b xs → AreWeightsAdded b c ys
+    → AreWeightsAdded c d zs → AreWeightsAdded a d ms
 all_added a b c d xs ys zs ms e h k l = subst (AreWeightsAdded a d) e (added-append a c d (xs ++ ys) zs (added-append a b c xs ys h k) l)

@@ -32,9 +32,11 @@ member_differs b x i z o e = absurd (zero_is_not_one (bit_at b x) (bit_at b i) z
     zero_is_not_one : (u v : ℕ) → u ≡ 0 → v ≡ 1 → v ≡ u → ⊥
     zero_is_not_one u v p q r = omega arith
 
-variable_expansion_valid : (n x b count i c : ℕ) → i + count ≡ n → x < n → IsFilling n b i c → bit_at b x ≡ 0 → bit_at c x ≡ 0 → Every (IsElemental n) (variable_expansion x (filter (has_member b) (span i count)) c)
+variable_expansion_valid : (n x b count i c : ℕ) → i + count ≡ n → x < n → IsFilling n b i c → bit_at b x ≡ 0 → bit_at c x ≡ 0
+    → Every (IsElemental n) (variable_expansion x (filter (has_member b) (span i count)) c)
 variable_expansion_valid n x b zero i c e h f bx cx = tt
-variable_expansion_valid n x b (suc count) i c e h f bx cx = by_test (has_member b i) refl (λ d g z. variable_expansion_valid n x b count (i + 1) d (omega arith) h g bx z)
+variable_expansion_valid n x b (suc count) i c e h f bx cx = by_test (has_member b i) refl
+    (λ d g z. variable_expansion_valid n x b count (i + 1) d (omega arith) h g bx z)
   where
     rest : List ℕ
     rest = filter (has_member b) (span (i + 1) count)
@@ -45,9 +47,13 @@ variable_expansion_valid n x b (suc count) i c e h f bx cx = by_test (has_member
         let one : bit_at b i ≡ 1 = member_bit b i m in
         let lacks : bit_at c i ≡ 0 = f.without_later i (omega arith) one in
         let diff : i ≢ x = member_differs b x i bx one in
-        subst (λ (t : Bool). Every (IsElemental n) (variable_expansion x (cond t (i ∷ rest) rest) c)) (sym m)
-        (mutual_is_elemental n x i c h (omega arith) f.below cx lacks (λ q. diff (sym q)), ih (c + 2 ^ i) (filling-with n b i c (omega arith) one f) (with_other c i x lacks diff ∙ cx))
-    by_test false m ih = subst (λ (t : Bool). Every (IsElemental n) (variable_expansion x (cond t (i ∷ rest) rest) c)) (sym m) (ih c (filling-without n b i c f) cx)
+        subst (λ (t : Bool). Every (IsElemental n) (variable_expansion x (cond t (i ∷ rest) rest) c)) (sym m) (
+          mutual_is_elemental n x i c h (omega arith) f.below cx lacks (λ q. diff (sym q)),
+          ih (c + 2 ^ i)
+              (filling-with n b i c (omega arith) one f) (with_other c i x lacks diff ∙ cx),
+        )
+    by_test false m ih = subst (λ (t : Bool). Every (IsElemental n) (variable_expansion x (cond t (i ∷ rest) rest) c)) (sym m)
+        (ih c (filling-without n b i c f) cx)
 
 mutual_valid_from : (n a b count i c : ℕ) → i + count ≡ n → IsFilling n a i c → bit_and b c ≡ 0 → bit_and a b ≡ 0
     → Every (IsElemental n) (mutual_expansion (filter (has_member a) (span i count)) (members n b) c)
@@ -57,7 +63,8 @@ mutual_valid_from n a b (suc count) i c e f bc ab = by_test (has_member a i) ref
     rest : List ℕ
     rest = filter (has_member a) (span (i + 1) count)
 
-    by_test : (t : Bool) → has_member a i ≡ t → ((d : ℕ) → IsFilling n a (i + 1) d → bit_and b d ≡ 0 → Every (IsElemental n) (mutual_expansion rest (members n b) d))
+    by_test : (t : Bool) → has_member a i ≡ t → ((d : ℕ) → IsFilling n a (i + 1) d → bit_and b d ≡ 0
+        → Every (IsElemental n) (mutual_expansion rest (members n b) d))
         → Every (IsElemental n) (mutual_expansion (cond (has_member a i) (i ∷ rest) rest) (members n b) c)
     by_test true m ih =
         let one : bit_at a i ≡ 1 = member_bit a i m in
@@ -67,12 +74,15 @@ mutual_valid_from n a b (suc count) i c e f bc ab = by_test (has_member a i) ref
         (every-append (IsElemental n) (variable_expansion i (members n b) c) (mutual_expansion rest (members n b) (c + 2 ^ i))
         (variable_expansion_valid n i b n 0 c (omega arith) (omega arith) (filling-start n b c f.below bc) out lacks)
         (ih (c + 2 ^ i) (filling-with n a i c (omega arith) one f) (apart-with b c i bc out lacks)))
-    by_test false m ih = subst (λ (t : Bool). Every (IsElemental n) (mutual_expansion (cond t (i ∷ rest) rest) (members n b) c)) (sym m) (ih c (filling-without n a i c f) bc)
+    by_test false m ih = subst (λ (t : Bool). Every (IsElemental n) (mutual_expansion (cond t (i ∷ rest) rest) (members n b) c)) (sym m)
+        (ih c (filling-without n a i c f) bc)
 
-pub mutual_valid : (n a b c : ℕ) → c < 2 ^ n → bit_and a c ≡ 0 → bit_and b c ≡ 0 → bit_and a b ≡ 0 → Every (IsElemental n) (mutual_expansion (members n a) (members n b) c)
+pub mutual_valid : (n a b c : ℕ) → c < 2 ^ n → bit_and a c ≡ 0 → bit_and b c ≡ 0 → bit_and a b ≡ 0
+    → Every (IsElemental n) (mutual_expansion (members n a) (members n b) c)
 mutual_valid n a b c l ac bc ab = mutual_valid_from n a b n 0 c (omega arith) (filling-start n a c l ac) bc ab
 
-conditional_valid_from : (n a count i c : ℕ) → i + count ≡ n → IsFilling n a i c → Every (IsElemental n) (conditional_expansion n (filter (has_member a) (span i count)) c)
+conditional_valid_from : (n a count i c : ℕ) → i + count ≡ n → IsFilling n a i c
+    → Every (IsElemental n) (conditional_expansion n (filter (has_member a) (span i count)) c)
 conditional_valid_from n a zero i c e f = tt
 conditional_valid_from n a (suc count) i c e f = by_test (has_member a i) refl (λ d g. conditional_valid_from n a count (i + 1) d (omega arith) g)
   where
@@ -90,10 +100,12 @@ conditional_valid_from n a (suc count) i c e f = by_test (has_member a i) refl (
         subst (λ (t : Bool). Every (IsElemental n) (conditional_expansion n (cond t (i ∷ rest) rest) c)) (sym m) (
           omega arith,
           every-append (IsElemental n) (variable_expansion i (members n o) c) (conditional_expansion n rest (c + 2 ^ i))
-              (variable_expansion_valid n i o n 0 c (omega arith) (omega arith) (filling-start n o c f.below (apart-less o c i lacks apart)) (not_both (c + 2 ^ i) o i (apart-comm o (c + 2 ^ i) apart) (with_same c i lacks)) lacks)
+              (variable_expansion_valid n i o n 0 c (omega arith) (omega arith) (filling-start n o c f.below (apart-less o c i lacks apart))
+              (not_both (c + 2 ^ i) o i (apart-comm o (c + 2 ^ i) apart) (with_same c i lacks)) lacks)
               (ih (c + 2 ^ i) (filling-with n a i c (omega arith) one f)),
         )
-    by_test false m ih = subst (λ (t : Bool). Every (IsElemental n) (conditional_expansion n (cond t (i ∷ rest) rest) c)) (sym m) (ih c (filling-without n a i c f))
+    by_test false m ih = subst (λ (t : Bool). Every (IsElemental n) (conditional_expansion n (cond t (i ∷ rest) rest) c)) (sym m)
+        (ih c (filling-without n a i c f))
 
 pub conditional_valid : (n a k : ℕ) → k < 2 ^ n → bit_and a k ≡ 0 → Every (IsElemental n) (conditional_expansion n (members n a) k)
 conditional_valid n a k l ak = conditional_valid_from n a n 0 k (omega arith) (filling-start n a k l ak)
@@ -104,4 +116,5 @@ back_listed n [] v = refl
 back_listed n (e ∷ es) v = Rattle.std.proofs.Common.ap₂ (λ x xs. x ∷ xs) (at_index n e v.0).1 (back_listed n es v.1)
 
 pub numbers_in_list : (n : ℕ) (es : List Elemental) → Every (IsElemental n) es → Every (λ i. i < length (elementals n)) (map (elemental_index n) es)
-numbers_in_list n es v = every-map (λ i. i < length (elementals n)) (elemental_index n) es (every-same (IsElemental n) (λ e. elemental_index n e < length (elementals n)) es (λ e w. (at_index n e w).0) v)
+numbers_in_list n es v = every-map (λ i. i < length (elementals n)) (elemental_index n) es
+    (every-same (IsElemental n) (λ e. elemental_index n e < length (elementals n)) es (λ e w. (at_index n e w).0) v)

@@ -1,7 +1,7 @@
 -- The input and the result of a lift.
 use Rattle.std.specs.Prelude.{◌≡◌, ◌≢◌, ℕ, ◌<◌, ◌+◌, ℤ, pos, true, ◌-ℤ◌, ◌*ℤ◌, ◌≤◌, List, [], ◌∷◌, All}
 use Rattle.it_number.specs.Limit.{IsWithin}
-use Rattle.it_space.specs.Problems.{ProblemView}
+use Rattle.it_problems.specs.Problems.{ProblemView}
 use Rattle.it_space.specs.Answers.{CertificateView}
 use Rattle.it_space.specs.Rows.{Terms, coefficient, value}
 use Rattle.it_space.specs.Spaces.{size_of}

@@ -1,6 +1,6 @@
 -- The dependences that are read from a problem are as a lift requires them.
 use Rattle.std.specs.Prelude.{◌≡◌}
-use Rattle.it_space.specs.Problems.{ProblemView, IsProblem}
+use Rattle.it_problems.specs.Problems.{ProblemView, IsProblem}
 use Rattle.it_closure.specs.DependencesViews.{DependencesView}
 use Rattle.it_closure.specs.Reading.{dependences_of}
 use Rattle.it_lift.specs.LiftedCertificates.{AreDependencesOf}

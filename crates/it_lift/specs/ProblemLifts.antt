@@ -2,7 +2,7 @@
 use Rattle.std.specs.Prelude.{ℕ, ◌-◌, ◌^◌, ℤ, List, flat_map, Result, OkIff}
 use Rattle.it_fraction.specs.declared.fraction.Wide.{Wide}
 use Rattle.it_space.specs.declared.answers.Certificate.{Certificate}
-use Rattle.it_space.specs.declared.problems.Problem.{Problem}
+use Rattle.it_problems.specs.declared.problems.Problem.{Problem}
 use Rattle.it_space.specs.Answers.{certificate_view}
 use Rattle.it_space.specs.Rows.{Terms, value, one_at}
 use Rattle.it_space.specs.Sums.{number_at}

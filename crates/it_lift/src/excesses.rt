@@ -11,7 +11,8 @@ ghost use Rattle.it_lift.specs.ProblemLifts.{coefficients_at, excess_at, Excesse
 use it_closure::Dependences;
 use it_elemental::coefficient_at;
 use it_fraction::{Wide, difference, signed_product, sum};
-use it_space::{Certificate, Problem, Row, VarSet};
+use it_problems::Problem;
+use it_space::{Certificate, Row, VarSet};
 
 /// The excess at `set`, which isn't empty: the scale times the target's coefficient, less the weights times the generators'
 /// coefficients. `Wide` if a product or a partial sum passes the limit.

@@ -14,7 +14,8 @@ use crate::moves::add_moves;
 use crate::sums::WeightSums;
 use it_closure::Dependences;
 use it_elemental::count;
-use it_space::{Certificate, Problem, Row, RowFault, VarSet};
+use it_problems::Problem;
+use it_space::{Certificate, Row, RowFault, VarSet};
 use std::alloc::Global;
 
 /// The certificate over all sets that `collapsed`, a certificate over closed sets, represents: the excess at each set is moved to its

@@ -8,6 +8,7 @@ ghost use Rattle.it_closure.specs.Closures.{way};
 ghost use Rattle.it_closure.specs.Collapse.{AreDependences};
 ghost use Rattle.it_lift.specs.Lifts.{each_weight, turn_moves, moves_at};
 ghost use Rattle.it_lift.specs.Sums.{AreWeightsAdded, AreSumsWide};
+ghost use Rattle.it_space.specs.Spaces.{most_variables};
 
 use crate::sums::WeightSums;
 use it_closure::{Dependence, Dependences, first_open};
@@ -26,7 +27,7 @@ fn add_mutual(
     amount: u128,
 ) -> Result<(), RowFault>
     requires some { 1 ≤ n }
-    requires few { n ≤ 10 }
+    requires few { n ≤ most_variables }
     requires a_below { a < 2 ^ n }
     requires b_below { b < 2 ^ n }
     requires c_below { c < 2 ^ n }
@@ -53,7 +54,7 @@ fn add_conditional(
     amount: u128,
 ) -> Result<(), RowFault>
     requires some { 1 ≤ n }
-    requires few { n ≤ 10 }
+    requires few { n ≤ most_variables }
     requires a_below { a < 2 ^ n }
     requires k_below { k < 2 ^ n }
     requires disjoint { bit_and a k ≡ 0 }
@@ -77,7 +78,7 @@ fn add_turn(
     amount: u128,
 ) -> Result<(), RowFault>
     requires some { 1 ≤ n }
-    requires few { n ≤ 10 }
+    requires few { n ≤ most_variables }
     requires below { set < 2 ^ n }
     requires to_below { by.to < 2 ^ n }
     requires known { IsInside by.from set }
@@ -113,7 +114,7 @@ fn add_way(
     amount: u128,
 ) -> Result<(), RowFault>
     requires some { 1 ≤ n }
-    requires few { n ≤ 10 }
+    requires few { n ≤ most_variables }
     requires below { set < 2 ^ n }
     requires dependences { AreDependences n list.now }
     requires places { All (λ d. d.generator < length sums.old) list.now }

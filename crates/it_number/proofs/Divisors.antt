@@ -13,7 +13,8 @@ gcd_within_is : (k a b : ℕ) → b < k → IsGcd a b (gcd_within k a b)
 unfolding gcd_within
 gcd_within_is zero a b h = absurd (omega arith)
 gcd_within_is (suc k) a zero h = IsGcd-from_zero a zero refl
-gcd_within_is (suc k) a (suc b) h = IsGcd-from_mod a (suc b) (gcd_within k (suc b) (a % suc b)) (gcd_within_is k (suc b) (a % suc b) (omega (arith, mod-lt a {m = suc b} (omega arith))))
+gcd_within_is (suc k) a (suc b) h = IsGcd-from_mod a (suc b) (gcd_within k (suc b) (a % suc b))
+    (gcd_within_is k (suc b) (a % suc b) (omega (arith, mod-lt a {m = suc b} (omega arith))))
 
 pub gcd_is : (a b : ℕ) → IsGcd a b (gcd a b)
 unfolding gcd
@@ -34,7 +35,8 @@ scale (suc k) a zero c g h e = rw (same_from_IsGcd a zero g a e (IsGcd-from_zero
 scale (suc k) a (suc b) zero g h e = simp mul-zero (IsGcd-from_zero zero zero refl)
 scale (suc k) a (suc b) (suc c) g h e =
     IsGcd-from_mod (a * suc c) (suc b * suc c) (g * suc c)
-    (rw (mul-mod a (suc b) (suc c) (omega arith) (omega arith)) (scale k (suc b) (a % suc b) (suc c) g (omega (arith, mod-lt a {m = suc b} (omega arith))) (to_mod a (suc b) g e)))
+    (rw (mul-mod a (suc b) (suc c) (omega arith) (omega arith)) (scale k (suc b) (a % suc b) (suc c) g
+    (omega (arith, mod-lt a {m = suc b} (omega arith))) (to_mod a (suc b) g e)))
 
 -- Euclid's lemma
 pub euclid : (a b c : ℕ) → IsGcd a b 1 → a ∣ b * c → a ∣ c
@@ -53,7 +55,8 @@ coprime_rest a b g pos_g e = (
   one-dvd (a / g),
   one-dvd (b / g),
   λ d p q. divides_one d
-      (e.2 (d * g) (subst (λ n. d * g ∣ n) (div-mul_cancel g e.0) (mul-dvd-mul_right d p g)) (subst (λ n. d * g ∣ n) (div-mul_cancel g e.1) (mul-dvd-mul_right d q g))),
+      (e.2 (d * g) (subst (λ n. d * g ∣ n) (div-mul_cancel g e.0) (mul-dvd-mul_right d p g))
+      (subst (λ n. d * g ∣ n) (div-mul_cancel g e.1) (mul-dvd-mul_right d q g))),
 )
   where
     divides_one : (d : ℕ) → d * g ∣ g → d ∣ 1
@@ -62,7 +65,8 @@ coprime_rest a b g pos_g e = (
 -- fractions in lowest terms that are equal across have the same parts
 pub lowest_unique : (a b c d : ℕ) → 0 < b → 0 < d → IsGcd a b 1 → IsGcd c d 1 → a * d ≡ c * b → b ≡ d
 lowest_unique a b c d hb hd g h e =
-    dvd_antisymm (euclid b a d (IsGcd-swap a b 1 g) (subst (λ n. b ∣ n) (sym e) (dvd-mul_left b c))) (euclid d c b (IsGcd-swap c d 1 h) (subst (λ n. d ∣ n) e (dvd-mul_left d a)))
+    dvd_antisymm (euclid b a d (IsGcd-swap a b 1 g) (subst (λ n. b ∣ n) (sym e) (dvd-mul_left b c)))
+    (euclid d c b (IsGcd-swap c d 1 h) (subst (λ n. d ∣ n) e (dvd-mul_left d a)))
 
 pub IsGcd-pos : (a b g : ℕ) → 0 < b → IsGcd a b g → 0 < g
 IsGcd-pos a b g h e = pos_of_dvd_of_pos e.1 h
@@ -115,7 +119,8 @@ product_over_left a b g h = ap (λ n. n / g) (mul_comm a b) ∙ product_over b a
 lcm-least : (a b g n : ℕ) → 0 < g → IsGcd a b g → a ∣ n → b ∣ n → a * b / g ∣ n
 lcm-least a b g n h e p q =
     let shared : (a / g * (n / a)) * g ≡ n = swap_last_factors (a / g) (n / a) g ∙ ap (λ m. m * (n / a)) (div-mul_cancel g e.0) ∙ mul-div_cancel' a p in
-    let rest : b / g ∣ a / g * (n / a) = dvd_of_mul-dvd-mul_right {k = g} (b / g) h (subst (λ m. b / g * g ∣ m) (sym shared) (subst (λ m. m ∣ n) (sym (div-mul_cancel g e.1)) q)) in
+    let rest : b / g ∣ a / g * (n / a) = dvd_of_mul-dvd-mul_right {k = g} (b / g) h
+    (subst (λ m. b / g * g ∣ m) (sym shared) (subst (λ m. m ∣ n) (sym (div-mul_cancel g e.1)) q)) in
     let factor : b / g ∣ n / a = euclid (b / g) (a / g) (n / a) (IsGcd-swap (a / g) (b / g) 1 (coprime_rest a b g h e)) rest in
     subst (λ m. m ∣ n) (sym (product_over a b g e.1)) (subst (λ m. a * (b / g) ∣ m) (mul-div_cancel' a p) (mul-dvd-mul_left (b / g) a factor))
   where

@@ -37,10 +37,26 @@ pub add-mul_is : (a b c : ℤ) → up ((a +ℤ b) *ℤ c) + down (a *ℤ c) + do
 add-mul_is a b c = omega (arith, ints, add-mul a b c)
 
 pub mul-neg_is : (a b : ℤ) → (up (a *ℤ neg_ℤ b) ≡ down (a *ℤ b)) × (down (a *ℤ neg_ℤ b) ≡ up (a *ℤ b))
-mul-neg_is a b = omega (arith, ints, ap (λ n. up a * n) (neg_is b).0, ap (λ n. down a * n) (neg_is b).0, ap (λ n. up a * n) (neg_is b).1, ap (λ n. down a * n) (neg_is b).1)
+mul-neg_is a b = omega (
+  arith,
+  ints,
+  ap (λ n. up a * n) (neg_is b).0,
+  ap (λ n. down a * n) (neg_is b).0,
+  ap (λ n. up a * n) (neg_is b).1,
+  ap
+      (λ n. down a * n) (neg_is b).1,
+)
 
 pub neg-mul_is : (a b : ℤ) → (up (neg_ℤ a *ℤ b) ≡ down (a *ℤ b)) × (down (neg_ℤ a *ℤ b) ≡ up (a *ℤ b))
-neg-mul_is a b = omega (arith, ints, ap (λ n. n * up b) (neg_is a).0, ap (λ n. n * down b) (neg_is a).0, ap (λ n. n * up b) (neg_is a).1, ap (λ n. n * down b) (neg_is a).1)
+neg-mul_is a b = omega (
+  arith,
+  ints,
+  ap (λ n. n * up b) (neg_is a).0,
+  ap (λ n. n * down b) (neg_is a).0,
+  ap (λ n. n * up b) (neg_is a).1,
+  ap
+      (λ n. n * down b) (neg_is a).1,
+)
 
 pub assoc_is : (a b c : ℤ) → (up ((a *ℤ b) *ℤ c) ≡ up (a *ℤ (b *ℤ c))) × (down ((a *ℤ b) *ℤ c) ≡ down (a *ℤ (b *ℤ c)))
 assoc_is a b c = same_out _ _ (mul_assoc a b c)
@@ -51,7 +67,31 @@ comm_is a b = same_out _ _ (mul_comm a b)
 pub left_comm_is : (a b c : ℤ) → (up (a *ℤ (b *ℤ c)) ≡ up (b *ℤ (a *ℤ c))) × (down (a *ℤ (b *ℤ c)) ≡ down (b *ℤ (a *ℤ c)))
 left_comm_is a b c = same_out _ _ (sym (mul_assoc a b c) ∙ ap (λ n. n *ℤ c) (mul_comm a b) ∙ mul_assoc b a c)
 
-pub ruleset zlin = (fits_out, same_out, Apart-out, lt_out, le_out, lt_T, le_T, lt_not, le_not, lt-true, lt-false, le-true, le-false, true-lt, false-lt, true-le, false-le, fits_in, same_in, below_in, at_most_in, sum_is_lem, neg_is)
+pub ruleset zlin = (
+  fits_out,
+  same_out,
+  Apart-out,
+  lt_out,
+  le_out,
+  lt_T,
+  le_T,
+  lt_not,
+  le_not,
+  lt-true,
+  lt-false,
+  le-true,
+  le-false,
+  true-lt,
+  false-lt,
+  true-le,
+  false-le,
+  fits_in,
+  same_in,
+  below_in,
+  at_most_in,
+  sum_is_lem,
+  neg_is,
+)
 
 pub ruleset zring = (zlin, mul-add_is, add-mul_is, mul-neg_is, neg-mul_is, assoc_is, comm_is, left_comm_is)
 

@@ -31,4 +31,5 @@ rest_pos n d =
 
 pub rest_lowest : (n : ℤ) (d : ℕ) → IsGcd (unsigned_abs (int_quotient n (gcd (unsigned_abs n) (suc d)))) (suc d / gcd (unsigned_abs n) (suc d)) 1
 rest_lowest n d = rw (abs-over n (gcd (unsigned_abs n) (suc d)))
-    (coprime_rest (unsigned_abs n) (suc d) (gcd (unsigned_abs n) (suc d)) (IsGcd-pos (unsigned_abs n) (suc d) _ (omega arith) (gcd_is (unsigned_abs n) (suc d))) (gcd_is (unsigned_abs n) (suc d)))
+    (coprime_rest (unsigned_abs n) (suc d) (gcd (unsigned_abs n) (suc d))
+    (IsGcd-pos (unsigned_abs n) (suc d) _ (omega arith) (gcd_is (unsigned_abs n) (suc d))) (gcd_is (unsigned_abs n) (suc d)))

@@ -40,7 +40,8 @@ add-mul R a b c = R.mul_comm (R.add a b) c ∙ R.mul-add c a b ∙ ap₂ R.add (
 
 pub neg-add : {A : Type 0} (R : Ring A) (a b : A) → R.neg (R.add a b) ≡ R.add (R.neg a) (R.neg b)
 neg-add R a b = sym (neg_unique R (R.add a b) (R.add (R.neg a) (R.neg b))
-    (R.add_assoc a b (R.add (R.neg a) (R.neg b)) ∙ ap (R.add a) (add_left_comm R b (R.neg a) (R.neg b) ∙ ap (R.add (R.neg a)) (R.add-neg b) ∙ add-null R (R.neg a)) ∙ R.add-neg a))
+    (R.add_assoc a b (R.add (R.neg a) (R.neg b)) ∙ ap (R.add a) (add_left_comm R b (R.neg a) (R.neg b) ∙ ap (R.add (R.neg a)) (R.add-neg b)
+    ∙ add-null R (R.neg a)) ∙ R.add-neg a))
 
 pub neg-null : {A : Type 0} (R : Ring A) → R.neg R.null ≡ R.null
 neg-null R = sym (neg_unique R R.null R.null (R.null-add R.null))
@@ -149,13 +150,15 @@ put_is : {A : Type 0} (R : Ring A) (ρ : List A) (i : ℕ) (m : List ℕ) → mo
 put_is R ρ i [] = refl
 put_is R ρ i (j ∷ m) = by_test (ltb j i) (put_is R ρ i m)
   where
-    by_test : (b : Bool) → mono R ρ (put i m) ≡ R.mul (get_or ρ i R.null) (mono R ρ m) → mono R ρ (cond b (j ∷ put i m) (i ∷ j ∷ m)) ≡ R.mul (get_or ρ i R.null) (R.mul (get_or ρ j R.null) (mono R ρ m))
+    by_test : (b : Bool) → mono R ρ (put i m) ≡ R.mul (get_or ρ i R.null) (mono R ρ m)
+        → mono R ρ (cond b (j ∷ put i m) (i ∷ j ∷ m)) ≡ R.mul (get_or ρ i R.null) (R.mul (get_or ρ j R.null) (mono R ρ m))
     by_test true ih = ap (R.mul (get_or ρ j R.null)) ih ∙ mul_left_comm R (get_or ρ j R.null) (get_or ρ i R.null) (mono R ρ m)
     by_test false ih = refl
 
 product_is : {A : Type 0} (R : Ring A) (ρ : List A) (m n : List ℕ) → mono R ρ (product m n) ≡ R.mul (mono R ρ m) (mono R ρ n)
 product_is R ρ [] n = sym (R.unit-mul (mono R ρ n))
-product_is R ρ (i ∷ m) n = put_is R ρ i (product m n) ∙ ap (R.mul (get_or ρ i R.null)) (product_is R ρ m n) ∙ sym (R.mul_assoc (get_or ρ i R.null) (mono R ρ m) (mono R ρ n))
+product_is R ρ (i ∷ m) n = put_is R ρ i (product m n) ∙ ap (R.mul (get_or ρ i R.null)) (product_is R ρ m n)
+    ∙ sym (R.mul_assoc (get_or ρ i R.null) (mono R ρ m) (mono R ρ n))
 
 opposites_cancel : {A : Type 0} (R : Ring A) (s t : Bool) (x y : A) → T (signs_differ s t) → x ≡ R.add (with_sign R s y) (R.add (with_sign R t y) x)
 opposites_cancel R true true x y h = elim h [ ]
@@ -163,23 +166,34 @@ opposites_cancel R false false x y h = elim h [ ]
 opposites_cancel R true false x y h = sym (sym (R.add_assoc (R.neg y) y x) ∙ ap (λ z. R.add z x) (R.add_comm (R.neg y) y ∙ R.add-neg y) ∙ R.null-add x)
 opposites_cancel R false true x y h = sym (sym (R.add_assoc y (R.neg y) x) ∙ ap (λ z. R.add z x) (R.add-neg y) ∙ R.null-add x)
 
-insert_is : {A : Type 0} (R : Ring A) (ρ : List A) (s : Bool) (m : List ℕ) (p : List Term) → poly R ρ (insert s m p) ≡ R.add (with_sign R s (mono R ρ m)) (poly R ρ p)
+insert_is : {A : Type 0} (R : Ring A) (ρ : List A) (s : Bool) (m : List ℕ) (p : List Term)
+    → poly R ρ (insert s m p) ≡ R.add (with_sign R s (mono R ρ m)) (poly R ρ p)
 insert_is R ρ s m [] = refl
 insert_is R ρ s m (term t n ∷ p) = by_test (list_eqb m n) (signs_differ s t) (is_before m n) (λ h. list_eqb_is m n h) (λ h. h)
     (ap (R.add (with_sign R t (mono R ρ n))) (insert_is R ρ s m p) ∙ add_left_comm R (with_sign R t (mono R ρ n)) (with_sign R s (mono R ρ m)) (poly R ρ p))
   where
-    by_order : (b : Bool) → R.add (with_sign R t (mono R ρ n)) (poly R ρ (insert s m p)) ≡ R.add (with_sign R s (mono R ρ m)) (R.add (with_sign R t (mono R ρ n)) (poly R ρ p)) → poly R ρ (cond b (term s m ∷ term t n ∷ p) (term t n ∷ insert s m p)) ≡ R.add (with_sign R s (mono R ρ m)) (R.add (with_sign R t (mono R ρ n)) (poly R ρ p))
+    by_order : (b : Bool) → R.add (with_sign R t (mono R ρ n)) (poly R ρ (insert s m p))
+        ≡ R.add (with_sign R s (mono R ρ m)) (R.add (with_sign R t (mono R ρ n)) (poly R ρ p))
+        → poly R ρ (cond b (term s m ∷ term t n ∷ p) (term t n ∷ insert s m p))
+        ≡ R.add (with_sign R s (mono R ρ m)) (R.add (with_sign R t (mono R ρ n)) (poly R ρ p))
     by_order true ih = refl
     by_order false ih = ih
 
-    by_test : (a d b : Bool) → (T a → m ≡ n) → (T d → T (signs_differ s t)) → R.add (with_sign R t (mono R ρ n)) (poly R ρ (insert s m p)) ≡ R.add (with_sign R s (mono R ρ m)) (R.add (with_sign R t (mono R ρ n)) (poly R ρ p)) → poly R ρ (cond (a && d) p (cond b (term s m ∷ term t n ∷ p) (term t n ∷ insert s m p))) ≡ R.add (with_sign R s (mono R ρ m)) (R.add (with_sign R t (mono R ρ n)) (poly R ρ p))
-    by_test true true b e f ih = subst (λ (k : List ℕ). poly R ρ p ≡ R.add (with_sign R s (mono R ρ m)) (R.add (with_sign R t (mono R ρ k)) (poly R ρ p))) (e tt) (opposites_cancel R s t (poly R ρ p) (mono R ρ m) (f tt))
+    by_test : (a d b : Bool) → (T a → m ≡ n) → (T d → T (signs_differ s t))
+        → R.add (with_sign R t (mono R ρ n)) (poly R ρ (insert s m p))
+        ≡ R.add (with_sign R s (mono R ρ m)) (R.add (with_sign R t (mono R ρ n)) (poly R ρ p))
+        → poly R ρ (cond (a && d) p (cond b (term s m ∷ term t n ∷ p) (term t n ∷ insert s m p)))
+        ≡ R.add (with_sign R s (mono R ρ m)) (R.add (with_sign R t (mono R ρ n)) (poly R ρ p))
+    by_test true true b e f ih = subst (λ (k : List ℕ). poly R ρ p
+        ≡ R.add (with_sign R s (mono R ρ m)) (R.add (with_sign R t (mono R ρ k)) (poly R ρ p))) (e tt)
+        (opposites_cancel R s t (poly R ρ p) (mono R ρ m) (f tt))
     by_test true false b e f ih = by_order b ih
     by_test false d b e f ih = by_order b ih
 
 sum_is : {A : Type 0} (R : Ring A) (ρ : List A) (p q : List Term) → poly R ρ (sum_of p q) ≡ R.add (poly R ρ p) (poly R ρ q)
 sum_is R ρ [] q = sym (R.null-add (poly R ρ q))
-sum_is R ρ (term s m ∷ p) q = insert_is R ρ s m (sum_of p q) ∙ ap (R.add (with_sign R s (mono R ρ m))) (sum_is R ρ p q) ∙ sym (R.add_assoc (with_sign R s (mono R ρ m)) (poly R ρ p) (poly R ρ q))
+sum_is R ρ (term s m ∷ p) q = insert_is R ρ s m (sum_of p q) ∙ ap (R.add (with_sign R s (mono R ρ m))) (sum_is R ρ p q)
+    ∙ sym (R.add_assoc (with_sign R s (mono R ρ m)) (poly R ρ p) (poly R ρ q))
 
 signs : {A : Type 0} (R : Ring A) (s t : Bool) (x y : A) → with_sign R (signs_differ s t) (R.mul x y) ≡ R.mul (with_sign R s x) (with_sign R t y)
 signs R true true x y = sym (neg-mul R x (R.neg y) ∙ ap R.neg (mul-neg R x y) ∙ neg-neg R (R.mul x y))
@@ -187,7 +201,8 @@ signs R true false x y = sym (neg-mul R x y)
 signs R false true x y = sym (mul-neg R x y)
 signs R false false x y = refl
 
-scaled_is : {A : Type 0} (R : Ring A) (ρ : List A) (s : Bool) (m : List ℕ) (p : List Term) → poly R ρ (times_term s m p) ≡ R.mul (with_sign R s (mono R ρ m)) (poly R ρ p)
+scaled_is : {A : Type 0} (R : Ring A) (ρ : List A) (s : Bool) (m : List ℕ) (p : List Term)
+    → poly R ρ (times_term s m p) ≡ R.mul (with_sign R s (mono R ρ m)) (poly R ρ p)
 scaled_is R ρ s m [] = sym (mul-null R (with_sign R s (mono R ρ m)))
 scaled_is R ρ s m (term t n ∷ p) =
     insert_is R ρ (signs_differ s t) (product m n) (times_term s m p)

@@ -28,8 +28,11 @@ apart_one a c b b' d' ab bb bd = (
   one-dvd (unsigned_abs (a *ℤ pos d' +ℤ c *ℤ pos b')),
   one-dvd b',
   λ k p q.
-      let left : k ∣ unsigned_abs (a *ℤ pos d') = divides_rest_left k (a *ℤ pos d') (c *ℤ pos b') p (subst (λ n. k ∣ n) (sym (unsigned_abs-mul c (pos b'))) (dvd-mul_left_of_dvd k q (unsigned_abs c))) in
-      let kd : k ∣ d' = euclid k (unsigned_abs a) d' (IsGcd-swap (unsigned_abs a) k 1 (coprime_below (unsigned_abs a) b (unsigned_abs a) k ab (dvd_refl (unsigned_abs a)) (dvd_trans k q bb))) (subst (λ n. k ∣ n) (unsigned_abs-mul a (pos d')) left) in
+      let left : k ∣ unsigned_abs (a *ℤ pos d') = divides_rest_left k (a *ℤ pos d') (c *ℤ pos b') p
+      (subst (λ n. k ∣ n) (sym (unsigned_abs-mul c (pos b'))) (dvd-mul_left_of_dvd k q (unsigned_abs c))) in
+      let kd : k ∣ d' = euclid k (unsigned_abs a) d' (IsGcd-swap (unsigned_abs a) k 1
+      (coprime_below (unsigned_abs a) b (unsigned_abs a) k ab (dvd_refl (unsigned_abs a)) (dvd_trans k q bb)))
+      (subst (λ n. k ∣ n) (unsigned_abs-mul a (pos d')) left) in
       bd.2 k q kd,
 )
 

@@ -3,7 +3,8 @@ ghost use Rattle.std.specs.Prelude.{◌≤◌, ◌^◌, length};
 ghost use Rattle.it_space.specs.Spaces.{IsSpace};
 
 use it_columns::opposite_row;
-use it_space::{Constraint, Kind, Row, Space};
+use it_problems::{Constraint, Kind};
+use it_space::{Row, Space};
 use std::alloc::{AllocError, Global};
 
 /// A constraint by its number among a problem's, with its row negated or not.

@@ -3,13 +3,14 @@ ghost use Rattle.std.specs.Prelude.{◌≤◌, All, IfOk, IfSome};
 ghost use Rattle.std.specs.Bool.{OnTrue};
 ghost use Rattle.it_space.specs.Answers.{certificate_view};
 ghost use Rattle.it_space.specs.Rows.{IsOver};
-ghost use Rattle.it_space.specs.Spaces.{size_of};
+ghost use Rattle.it_space.specs.Spaces.{size_of, most_variables};
 ghost use Rattle.it_origins.specs.Origins.{IsOfConstraint, IsOrigin};
 
 use crate::search::{Choice, short_sum};
 use it_check::{Verdict, check_yes};
 use it_elemental::count;
-use it_space::{Certificate, Problem, Row};
+use it_problems::Problem;
+use it_space::{Certificate, Row};
 use std::alloc::{AllocError, Global};
 
 /// The certificate of a sum of constraints, numbered after the `elementals` elemental inequalities; `None` if a number of it is too
@@ -45,7 +46,7 @@ fn certificate_of(
 /// Whether each weight is that of a constraint, and isn't 0.
 fn are_of_constraints(weights: &[(u32, i128)], variables: u8) -> bool
     requires some { 1 ≤ variables }
-    requires few { variables ≤ 10 }
+    requires few { variables ≤ most_variables }
     ensures { OnTrue result (All (IsOfConstraint variables) weights.now) }
 {
     let elementals = count(variables);

@@ -2,7 +2,8 @@
 
 use crate::columns::{Column, all_columns, rows_of, used_coordinates};
 use crate::sums::{ColumnSum, column_sum};
-use it_space::{Problem, Row};
+use it_problems::Problem;
+use it_space::Row;
 use std::alloc::{AllocError, Global};
 
 /// Shorter sums are searched for if there are at most this many columns: constraints, and negated equations.

@@ -1,9 +1,9 @@
 -- The search round by round. No public clause cites this module.
 use Rattle.std.specs.Prelude.{◌≡◌, ℕ, suc, ◌+◌, ◌^◌, ◌≤◌, ℤ, List, [], ◌∷◌, ◌++◌, map, length, All, Bool}
 use Rattle.std.specs.Global.{Vec}
-use Rattle.it_space.specs.declared.problems.System.{System}
+use Rattle.it_problems.specs.declared.problems.System.{System}
 use Rattle.it_space.specs.Answers.{certificate_view}
-use Rattle.it_space.specs.Problems.{ProblemView, IsSystem}
+use Rattle.it_problems.specs.Problems.{ProblemView, IsSystem}
 use Rattle.it_space.specs.Rows.{Terms}
 use Rattle.it_space.specs.Spaces.{size_of}
 use Rattle.it_eliminate.specs.Projections.{LacksCoordinate}

@@ -1,8 +1,8 @@
 -- Laws of bounds and of searches.
 use Rattle.std.specs.Prelude.{◌≡◌, ◌↔◌, ℕ, ◌+◌, ◌^◌, ◌≤◌, ◌<◌, ℤ, List, All, Contains, false}
 use Rattle.it_space.specs.Answers.{CertificateView}
-use Rattle.it_space.specs.Problems.{ProblemView, IsProblem}
-use Rattle.it_space.specs.Rows.{Terms, IsOver}
+use Rattle.it_problems.specs.Problems.{ProblemView, IsProblem}
+use Rattle.it_space.specs.Rows.{Terms, IsOver, most_system_rows}
 use Rattle.it_space.specs.Spaces.{size_of}
 use Rattle.it_eliminate.specs.Projections.{IsPointOf}
 use Rattle.it_hull.specs.Hulls.{IsAttained}
@@ -23,7 +23,7 @@ pub record IsSearch (s : Search) : Type 0 where
   pub spare : s.spare < s.problem.space.rates
   pub away : ¬ (Contains s.kept (2 ^ s.problem.space.variables + s.spare))
   pub rates : All (λ c. (2 ^ s.problem.space.variables ≤ c) × (c ≤ size_of s.problem.space)) s.kept
-  pub few_rows : s.limits.rows ≤ 65535
+  pub few_rows : s.limits.rows ≤ most_system_rows
 
 -- the end of a search is right
 abbrev pub EndsAreRight : Type 0

@@ -8,8 +8,9 @@ ghost use Rattle.it_outer.specs.Search.{HullEnds, NextHull};
 use crate::types::{Frame, Next};
 use it_eliminate::Eliminated;
 use it_hull::{first_rows, with_ray};
+use it_problems::System;
 use it_redundant::{kept_system, reduce};
-use it_space::{Point, System};
+use it_space::Point;
 use std::alloc::{AllocError, Global};
 
 /// The hull of no rays: each kept coordinate is 0.

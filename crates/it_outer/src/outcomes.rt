@@ -1,6 +1,6 @@
 //! The certificates of rows that were proved once: they stay valid when rays are added.
 ghost use Rattle.std.specs.Prelude.{◌≡◌, IfOk, OnOk};
-ghost use Rattle.it_space.specs.Problems.{ProblemView};
+ghost use Rattle.it_problems.specs.Problems.{ProblemView};
 ghost use Rattle.it_space.specs.Rows.{IsOver};
 ghost use Rattle.it_space.specs.Spaces.{size_of};
 ghost use Rattle.it_prove.specs.declared.types.Effort.{Effort};
@@ -8,8 +8,9 @@ ghost use Rattle.it_prove.specs.ProofViews.{EndsWith, proof_view};
 ghost use Rattle.it_outer.specs.Rounds.{AreOutcomes};
 
 use indexmap::IndexMap;
+use it_problems::Problem;
 use it_prove::{ClosedProblem, Effort, Proof};
-use it_space::{Certificate, Problem, Row};
+use it_space::{Certificate, Row};
 use std::alloc::{AllocError, Global};
 
 /// Rows that are proved under one problem, each with its certificate, and the problem over closed sets, for all runs.

@@ -9,7 +9,8 @@ use crate::hulls::{hull_of, next_hull};
 use crate::outcomes::Outcomes;
 use crate::types::{Bounds, Frame, Next, Outer, OuterCause, Round, Visit};
 use crate::visits::visit;
-use it_space::{Point, System};
+use it_problems::System;
+use it_space::Point;
 use std::alloc::{AllocError, Global};
 
 /// Adds `point` as a ray to `hull` and `rays`.

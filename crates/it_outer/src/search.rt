@@ -1,6 +1,6 @@
 //! The search for outer bounds.
 ghost use Rattle.std.specs.Prelude.{◌≡◌, ◌<◌, ◌≤◌, [], length, All, IfOk};
-ghost use Rattle.it_space.specs.Rows.{IsOver};
+ghost use Rattle.it_space.specs.Rows.{IsOver, most_system_rows};
 ghost use Rattle.it_space.specs.Spaces.{size_of};
 ghost use Rattle.it_outer.specs.Bounds.{IsRightOuter};
 ghost use Rattle.it_hull.specs.KeptRates.{kept_coordinates};
@@ -14,7 +14,8 @@ use crate::outcomes::Outcomes;
 use crate::passes::pass;
 use crate::types::{Bounds, Frame, Limits, Outer, OuterCause};
 use it_hull::{constants, kept_coordinates};
-use it_space::{Problem, RowFault};
+use it_problems::Problem;
+use it_space::RowFault;
 use std::alloc::{AllocError, Global};
 
 /// The frame of the search for bounds of `problem` without the rates in `gone`.
@@ -26,7 +27,7 @@ fn frame<'a>(
 ) -> Result<Frame<'a>, AllocError>
     requires gone { All (λ r. r < problem.now.space.rates) gone.now }
     requires some { 1 ≤ length gone.now }
-    requires few_rows { limits.rows ≤ 65535 }
+    requires few_rows { limits.rows ≤ most_system_rows }
     ensures frame { IfOk result IsFrame }
     ensures search { IfOk result (λ f. search_of f ≡ search_without problem.now gone.now limits) }
 {
@@ -109,7 +110,7 @@ pub fn outer(
 ) -> Result<Outer, AllocError>
     requires gone { All (λ r. r < problem.now.space.rates) gone.now }
     requires some { 1 ≤ length gone.now }
-    requires few_rows { limits.rows ≤ 65535 }
+    requires few_rows { limits.rows ≤ most_system_rows }
     ensures ends { IfOk result (λ o. SearchEnds (search_without problem.now gone.now limits) (outer_view o)) }
     ensures right { IfOk result (λ o. IsRightOuter problem.now (kept_coordinates problem.now.space gone.now) (outer_view o)) }
 {

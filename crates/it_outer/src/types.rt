@@ -1,6 +1,7 @@
 //! The limits and the results of a search for outer bounds.
+use it_problems::{Problem, System};
 use it_prove::Effort;
-use it_space::{Cause, Certificate, Point, Problem, Row, System};
+use it_space::{Cause, Certificate, Point, Row};
 
 /// The limits of a search.
 #[derive(Clone, Copy, Debug, PartialEq, Eq)]
@@ -22,7 +23,7 @@ pub enum OuterCause {
     Rows,
     /// A number of a hull passes 2^127 - 1.
     Width,
-    /// As many rays as are allowed were found, and a row of their hull is still refuted.
+    /// The limit of rays was reached, and a row of their hull is still refuted.
     Rays,
 }
 

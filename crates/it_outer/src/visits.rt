@@ -7,8 +7,9 @@ ghost use Rattle.it_outer.specs.Search.{VisitEnds};
 
 use crate::outcomes::Outcomes;
 use crate::types::Visit;
+use it_problems::Problem;
 use it_prove::{Effort, Proof};
-use it_space::{Problem, Row};
+use it_space::Row;
 use std::alloc::{AllocError, Global};
 
 /// Proves `rows` one after the other, up to the first that has no proof.

@@ -44,7 +44,8 @@ module _ {Q A S : Type 0} (right : S → Q → A → Type 0) (after : S → Q �
   under_way_more a b c s qs i t q answer bytes u within read is_right is wrote = record {
     out = u.out ++ bytes;
     few = omega arith;
-    groups = subst (λ ys. Groups right after text 1 s ys (after t q answer) (u.out ++ bytes)) (sym ((take_at_read qs i q within).1 ∙ ap (λ y. take i qs ++ y ∷ []) read))
+    groups = subst (λ ys. Groups right after text 1 s ys (after t q answer) (u.out ++ bytes))
+        (sym ((take_at_read qs i q within).1 ∙ ap (λ y. take i qs ++ y ∷ []) read))
         (Groups-append 1 s (take i qs) t u.out q answer bytes u.groups is_right
         (is ∙ ap (λ n. text n q answer) (let e : i + 1 ≡ 1 + length (take i qs) = omega (arith, length-take-le i qs u.few) in e)));
     wrote = Gains-trans a b c u.out bytes u.wrote wrote;

@@ -12,6 +12,7 @@ kept_prefix limit kept piece n room = sym (take-append-add kept piece n) ∙ ap 
 pub after_more : (s : SureSinkView) (piece new : List ℕ) (n : ℕ) → length s.kept + n ≡ s.limit → n < length piece → new ≡ s.kept ++ take n piece
     → record { limit = s.limit; kept = new; more = true } ≡ after_sure_write s piece
 after_more s piece new n room more is =
-    let passed : nat_lt s.limit (length (s.kept ++ piece)) ≡ true = lt-ltb s.limit (length (s.kept ++ piece)) (simp length-append (omega (arith, room, more))) in
+    let passed : nat_lt s.limit (length (s.kept ++ piece)) ≡ true = lt-ltb s.limit (length (s.kept ++ piece))
+    (simp length-append (omega (arith, room, more))) in
     ap (λ k. record s { kept = k; more = true }) (is ∙ kept_prefix s.limit s.kept piece n room)
     ∙ ap (λ b. record s { kept = take s.limit (s.kept ++ piece); more = b || s.more }) (sym passed)

@@ -26,11 +26,13 @@ weighted_is : (size : ℕ) (g : Generators) → ((i : ℕ) → i < g.count → I
     → (p : ℕ → ℤ) → p 0 ≡ pos 0 → combination ws (λ i. g.form i p) ≡ dot size (λ c. combination ws (λ i. g.form i (one_at c))) p
 weighted_is size g l [] a p e = (linear_zero size).sum p e
 weighted_is size g l (w ∷ ws) a p e =
-    ap₂ (λ x y. x +ℤ y) ((linear-scale size w.1 (g.form w.0) (l w.0 (All-head (IsAllowed g) w ws a).0)).sum p e) (weighted_is size g l ws (All-tail (IsAllowed g) w ws a) p e)
+    ap₂ (λ x y. x +ℤ y) ((linear-scale size w.1 (g.form w.0) (l w.0 (All-head (IsAllowed g) w ws a).0)).sum p e)
+    (weighted_is size g l ws (All-tail (IsAllowed g) w ws a) p e)
     ∙ sym (dot-add size (λ c. w.1 *ℤ g.form w.0 (one_at c)) (λ c. combination ws (λ i. g.form i (one_at c))) p)
 
 -- sums that agree at each coordinate agree at every map
-pub adds_up_everywhere : (size : ℕ) (g : Generators) (target : Form) (w : CertificateView) → ((i : ℕ) → i < g.count → IsLinear size (g.form i)) → IsLinear size target
+pub adds_up_everywhere : (size : ℕ) (g : Generators) (target : Form) (w : CertificateView)
+    → ((i : ℕ) → i < g.count → IsLinear size (g.form i)) → IsLinear size target
     → IsCertificate size g target w → (p : ℕ → ℤ) → p 0 ≡ pos 0 → w.scale *ℤ target p ≡ combination w.weights (λ i. g.form i p)
 adds_up_everywhere size g target w l m c p e =
     ap (λ x. w.scale *ℤ x) (m.sum p e)

@@ -22,7 +22,8 @@ coordinate_bound (w ∷ ws) = w.0 + 1 + coordinate_bound ws
 value_dot : (n : ℕ) (ws : Terms) (f : ℕ → ℤ) → coordinate_bound ws ≤ n → value ws f ≡ dot n (coefficient ws) f
 unfolding coordinate_bound
 value_dot n [] f a = sym (dot-zero n f)
-value_dot n (w ∷ ws) f a = ap₂ (λ x y. x +ℤ y) (sym (dot_single n w f (omega arith))) (value_dot n ws f (omega arith)) ∙ sym (dot-add n (λ c. cond (nat_eq w.0 c) w.1 (pos 0)) (coefficient ws) f)
+value_dot n (w ∷ ws) f a = ap₂ (λ x y. x +ℤ y) (sym (dot_single n w f (omega arith))) (value_dot n ws f (omega arith))
+    ∙ sym (dot-add n (λ c. cond (nat_eq w.0 c) w.1 (pos 0)) (coefficient ws) f)
 
 -- from coordinate 1 on, where the value at 0 is 0
 pub value_told : (xs ys : Terms) (p : ℕ → ℤ) → p 0 ≡ pos 0 → ((c : ℕ) → 0 < c → coefficient xs c ≡ coefficient ys c) → value xs p ≡ value ys p

@@ -27,7 +27,8 @@ dot-same (suc n) f g p h = ap₂ (λ x y. x *ℤ p n +ℤ y) (h n (omega arith))
 pub dot_from_one : (n : ℕ) (f g p : ℕ → ℤ) → p 0 ≡ pos 0 → ((c : ℕ) → 0 < c → c < n → f c ≡ g c) → dot n f p ≡ dot n g p
 dot_from_one zero f g p e h = refl
 dot_from_one (suc zero) f g p e h = rw e (omega (arith, ints))
-dot_from_one (suc (suc n)) f g p e h = ap₂ (λ x y. x *ℤ p (suc n) +ℤ y) (h (suc n) (omega arith) (omega arith)) (dot_from_one (suc n) f g p e (λ c k l. h c k (omega arith)))
+dot_from_one (suc (suc n)) f g p e h = ap₂ (λ x y. x *ℤ p (suc n) +ℤ y) (h (suc n) (omega arith) (omega arith))
+    (dot_from_one (suc n) f g p e (λ c k l. h c k (omega arith)))
 
 -- the map of a coordinate is 0 at the empty set
 pub one_at-zero : (c : ℕ) → 0 < c → one_at c 0 ≡ pos 0
@@ -61,7 +62,10 @@ linear-scale size k f l = record { sum = λ p e. ap (λ x. k *ℤ x) (l.sum p e)
 
 -- forms with the same values at every point
 pub linear_same : (size : ℕ) (f g : Form) → ((p : ℕ → ℤ) → p 0 ≡ pos 0 → f p ≡ g p) → IsLinear size f → IsLinear size g
-linear_same size f g same l = record { sum = λ p e. sym (same p e) ∙ l.sum p e ∙ dot_from_one size (λ c. f (one_at c)) (λ c. g (one_at c)) p e (λ c h k. same (one_at c) (one_at-zero c h)) }
+linear_same size f g same l = record {
+  sum = λ p e. sym (same p e) ∙ l.sum p e
+      ∙ dot_from_one size (λ c. f (one_at c)) (λ c. g (one_at c)) p e (λ c h k. same (one_at c) (one_at-zero c h));
+}
 
 pub linear-sub : (size : ℕ) (f g : Form) → IsLinear size f → IsLinear size g → IsLinear size (λ p. f p -ℤ g p)
 linear-sub size f g l m = linear_same size (λ p. f p +ℤ neg_ℤ (pos 1) *ℤ g p) (λ p. f p -ℤ g p) (λ p e. minus_as_negation (f p) (g p))

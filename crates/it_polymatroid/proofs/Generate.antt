@@ -37,13 +37,22 @@ to_list P n h = every-append P (map Conditional (span 0 n)) (flat_map (λ i. fla
 
 pub from_list : (P : Elemental → Type 0) (n : ℕ) → Every P (elementals n) → HoldsOfElementals P n
 from_list P n e = record {
-  conditional = λ i h. every_spanned (λ i. P (Conditional i)) 0 n (every_mapped P Conditional (span 0 n) (every_front P (map Conditional (span 0 n)) (flat_map (λ i. flat_map (mutuals_of n i) (span (i + 1) (n - (i + 1)))) (span 0 n)) e)) i (omega arith) (omega arith);
+  conditional = λ i h. every_spanned (λ i. P (Conditional i)) 0 n (every_mapped P Conditional (span 0 n)
+      (every_front P (map Conditional (span 0 n)) (flat_map (λ i. flat_map (mutuals_of n i) (span (i + 1) (n - (i + 1)))) (span 0 n)) e)) i
+      (omega arith) (omega arith);
   mutual_of = λ i j k h l m a b.
-      let all : Every P (flat_map (λ i. flat_map (mutuals_of n i) (span (i + 1) (n - (i + 1)))) (span 0 n)) = every_back P (map Conditional (span 0 n)) (flat_map (λ i. flat_map (mutuals_of n i) (span (i + 1) (n - (i + 1)))) (span 0 n)) e in
-      let at_i : Every P (flat_map (mutuals_of n i) (span (i + 1) (n - (i + 1)))) = every_spanned (λ i. Every P (flat_map (mutuals_of n i) (span (i + 1) (n - (i + 1))))) 0 n (every_flat_mapped P (λ i. flat_map (mutuals_of n i) (span (i + 1) (n - (i + 1)))) (span 0 n) all) i (omega arith) (omega arith) in
-      let at_j : Every P (mutuals_of n i j) = every_spanned (λ j. Every P (mutuals_of n i j)) (i + 1) (n - (i + 1)) (every_flat_mapped P (mutuals_of n i) (span (i + 1) (n - (i + 1))) at_i) j (omega arith) (omega arith) in
+      let all : Every P (flat_map (λ i. flat_map (mutuals_of n i) (span (i + 1) (n - (i + 1)))) (span 0 n)) = every_back P
+      (map Conditional (span 0 n)) (flat_map (λ i. flat_map (mutuals_of n i) (span (i + 1) (n - (i + 1)))) (span 0 n)) e in
+      let at_i : Every P (flat_map (mutuals_of n i) (span (i + 1) (n - (i + 1)))) = every_spanned
+      (λ i. Every P (flat_map (mutuals_of n i) (span (i + 1) (n - (i + 1))))) 0 n
+      (every_flat_mapped P (λ i. flat_map (mutuals_of n i) (span (i + 1) (n - (i + 1)))) (span 0 n) all) i (omega arith) (omega arith)
+      in
+      let at_j : Every P (mutuals_of n i j) = every_spanned (λ j. Every P (mutuals_of n i j)) (i + 1) (n - (i + 1))
+      (every_flat_mapped P (mutuals_of n i) (span (i + 1) (n - (i + 1))) at_i) j (omega arith) (omega arith) in
       every_spanned (λ k. (lacks k i && lacks k j) ≡ true → P (Mutual i j k)) 0 (2 ^ n)
-      (every_filtered (λ k. P (Mutual i j k)) (λ k. lacks k i && lacks k j) (span 0 (2 ^ n)) (every_mapped P (Mutual i j) (filter (λ k. lacks k i && lacks k j) (span 0 (2 ^ n))) at_j)) k (omega arith) (omega arith) (lacks_by_bits i j k a b);
+      (every_filtered (λ k. P (Mutual i j k)) (λ k. lacks k i && lacks k j) (span 0 (2 ^ n))
+      (every_mapped P (Mutual i j) (filter (λ k. lacks k i && lacks k j) (span 0 (2 ^ n))) at_j)) k (omega arith) (omega arith)
+      (lacks_by_bits i j k a b);
 }
 
 at_most : (a b : ℤ) → pos 0 ≤ℤ (a -ℤ b) → b ≤ℤ a

@@ -148,8 +148,10 @@ falls_of zero f e = tt
 falls_of (suc n) f e = (
   (λ k h. e 0 (k * 2) (omega arith) (omega (arith, two-pow-succ n)) (bit_low k)),
   (
-    falls_of n (even_half f) (λ j k hj hk z. subst (λ (m : ℕ). f m ≤ℤ f (k * 2)) (double_even k j) (e (suc j) (k * 2) (omega arith) (omega (arith, two-pow-succ n)) (bit_even k j ∙ z))),
-    falls_of n (odd_half f) (λ j k hj hk z. subst (λ (m : ℕ). f m ≤ℤ f (k * 2 + 1)) (double_odd k j) (e (suc j) (k * 2 + 1) (omega arith) (omega (arith, two-pow-succ n)) (bit_odd k j ∙ z))),
+    falls_of n (even_half f) (λ j k hj hk z. subst (λ (m : ℕ). f m ≤ℤ f (k * 2)) (double_even k j)
+        (e (suc j) (k * 2) (omega arith) (omega (arith, two-pow-succ n)) (bit_even k j ∙ z))),
+    falls_of n (odd_half f) (λ j k hj hk z. subst (λ (m : ℕ). f m ≤ℤ f (k * 2 + 1)) (double_odd k j)
+        (e (suc j) (k * 2 + 1) (omega arith) (omega (arith, two-pow-succ n)) (bit_odd k j ∙ z))),
   ),
 )
 
@@ -165,7 +167,8 @@ two_odd k i j = omega (arith, two-pow-succ i, two-pow-succ j)
 bends_of : (n : ℕ) (f : ℕ → ℤ) → FlatBends n f → Bends n f
 bends_of zero f e = tt
 bends_of (suc n) f e = (
-  falls_of n (gain f) (λ j k hj hk z. gains j k (e 0 (suc j) (k * 2) (omega arith) (omega arith) (omega (arith, two-pow-succ n)) (bit_low k) (bit_even k j ∙ z))),
+  falls_of n (gain f) (λ j k hj hk z. gains j k (e 0 (suc j) (k * 2) (omega arith) (omega arith) (omega (arith, two-pow-succ n)) (bit_low k)
+      (bit_even k j ∙ z))),
   (
     bends_of n (even_half f) (λ i j k hi hj hk zi zj. rw (← double_even k i, ← double_even k j, ← two_even k i j)
         (e (suc i) (suc j) (k * 2) (omega arith) (omega arith) (omega (arith, two-pow-succ n)) (bit_even k i ∙ zi) (bit_even k j ∙ zj))),
@@ -205,7 +208,8 @@ climbs_of (suc n) f b e =
     negations_fall k h = omega (arith, ints, gain_falls k h, full_set_climbs)
 
     odd_climbs : (i : ℕ) → i < n → odd_half f (2 ^ n - 1 - 2 ^ i) ≤ℤ odd_half f (2 ^ n - 1)
-    odd_climbs i h = subst₂ (λ (x y : ℕ). f x ≤ℤ f y) (omega (arith, two-pow-succ n, two-pow-succ i, pow_below i n h, pow_pos n)) full_set_is_odd (e (suc i) (omega arith))
+    odd_climbs i h = subst₂ (λ (x y : ℕ). f x ≤ℤ f y) (omega (arith, two-pow-succ n, two-pow-succ i, pow_below i n h, pow_pos n))
+        full_set_is_odd (e (suc i) (omega arith))
 
     even_climbs : (i : ℕ) → i < n → even_half f (2 ^ n - 1 - 2 ^ i) ≤ℤ even_half f (2 ^ n - 1)
     even_climbs i h = omega (arith, ints, odd_climbs i h, gain_falls (2 ^ n - 1 - 2 ^ i) (omega (arith, pow_pos n)))

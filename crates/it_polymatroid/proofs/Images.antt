@@ -70,7 +70,8 @@ union-or first (x ∷ xs) s t = ap₂ bit_or (part-or first x s t) (union-or (fi
 -- images are sets of the other variables
 pub union_below : (n first : ℕ) (sets : List ℕ) (s : ℕ) → All (λ x. x < 2 ^ n) sets → union_from first sets s < 2 ^ n
 union_below n first [] s a = pow_pos n
-union_below n first (x ∷ xs) s a = or_lt n (part first x s) (union_from (first + 1) xs s) (by_test (has_member s first)) (union_below n (first + 1) xs s (All-tail (λ x. x < 2 ^ n) x xs a))
+union_below n first (x ∷ xs) s a = or_lt n (part first x s) (union_from (first + 1) xs s) (by_test (has_member s first))
+    (union_below n (first + 1) xs s (All-tail (λ x. x < 2 ^ n) x xs a))
   where
     by_test : (b : Bool) → cond b x 0 < 2 ^ n
     by_test true = All-head (λ x. x < 2 ^ n) x xs a
@@ -101,13 +102,18 @@ meet_lt : (n s t : ℕ) → t < 2 ^ n → bit_and s t < 2 ^ n
 meet_lt n s t h = omega (arith, and_le_r s t)
 
 -- a polymatroid pulled back is a polymatroid
-pub pulled_polymatroid : (n m : ℕ) (h g : ℕ → ℤ) (sets : List ℕ) → All (λ x. x < 2 ^ n) sets → ((s : ℕ) → s < 2 ^ m → g s ≡ h (union_of_images sets s)) → IsPolymatroid n h → IsPolymatroid m g
+pub pulled_polymatroid : (n m : ℕ) (h g : ℕ → ℤ) (sets : List ℕ) → All (λ x. x < 2 ^ n) sets
+    → ((s : ℕ) → s < 2 ^ m → g s ≡ h (union_of_images sets s)) → IsPolymatroid n h → IsPolymatroid m g
 pulled_polymatroid n m h g sets a is p = record {
   empty = is 0 (pow_pos m) ∙ ap h (union-empty 0 sets) ∙ p.empty;
-  rises = λ s t l i. subst₂ (λ (x y : ℤ). x ≤ℤ y) (sym (is s (omega (arith, i, and_le_r s t)))) (sym (is t l)) (p.rises (union_of_images sets s) (union_of_images sets t) (image_below t) (image_inside sets s t i));
+  rises = λ s t l i. subst₂ (λ (x y : ℤ). x ≤ℤ y) (sym (is s (omega (arith, i, and_le_r s t)))) (sym (is t l))
+      (p.rises (union_of_images sets s) (union_of_images sets t) (image_below t) (image_inside sets s t i));
   submodular = λ s t k l.
-      let low : h (union_of_images sets (bit_and s t)) ≤ℤ h (bit_and (union_of_images sets s) (union_of_images sets t)) = p.rises (union_of_images sets (bit_and s t)) (bit_and (union_of_images sets s) (union_of_images sets t)) (meet_lt n (union_of_images sets s) (union_of_images sets t) (image_below t))
-      (inside_meet (union_of_images sets (bit_and s t)) (union_of_images sets s) (union_of_images sets t) (image_inside sets (bit_and s t) s (meet_left s t)) (image_inside sets (bit_and s t) t (meet_right s t))) in
+      let low : h (union_of_images sets (bit_and s t)) ≤ℤ h (bit_and (union_of_images sets s) (union_of_images sets t)) = p.rises
+      (union_of_images sets (bit_and s t)) (bit_and (union_of_images sets s) (union_of_images sets t))
+      (meet_lt n (union_of_images sets s) (union_of_images sets t) (image_below t))
+      (inside_meet (union_of_images sets (bit_and s t)) (union_of_images sets s) (union_of_images sets t)
+      (image_inside sets (bit_and s t) s (meet_left s t)) (image_inside sets (bit_and s t) t (meet_right s t))) in
       let both = p.submodular (union_of_images sets s) (union_of_images sets t) (image_below s) (image_below t) in
       let u : g (bit_or s t) ≡ h (bit_or (union_of_images sets s) (union_of_images sets t)) = is (bit_or s t) (or_lt m s t k l) ∙ ap h (union-or 0 sets s t) in
       let v : g (bit_and s t) ≡ h (union_of_images sets (bit_and s t)) = is (bit_and s t) (meet_lt m s t l) in
@@ -130,7 +136,8 @@ values-push values f n v e h is s l = by_cases (cases_lt s n)
         ap (λ m. get_or (values ++ v ∷ []) m (pos 0)) here ∙ get_or-append-add values (v ∷ []) 0 (pos 0) ∙ is ∙ ap f (sym same)
 
 -- the values pulled back are a table
-pub pulled_table : (f : SetFunction) (sets : List ℕ) (m : ℕ) (values : List ℤ) → IsTable f → m ≡ length sets → m ≤ 10 → length values ≡ 2 ^ length sets → All IsWithin values
+pub pulled_table : (f : SetFunction) (sets : List ℕ) (m : ℕ) (values : List ℤ) → IsTable f → m ≡ length sets → m ≤ 10
+    → length values ≡ 2 ^ length sets → All IsWithin values
     → ((s : ℕ) → s < 2 ^ length sets → get_or values s (pos 0) ≡ value_at f (union_of_images sets s)) → IsTable (record { variables = m; values = values })
 pulled_table f sets m values t e few complete within is = record {
   few = few;

@@ -27,12 +27,15 @@ or_both k i j h zi zj = rw (← with_pow k j zj) (same_from_bits (bit_or (k + 2 
 and_both : (k i j : ℕ) → i < j → bit_at k i ≡ 0 → bit_at k j ≡ 0 → bit_and (k + 2 ^ i) (k + 2 ^ j) ≡ k
 and_both k i j h zi zj = rw (← with_pow k i zi, ← with_pow k j zj) (same_from_bits (bit_and (bit_or k (2 ^ i)) (bit_or k (2 ^ j))) k (λ m.
     let a = bit_at_and (bit_or k (2 ^ i)) (bit_or k (2 ^ j)) m in let b = bit_at_or k (2 ^ i) m in let d = bit_at_or k (2 ^ j) m in
-    let e : min (bit_at (2 ^ i) m) (bit_at (2 ^ j) m) ≡ 0 = sym (bit_at_and (2 ^ i) (2 ^ j) m) ∙ ap (λ x. bit_at x m) (pow_apart i j (λ q. omega arith)) ∙ bit_at-zero m in omega arith))
+    let e : min (bit_at (2 ^ i) m) (bit_at (2 ^ j) m) ≡ 0 = sym (bit_at_and (2 ^ i) (2 ^ j) m)
+    ∙ ap (λ x. bit_at x m) (pow_apart i j (λ q. omega arith)) ∙ bit_at-zero m in omega arith))
 
 -- a polymatroid meets the elemental inequalities
 pub elementals_of : (n : ℕ) (h : ℕ → ℤ) → IsPolymatroid n h → ElementalsHold n h
 elementals_of n h p = record {
-  conditional = λ i hi. p.rises (2 ^ n - 1 - 2 ^ i) (2 ^ n - 1) (omega (arith, pow_pos n)) (and_mask (2 ^ n - 1 - 2 ^ i) n ∙ mod-eq_of_lt (omega (arith, pow_pos n)));
-  mutual_of = λ i j k hi hj hk zi zj. rw (← or_both k i j hi zi zj) (subst (λ (m : ℕ). (h (bit_or (k + 2 ^ i) (k + 2 ^ j)) +ℤ h m) ≤ℤ (h (k + 2 ^ i) +ℤ h (k + 2 ^ j))) (and_both k i j hi zi zj)
+  conditional = λ i hi. p.rises (2 ^ n - 1 - 2 ^ i) (2 ^ n - 1) (omega (arith, pow_pos n))
+      (and_mask (2 ^ n - 1 - 2 ^ i) n ∙ mod-eq_of_lt (omega (arith, pow_pos n)));
+  mutual_of = λ i j k hi hj hk zi zj. rw (← or_both k i j hi zi zj) (subst
+      (λ (m : ℕ). (h (bit_or (k + 2 ^ i) (k + 2 ^ j)) +ℤ h m) ≤ℤ (h (k + 2 ^ i) +ℤ h (k + 2 ^ j))) (and_both k i j hi zi zj)
       (p.submodular (k + 2 ^ i) (k + 2 ^ j) (with_lt n k i (omega arith) hk zi) (with_lt n k j hj hk zj)));
 }

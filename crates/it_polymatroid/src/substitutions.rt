@@ -4,6 +4,7 @@ ghost use Rattle.it_number.specs.Limit.{IsWithin};
 ghost use Rattle.it_polymatroid.specs.Polymatroid.{IsPolymatroid};
 ghost use Rattle.it_polymatroid.specs.Substitutions.{union_of_images};
 ghost use Rattle.it_polymatroid.specs.Tables.{IsTable, value_at};
+ghost use Rattle.it_space.specs.Spaces.{most_variables};
 
 use crate::tables::Table;
 use it_space::VarSet;
@@ -66,7 +67,7 @@ pub fn union_of_images(sets: &[VarSet], of: VarSet) -> VarSet
 /// The function on the sets of the variables of `by` that has at each set the value of `table` at the set that it stands for.
 pub fn pull_back(alloc: Global, table: &Table, by: &Substitution) -> Result<Table, AllocError>
     requires some { 1 ≤ length by.now }
-    requires few { length by.now ≤ 10 }
+    requires few { length by.now ≤ most_variables }
     requires within { All (λ s. s < 2 ^ table.now.variables) by.now }
     ensures variables { IfOk result (λ t. t.variables ≡ length by.now) }
     ensures values { IfOk result (λ t. (s : ℕ) → s < 2 ^ length by.now → value_at t s ≡ value_at table.now (union_of_images by.now s)) }
@@ -79,7 +80,7 @@ pub fn pull_back(alloc: Global, table: &Table, by: &Substitution) -> Result<Tabl
 
 /// The values of `table` at the sets that the sets of the variables of `by` stand for, by ascending set.
 fn pulled_values(alloc: Global, table: &Table, by: &Substitution) -> Result<Vec<i128>, AllocError>
-    requires few { length by.now ≤ 10 }
+    requires few { length by.now ≤ most_variables }
     requires within { All (λ s. s < 2 ^ table.now.variables) by.now }
     ensures complete { IfOk result (λ v. length v.items ≡ 2 ^ length by.now) }
     ensures within { IfOk result (λ v. All IsWithin v.items) }

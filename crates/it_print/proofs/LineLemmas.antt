@@ -1,7 +1,7 @@
 -- Steps of texts.
 use Rattle.std.proofs.Common.{◌≡◌, ℕ, ◌<◌, ◌≤◌, ◌*◌, ◌%◌, ◌^◌, ◌-◌, List, ◌∷◌, ◌++◌, ◌+◌, Some, Bool, true, false, if◌then◌else◌, sym, ap, ◌∙◌, arith, append_assoc, append-nil, codes, ◌||◌, drop, [], ℤ, map, filter, cond, refl}
 use Rattle.it_space.specs.Answers.{is_nonzero_weight}
-use Rattle.it_space.specs.declared.problems.Origin.{Origin}
+use Rattle.it_problems.specs.declared.problems.Origin.{Origin}
 use Rattle.std.specs.List.{slice_get}
 use Rattle.std.proofs.lemmas.List.{drop_more}
 use Rattle.std.proofs.lemmas.Option.{slice_get_within, get_or_from_slice_get}
@@ -12,7 +12,8 @@ use Rattle.it_print.specs.Lines.{joined_texts, members_from, or_zero, sum_text, 
 
 -- a list's first element, and what is written after it
 pub joined_step : (separator : List ℕ) (some wanted : Bool) (text : List ℕ) (rest : List (List ℕ)) (out : List ℕ)
-    → (out ++ joined_texts separator some (if wanted then text ∷ [] else [])) ++ joined_texts separator (some || wanted) rest ≡ out ++ joined_texts separator some ((if wanted then text ∷ [] else []) ++ rest)
+    → (out ++ joined_texts separator some (if wanted then text ∷ [] else [])) ++ joined_texts separator (some || wanted) rest
+    ≡ out ++ joined_texts separator some ((if wanted then text ∷ [] else []) ++ rest)
 joined_step separator false false text rest out = ap (λ t. t ++ joined_texts separator false rest) (append-nil out)
 joined_step separator true false text rest out = ap (λ t. t ++ joined_texts separator true rest) (append-nil out)
 joined_step separator false true text rest out = simp (append_assoc, append-nil)
@@ -26,10 +27,12 @@ or_zero_unless false texts = or_zero texts
 -- the weights other than 0, one after the other
 abbrev pub weight_texts : List (List ℕ) → List Origin → List (ℕ × ℤ) → List (List ℕ)
 weight_texts names origins [] = []
-weight_texts names origins (weight ∷ weights) = (if is_nonzero_weight weight then weight_text names origins weight ∷ [] else []) ++ weight_texts names origins weights
+weight_texts names origins (weight ∷ weights) = (if is_nonzero_weight weight then weight_text names origins weight ∷ [] else [])
+    ++ weight_texts names origins weights
 
 -- they are the texts of those that aren't 0
-weight_texts_by_filter : (names : List (List ℕ)) (origins : List Origin) (weights : List (ℕ × ℤ)) → weight_texts names origins weights ≡ map (weight_text names origins) (filter is_nonzero_weight weights)
+weight_texts_by_filter : (names : List (List ℕ)) (origins : List Origin) (weights : List (ℕ × ℤ))
+    → weight_texts names origins weights ≡ map (weight_text names origins) (filter is_nonzero_weight weights)
 weight_texts_by_filter names origins [] = refl
 weight_texts_by_filter names origins (weight ∷ weights) = by_test (is_nonzero_weight weight) (weight_texts_by_filter names origins weights)
   where
@@ -67,4 +70,5 @@ set_step names i set name some out e =
     ∙ ap (λ ns. out ++ joined_texts (codes ",") some (members_from i ns set)) (sym (name_is_first names i e))
   where
     name_is_first : (names : List (List ℕ)) (i : ℕ) → slice_get names i ≡ Some name → drop i names ≡ name ∷ drop (i + 1) names
-    name_is_first names i e = drop_more names i name (slice_get_within names i name e) ∙ ap (λ n. n ∷ drop (i + 1) names) (get_or_from_slice_get names i name name e)
+    name_is_first names i e = drop_more names i name (slice_get_within names i name e)
+        ∙ ap (λ n. n ∷ drop (i + 1) names) (get_or_from_slice_get names i name name e)

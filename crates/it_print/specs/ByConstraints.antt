@@ -3,7 +3,7 @@ use Rattle.std.specs.Prelude.{ℕ, ℤ, List, length, map}
 use Rattle.it_space.specs.Answers.{certificate_view}
 use Rattle.it_space.specs.Rows.{Terms}
 use Rattle.it_space.specs.declared.answers.Certificate.{Certificate}
-use Rattle.it_space.specs.declared.problems.Constraint.{Constraint}
+use Rattle.it_problems.specs.declared.problems.Constraint.{Constraint}
 use Rattle.it_polymatroid.specs.Elementals.{elemental_at}
 use Rattle.it_elemental.specs.Generators.{of_elemental}
 use Rattle.it_syntax.specs.NamesViews.{NamesView}

@@ -4,9 +4,9 @@ use Rattle.std.specs.Fmt.{signed_decimal}
 use Rattle.it_space.specs.Answers.{AnswerView, CertificateView, is_nonzero_weight}
 use Rattle.it_space.specs.Answers.AnswerView.{Yes, Contained}
 use Rattle.it_space.specs.Rows.{Terms}
-use Rattle.it_space.specs.declared.problems.Constraint.{Constraint}
-use Rattle.it_space.specs.declared.problems.Kind.TheVariants.{Inequality}
-use Rattle.it_space.specs.declared.problems.Origin.{Origin}
+use Rattle.it_problems.specs.declared.problems.Constraint.{Constraint}
+use Rattle.it_problems.specs.declared.problems.Kind.TheVariants.{Inequality}
+use Rattle.it_problems.specs.declared.problems.Origin.{Origin}
 use Rattle.it_elemental.specs.Generators.{Generator, generator_at, generator_list}
 use Rattle.it_syntax.specs.NamesViews.{NamesView}
 use Rattle.it_question.specs.Questions.{BodyView}

@@ -2,11 +2,13 @@
 ghost use Rattle.std.specs.Prelude.{◌≡◌, ◌≤◌, ◌<◌, ◌+◌, ◌^◌, ◌-◌, ◌++◌, [], length, nat_lt, codes, decimal, if◌then◌else◌, OnOk};
 ghost use Rattle.it_polymatroid.specs.Elementals.{Conditional, Mutual, elementals, elemental_at};
 ghost use Rattle.it_print.specs.Lines.{elemental_text, generator_text, origin_text, origins_of};
+ghost use Rattle.it_space.specs.Spaces.{most_variables};
 
 use crate::pieces::write_number;
 use crate::sets::{write_given, write_set};
 use it_elemental::{Elemental, count, parts};
-use it_space::{Constraint, Origin, VarSet};
+use it_problems::{Constraint, Origin};
+use it_space::VarSet;
 use it_syntax::Names;
 use std::alloc::AllocError;
 
@@ -58,7 +60,7 @@ fn write_conditional(out: &mut Vec<u8>, names: &Names, i: u8) -> Result<(), Allo
 /// The set of all `variables` variables but `i`.
 fn other_variables(i: u8, variables: u8) -> VarSet
     requires there { i < variables }
-    requires few { variables ≤ 10 }
+    requires few { variables ≤ most_variables }
     ensures { result ≡ 2 ^ variables - 1 - 2 ^ i }
 {
     VarSet::from_number((1u16 << variables) - 1 - (1u16 << i))

@@ -12,8 +12,9 @@ use crate::substitutions::write_substitution;
 use crate::sums::write_proofs;
 use crate::values::{values_text, write_rate};
 use it_canon::problem_names;
+use it_problems::Constraint;
 use it_question::types::Question;
-use it_space::{Answer, Cause, Certificate, Constraint, Mark, Point, Row, VarSet};
+use it_space::{Answer, Cause, Certificate, Mark, Point, Row, VarSet};
 use it_syntax::Names;
 use std::alloc::{AllocError, Global};
 

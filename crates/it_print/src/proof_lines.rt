@@ -15,8 +15,9 @@ use crate::rows::write_constraint;
 use crate::sums::write_weight;
 use it_canon::problem_names;
 use it_elemental::{count, row};
+use it_problems::{Constraint, Kind};
 use it_question::types::Question;
-use it_space::{Answer, Certificate, Constraint, Kind, Row, is_nonzero_weight};
+use it_space::{Answer, Certificate, Row, is_nonzero_weight};
 use it_syntax::Names;
 use std::alloc::{AllocError, Global};
 

@@ -4,7 +4,8 @@ ghost use Rattle.it_print.specs.Lines.{IsRowOver, kind_text, row_line, row_text,
 
 use crate::pieces::write_number;
 use crate::values::write_coordinate;
-use it_space::{Kind, Mark, Row};
+use it_problems::Kind;
+use it_space::{Mark, Row};
 use it_syntax::Names;
 use itoa::Buffer;
 use std::alloc::{AllocError, Global};

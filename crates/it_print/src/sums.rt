@@ -9,8 +9,9 @@ ghost use Rattle.it_print.specs.ByConstraints.{certificate_text_by, proofs_text_
 use crate::generators::write_generator;
 use crate::pieces::{write_if, write_signed};
 use it_canon::problem_names;
+use it_problems::Constraint;
 use it_question::types::Question;
-use it_space::{Certificate, Constraint, is_nonzero_weight};
+use it_space::{Certificate, is_nonzero_weight};
 use it_syntax::Names;
 use std::alloc::{AllocError, Global};
 

@@ -32,9 +32,11 @@ coefficient_kept (t ∷ ts) c h = by_place t.0 t.1 (coefficient_kept ts c h)
     other_coefficient c h v x = ap (λ b. cond b v (pos 0) +ℤ x) (ne_eqb 0 c (λ e. omega (arith, e))) ∙ +ℤ_idl x
 
     by_place : (x : ℕ) (v : ℤ) → coefficient (filter (λ t. nat_lt 0 t.0) ts) c ≡ coefficient ts c
-        → coefficient (cond (nat_lt 0 x) ((x, v) ∷ filter (λ t. nat_lt 0 t.0) ts) (filter (λ t. nat_lt 0 t.0) ts)) c ≡ cond (nat_eq x c) v (pos 0) +ℤ coefficient ts c
+        → coefficient (cond (nat_lt 0 x) ((x, v) ∷ filter (λ t. nat_lt 0 t.0) ts) (filter (λ t. nat_lt 0 t.0) ts)) c
+        ≡ cond (nat_eq x c) v (pos 0) +ℤ coefficient ts c
     by_place zero v e = e ∙ sym (other_coefficient c h v (coefficient ts c))
-    by_place (suc x) v e = ap (λ b. coefficient (cond b ((suc x, v) ∷ filter (λ t. nat_lt 0 t.0) ts) (filter (λ t. nat_lt 0 t.0) ts)) c) (some_test x) ∙ ap (λ y. cond (nat_eq (suc x) c) v (pos 0) +ℤ y) e
+    by_place (suc x) v e = ap (λ b. coefficient (cond b ((suc x, v) ∷ filter (λ t. nat_lt 0 t.0) ts) (filter (λ t. nat_lt 0 t.0) ts)) c)
+        (some_test x) ∙ ap (λ y. cond (nat_eq (suc x) c) v (pos 0) +ℤ y) e
 
 value_kept : (ts : Terms) (p : ℕ → ℤ) → p 0 ≡ pos 0 → value (filter (λ t. nat_lt 0 t.0) ts) p ≡ value ts p
 value_kept [] p z = refl
@@ -46,7 +48,8 @@ value_kept (t ∷ ts) p z = by_place t.0 t.1 (value_kept ts p z)
       where
         zero_term : (v x : ℤ) → x ≡ v *ℤ pos 0 +ℤ x
         zero_term v x = omega (arith, ints)
-    by_place (suc x) v e = ap (λ b. value (cond b ((suc x, v) ∷ filter (λ t. nat_lt 0 t.0) ts) (filter (λ t. nat_lt 0 t.0) ts)) p) (some_test x) ∙ ap (λ y. v *ℤ p (suc x) +ℤ y) e
+    by_place (suc x) v e = ap (λ b. value (cond b ((suc x, v) ∷ filter (λ t. nat_lt 0 t.0) ts) (filter (λ t. nat_lt 0 t.0) ts)) p)
+        (some_test x) ∙ ap (λ y. v *ℤ p (suc x) +ℤ y) e
 
 -- no coefficient where no term has the coordinate
 pub coefficient_absent : (ts : Terms) (c : ℕ) → Every (λ t. t.0 ≢ c) ts → coefficient ts c ≡ pos 0
@@ -74,9 +77,11 @@ module _ (n : ℕ) (ds : List Dependence) where
   collapsed_at row c h = sym (value-placed n ds row (one_at c)) ∙ value-one_at (placed_terms n ds row) c ∙ sym (coefficient_kept (placed_terms n ds row) c h)
 
   -- a row that the code has collapsed has these coefficients
-  pub collapse_same : (size : ℕ) (old new : Terms) → IsCollapseOf n ds old new → IsOver size new → (c : ℕ) → coefficient new c ≡ coefficient (collapsed_row n ds old) c
+  pub collapse_same : (size : ℕ) (old new : Terms) → IsCollapseOf n ds old new → IsOver size new → (c : ℕ)
+      → coefficient new c ≡ coefficient (collapsed_row n ds old) c
   collapse_same size old new k u zero =
-      coefficient_absent new 0 (every-same (λ (t : ℕ × ℤ). (1 ≤ t.0) × (t.0 ≤ size)) (λ t. t.0 ≢ 0) new (λ t b z. omega (arith, b.0, z)) (every_of (λ (t : ℕ × ℤ). (1 ≤ t.0) × (t.0 ≤ size)) new u))
+      coefficient_absent new 0 (every-same (λ (t : ℕ × ℤ). (1 ≤ t.0) × (t.0 ≤ size)) (λ t. t.0 ≢ 0) new (λ t b z. omega (arith, b.0, z))
+      (every_of (λ (t : ℕ × ℤ). (1 ≤ t.0) × (t.0 ≤ size)) new u))
       ∙ sym (coefficient_absent (collapsed_row n ds old) 0 (kept_some (placed_terms n ds old)))
   collapse_same size old new k u (suc c) =
       sym (value-one_at new (suc c)) ∙ k (one_at (suc c)) (one_at-zero (suc c) (omega arith)) ∙ collapsed_at old (suc c) (omega arith)

@@ -1,6 +1,6 @@
 -- The weights of generators from one on, by the weights of their columns.
 use Rattle.std.proofs.Common.{ℕ, ℤ, ◌-ℤ◌, List}
-use Rattle.it_space.specs.declared.problems.Kind.{Kind}
+use Rattle.it_problems.specs.declared.problems.Kind.{Kind}
 use Rattle.it_space.specs.Rows.{Terms}
 use Rattle.it_space.specs.Sums.{terms_from}
 use Rattle.it_elemental.specs.Generators.{Generator}

@@ -2,8 +2,8 @@
 use Rattle.std.proofs.Common.{◌≡◌, ℕ, zero, suc, ◌+◌, ◌<◌, ◌≤◌, ℤ, pos, negsuc, neg_ℤ, ◌+ℤ◌, ◌-ℤ◌, ◌*ℤ◌, ◌≤ℤ◌, List, [], ◌∷◌, ◌++◌, length, get_or, false, cond, eqb, eq-eqb, ne_eqb, refl, sym, ap, ap₂, ◌∙◌, arith}
 use Rattle.std.proofs.lemmas.Int.{ints}
 use Rattle.it_number.proofs.Integers.{zring}
-use Rattle.it_space.specs.declared.problems.Kind.{Kind}
-use Rattle.it_space.specs.declared.problems.Kind.TheVariants.{Inequality, Equation}
+use Rattle.it_problems.specs.declared.problems.Kind.{Kind}
+use Rattle.it_problems.specs.declared.problems.Kind.TheVariants.{Inequality, Equation}
 use Rattle.it_space.specs.Rows.{Terms, coefficient, value, single_term}
 use Rattle.it_space.proofs.TermLemmas.{coefficient-negated_terms, value-single_term}
 use Rattle.it_polymatroid.specs.Certificates.{IsAllowed}
@@ -39,20 +39,24 @@ module _ (c : ℕ) where
 
   total-past : (i j : ℕ) (x : ℤ) (cols : List Terms) → i < j → total j cols (λ k. cond (eqb i k) x (pos 0)) ≡ pos 0
   total-past i j x [] h = refl
-  total-past i j x (r ∷ rs) h = ap₂ (λ b y. cond b x (pos 0) *ℤ coefficient r c +ℤ y) (ne_eqb i j (λ e. omega arith)) (total-past i (j + 1) x rs (omega arith)) ∙ omega (arith, ints)
+  total-past i j x (r ∷ rs) h = ap₂ (λ b y. cond b x (pos 0) *ℤ coefficient r c +ℤ y) (ne_eqb i j (λ e. omega arith))
+      (total-past i (j + 1) x rs (omega arith)) ∙ omega (arith, ints)
 
-  total-one : (i j k : ℕ) (x : ℤ) (cols : List Terms) → i < length cols → k ≡ j + i → total j cols (λ n. cond (eqb k n) x (pos 0)) ≡ x *ℤ coefficient (get_or cols i []) c
+  total-one : (i j k : ℕ) (x : ℤ) (cols : List Terms) → i < length cols → k ≡ j + i
+      → total j cols (λ n. cond (eqb k n) x (pos 0)) ≡ x *ℤ coefficient (get_or cols i []) c
   total-one i j k x [] h e = absurd (omega arith)
   total-one zero j k x (r ∷ rs) h e =
       ap₂ (λ b y. cond b x (pos 0) *ℤ coefficient r c +ℤ y) (eq-eqb k j (omega arith)) (total-past k (j + 1) x rs (omega arith)) ∙ +ℤ_idr (x *ℤ coefficient r c)
   total-one (suc i) j k x (r ∷ rs) h e =
-      ap₂ (λ b y. cond b x (pos 0) *ℤ coefficient r c +ℤ y) (ne_eqb k j (λ q. omega arith)) (total-one i (j + 1) k x rs (omega arith) (omega arith)) ∙ zero_term (coefficient r c) (x *ℤ coefficient (get_or rs i []) c)
+      ap₂ (λ b y. cond b x (pos 0) *ℤ coefficient r c +ℤ y) (ne_eqb k j (λ q. omega arith))
+      (total-one i (j + 1) k x rs (omega arith) (omega arith)) ∙ zero_term (coefficient r c) (x *ℤ coefficient (get_or rs i []) c)
     where
       zero_term : (z y : ℤ) → pos 0 *ℤ z +ℤ y ≡ y
       zero_term z y = omega (arith, ints)
 
   -- a sum over weights is one over all columns
-  pub value_total : (cols : List Terms) (ts : Terms) → Every (λ t. t.0 < length cols) ts → value ts (λ j. coefficient (get_or cols j []) c) ≡ total 0 cols (coefficient ts)
+  pub value_total : (cols : List Terms) (ts : Terms) → Every (λ t. t.0 < length cols) ts
+      → value ts (λ j. coefficient (get_or cols j []) c) ≡ total 0 cols (coefficient ts)
   value_total cols [] e = sym (total-null 0 cols)
   value_total cols (t ∷ ts) e =
       ap₂ (λ x y. x +ℤ y) (sym (total-one t.0 0 t.0 t.1 cols e.0 (omega arith))) (value_total cols ts e.1)
@@ -80,7 +84,9 @@ module _ (c : ℕ) where
   total_by_generators all (g ∷ gs) i j f h =
       let here : generator_at all i ≡ g = ap (generator_at all) (same_index i) ∙ h zero (omega arith) in
       one_generator g.kind g.row j (columns gs) f
-      ∙ ap₂ (λ x y. weight_by g.kind f j *ℤ x +ℤ y) (sym (ap (λ (g : Generator). coefficient g.row c) here)) (total_by_generators all gs (i + 1) (j + column_count g.kind) f (λ k l. ap (generator_at all) (next_index i k) ∙ h (suc k) (omega arith)))
+      ∙ ap₂ (λ x y. weight_by g.kind f j *ℤ x +ℤ y) (sym (ap (λ (g : Generator). coefficient g.row c) here))
+      (total_by_generators all gs (i + 1) (j + column_count g.kind) f (λ k l. ap (generator_at all) (next_index i k)
+      ∙ h (suc k) (omega arith)))
       ∙ sym (value-single_term i (weight_by g.kind f j) (weights_from (i + 1) (j + column_count g.kind) gs f) (column all c))
 
 -- ---- the weights in the certificate are allowed
@@ -94,12 +100,14 @@ least_weight : (k : Kind) (f : ℕ → ℤ) (j : ℕ) → ((n : ℕ) → pos 0 �
 least_weight Inequality f j h e = h j
 least_weight Equation f j h e = absurd (cc)
 
-pub weights_allowed : (all gs : List Generator) (i j : ℕ) (f : ℕ → ℤ) → ((n : ℕ) → pos 0 ≤ℤ f n) → i + length gs ≤ length all → ((k : ℕ) → k < length gs → generator_at all (i + k) ≡ generator_at gs k)
+pub weights_allowed : (all gs : List Generator) (i j : ℕ) (f : ℕ → ℤ) → ((n : ℕ) → pos 0 ≤ℤ f n) → i + length gs ≤ length all
+    → ((k : ℕ) → k < length gs → generator_at all (i + k) ≡ generator_at gs k)
     → Every (IsAllowed (forms_of all)) (weights_from i j gs f)
 unfolding numbers_from
 weights_allowed all [] i j f p b h = tt
 weights_allowed all (g ∷ gs) i j f p b h =
     let here : generator_at all i ≡ g = ap (generator_at all) (same_index i) ∙ h zero (omega arith) in
     every-append (IsAllowed (forms_of all)) (single_term i (weight_by g.kind f j)) (weights_from (i + 1) (j + column_count g.kind) gs f)
-    (every-single_term (IsAllowed (forms_of all)) i (weight_by g.kind f j) (omega arith, λ e. least_weight g.kind f j p (sym (ap (λ (g : Generator). is_equation g.kind) here) ∙ e)))
+    (every-single_term (IsAllowed (forms_of all)) i (weight_by g.kind f j)
+    (omega arith, λ e. least_weight g.kind f j p (sym (ap (λ (g : Generator). is_equation g.kind) here) ∙ e)))
     (weights_allowed all gs (i + 1) (j + column_count g.kind) f p (omega arith) (λ k l. ap (generator_at all) (next_index i k) ∙ h (suc k) (omega arith)))

@@ -11,7 +11,7 @@ use Rattle.std.proofs.Math.IntN.{+ℤ_idl, +ℤ_idr}
 use Rattle.it_rational.specs.Rational.{Rational, integer, times, is_at_least_zero}
 use Rattle.it_rational.proofs.RationalLaws.{ring_ℚ}
 use Rattle.it_space.specs.declared.spaces.Space.{Space}
-use Rattle.it_space.specs.Problems.{ProblemView, IsProblem, Meets}
+use Rattle.it_problems.specs.Problems.{ProblemView, IsProblem, Meets}
 use Rattle.it_space.specs.Rows.{Terms, Ascends, IsOver, coefficient, point_of, value, single_term}
 use Rattle.it_space.specs.Spaces.{size_of}
 use Rattle.it_space.proofs.EveryLemmas.{every_of, all_of, every-same, every-map, every_mapped, every_all}
@@ -65,14 +65,18 @@ pub spread_more : (F : ℕ → ℤ) (size c : ℕ) (old new : List ℤ) → c �
     → new ++ map F (span (c + 1) (size + 1 - (c + 1))) ≡ map F (span 1 size)
 spread_more F size c old new h is inv =
     let one : size + 1 - c ≡ suc (size + 1 - (c + 1)) = omega arith in
-    ap (λ xs. xs ++ map F (span (c + 1) (size + 1 - (c + 1)))) is ∙ append_assoc old (F c ∷ []) (map F (span (c + 1) (size + 1 - (c + 1)))) ∙ ap (λ n. old ++ map F (span c n)) (sym one) ∙ inv
+    ap (λ xs. xs ++ map F (span (c + 1) (size + 1 - (c + 1)))) is ∙ append_assoc old (F c ∷ []) (map F (span (c + 1) (size + 1 - (c + 1))))
+    ∙ ap (λ n. old ++ map F (span c n)) (sym one) ∙ inv
 
 -- the spread values are of the point
 pub spread_length : (n : ℕ) (ds : List Dependence) (size : ℕ) (row : Terms) → length (map (spread_out n ds (coefficient row)) (span 1 size)) ≡ size
 spread_length n ds size row = length-map (span 1 size) (λ c. coefficient row (place n ds c)) ∙ length-span 1 size
 
-pub spread_within : (n : ℕ) (ds : List Dependence) (size : ℕ) (row : Terms) → Ascends 0 row → All IsWithin (map (spread_out n ds (coefficient row)) (span 1 size))
-spread_within n ds size row a = all_of IsWithin (map (spread_out n ds (coefficient row)) (span 1 size)) (every-map IsWithin (λ c. coefficient row (place n ds c)) (span 1 size) (every_all (λ c. IsWithin (coefficient row (place n ds c))) (span 1 size) (λ c. coefficients_within 0 row a (place n ds c))))
+pub spread_within : (n : ℕ) (ds : List Dependence) (size : ℕ) (row : Terms) → Ascends 0 row
+    → All IsWithin (map (spread_out n ds (coefficient row)) (span 1 size))
+spread_within n ds size row a = all_of IsWithin (map (spread_out n ds (coefficient row)) (span 1 size))
+    (every-map IsWithin (λ c. coefficient row (place n ds c)) (span 1 size)
+    (every_all (λ c. IsWithin (coefficient row (place n ds c))) (span 1 size) (λ c. coefficients_within 0 row a (place n ds c))))
 
 -- zeros left in or out, the values at the places are the same
 pairs_same : (cs : List ℕ) (vs : List ℤ) (c : ℕ) → coefficient (terms_of_places cs vs) c ≡ coefficient (zip cs vs) c
@@ -80,15 +84,19 @@ pairs_same [] vs c = refl
 pairs_same (x ∷ xs) [] c = refl
 pairs_same (x ∷ xs) (y ∷ vs) c = coefficient_some x y (terms_of_places xs vs) c ∙ ap (λ z. cond (nat_eq x c) y (pos 0) +ℤ z) (pairs_same xs vs c)
 
-spread_same : (n : ℕ) (ds : List Dependence) (size : ℕ) (cs : List ℕ) (vs : List ℤ) → map (spread_out n ds (coefficient (terms_of_places cs vs))) (span 1 size) ≡ map (spread_out n ds (coefficient (zip cs vs))) (span 1 size)
+spread_same : (n : ℕ) (ds : List Dependence) (size : ℕ) (cs : List ℕ) (vs : List ℤ)
+    → map (spread_out n ds (coefficient (terms_of_places cs vs))) (span 1 size)
+    ≡ map (spread_out n ds (coefficient (zip cs vs))) (span 1 size)
 spread_same n ds size cs vs = ap (λ (f : ℕ → ℤ). map (spread_out n ds f) (span 1 size)) (λ i c. pairs_same cs vs c i)
 
 -- as the code has them
 pub point_spread : (q : ProblemView) (s : Space) (ds : List Dependence) (cs : List ℕ) (qs : List Rational) (row : Terms) (values : List ℤ)
-    → s ≡ q.space → ds ≡ dependences_of q → cs ≡ closed_places q → row ≡ terms_of_places cs (scaled_point qs) → values ≡ map (spread_out s.variables ds (coefficient row)) (span 1 (size_of s)) → values ≡ spread_point q qs
+    → s ≡ q.space → ds ≡ dependences_of q → cs ≡ closed_places q → row ≡ terms_of_places cs (scaled_point qs)
+    → values ≡ map (spread_out s.variables ds (coefficient row)) (span 1 (size_of s)) → values ≡ spread_point q qs
 point_spread q s ds cs qs row values space list places is e =
     e ∙ ap₂ (λ (t : Space) (es : List Dependence). map (spread_out t.variables es (coefficient row)) (span 1 (size_of t))) space list
-    ∙ ap (λ (at : Terms). map (spread_out q.space.variables (dependences_of q) (coefficient at)) (span 1 (size_of q.space))) (is ∙ ap (λ (xs : List ℕ). terms_of_places xs (scaled_point qs)) places)
+    ∙ ap (λ (at : Terms). map (spread_out q.space.variables (dependences_of q) (coefficient at)) (span 1 (size_of q.space)))
+    (is ∙ ap (λ (xs : List ℕ). terms_of_places xs (scaled_point qs)) places)
     ∙ spread_same q.space.variables (dependences_of q) (size_of q.space) (closed_places q) (scaled_point qs)
 
 abbrev rational_at : List ℕ → List Rational → ℕ → Rational
@@ -103,16 +111,21 @@ whole_found : (l from to : ℕ) (cs : List ℕ) (qs : List Rational) → RiseTo 
     → integer (coefficient (terms_of_places cs (map (scaled_number l) qs)) c) ≡ times (integer (pos l)) (rational_at cs qs c)
 whole_found l from to [] qs r d c = times_zero l
 whole_found l from to (x ∷ xs) [] r d c = times_zero l
-whole_found l from to (x ∷ xs) (q ∷ qs) r d c = ap integer (coefficient_some x (scaled_number l q) (terms_of_places xs (map (scaled_number l) qs)) c) ∙ by_test (nat_eq x c) refl (whole_found l (x + 1) to xs qs r.1 d.1 c)
+whole_found l from to (x ∷ xs) (q ∷ qs) r d c = ap integer (coefficient_some x (scaled_number l q)
+    (terms_of_places xs (map (scaled_number l) qs)) c) ∙ by_test (nat_eq x c) refl (whole_found l (x + 1) to xs qs r.1 d.1 c)
   where
-    by_test : (b : Bool) → nat_eq x c ≡ b → integer (coefficient (terms_of_places xs (map (scaled_number l) qs)) c) ≡ times (integer (pos l)) (rational_at xs qs c)
-        → integer (cond b (scaled_number l q) (pos 0) +ℤ coefficient (terms_of_places xs (map (scaled_number l) qs)) c) ≡ times (integer (pos l)) (cond b q (rational_at xs qs c))
+    by_test : (b : Bool) → nat_eq x c ≡ b → integer (coefficient (terms_of_places xs (map (scaled_number l) qs)) c)
+        ≡ times (integer (pos l)) (rational_at xs qs c)
+        → integer (cond b (scaled_number l q) (pos 0) +ℤ coefficient (terms_of_places xs (map (scaled_number l) qs)) c)
+        ≡ times (integer (pos l)) (cond b q (rational_at xs qs c))
     by_test true e ih =
-        let past : coefficient (terms_of_places xs (map (scaled_number l) qs)) c ≡ pos 0 = pairs_below (x + 1) to xs (map (scaled_number l) qs) c r.1 (omega (arith, eqb-true x c e)) in
+        let past : coefficient (terms_of_places xs (map (scaled_number l) qs)) c
+        ≡ pos 0 = pairs_below (x + 1) to xs (map (scaled_number l) qs) c r.1 (omega (arith, eqb-true x c e)) in
         ap (λ y. integer (scaled_number l q +ℤ y)) past ∙ ap integer (+ℤ_idr (scaled_number l q)) ∙ whole_scaled l q d.0
     by_test false e ih = ap integer (+ℤ_idl (coefficient (terms_of_places xs (map (scaled_number l) qs)) c)) ∙ ih
 
-found_at : (from to : ℕ) (cs : List ℕ) (qs : List Rational) → RiseTo from to cs → length qs ≡ length cs → (k : ℕ) → k < length cs → rational_at cs qs (get_or cs k 0) ≡ get_or qs k (integer (pos 0))
+found_at : (from to : ℕ) (cs : List ℕ) (qs : List Rational) → RiseTo from to cs → length qs ≡ length cs → (k : ℕ) → k < length cs
+    → rational_at cs qs (get_or cs k 0) ≡ get_or qs k (integer (pos 0))
 found_at from to [] qs r e k h = absurd (omega arith)
 found_at from to (x ∷ xs) [] r e k h = absurd (omega (arith, e))
 found_at from to (x ∷ xs) (q ∷ qs) r e zero h = ap (λ b. cond b q (rational_at xs qs x)) (eq-eqb x x refl)
@@ -128,7 +141,8 @@ every_at : {X : Type 0} (P : X → Type 0) (xs : List X) (i : ℕ) (d : X) → E
 every_at P xs i d e h = all_of P xs e i d h
 
 -- the values at all coordinates are those at their places
-value_spread : (n : ℕ) (ds : List Dependence) (size : ℕ) (at : Terms) (row : Terms) → IsOver size row → value row (point_of (map (spread_out n ds (coefficient at)) (span 1 size))) ≡ value row (spread_out n ds (coefficient at))
+value_spread : (n : ℕ) (ds : List Dependence) (size : ℕ) (at : Terms) (row : Terms) → IsOver size row
+    → value row (point_of (map (spread_out n ds (coefficient at)) (span 1 size))) ≡ value row (spread_out n ds (coefficient at))
 value_spread n ds size at row u = value_of_terms row (every_of (λ (t : ℕ × ℤ). (1 ≤ t.0) × (t.0 ≤ size)) row u)
   where
     value_of_place : (c : ℕ) → 1 ≤ c → c ≤ size → point_of (map (spread_out n ds (coefficient at)) (span 1 size)) c ≡ coefficient at (place n ds c)
@@ -140,12 +154,14 @@ value_spread n ds size at row u = value_of_terms row (every_of (λ (t : ℕ × �
         one_plus : (c : ℕ) → 1 + c ≡ suc c
         one_plus c = omega arith
 
-    value_of_terms : (ts : Terms) → Every (λ (t : ℕ × ℤ). (1 ≤ t.0) × (t.0 ≤ size)) ts → value ts (point_of (map (spread_out n ds (coefficient at)) (span 1 size))) ≡ value ts (spread_out n ds (coefficient at))
+    value_of_terms : (ts : Terms) → Every (λ (t : ℕ × ℤ). (1 ≤ t.0) × (t.0 ≤ size)) ts
+        → value ts (point_of (map (spread_out n ds (coefficient at)) (span 1 size))) ≡ value ts (spread_out n ds (coefficient at))
     value_of_terms [] b = refl
     value_of_terms (t ∷ ts) b = ap₂ (λ x y. t.1 *ℤ x +ℤ y) (value_of_place t.0 b.0.0 b.0.1) (value_of_terms ts b.1)
 
 module _ (q : ProblemView) (target : Terms) (qs : List Rational) (k : IsProblem q) (u : IsOver (size_of q.space) target)
-    (s : Separates rationals (length (closed_places q)) (length (columns (closed_generators q))) (feasibility_problem (closed_places q) (columns (closed_generators q)) (closed_target q target)) qs) where
+    (s : Separates rationals (length (closed_places q)) (length (columns (closed_generators q)))
+    (feasibility_problem (closed_places q) (columns (closed_generators q)) (closed_target q target)) qs) where
   abbrev values : Terms
   values = terms_of_places (closed_places q) (scaled_point qs)
 
@@ -161,24 +177,31 @@ module _ (q : ProblemView) (target : Terms) (qs : List Rational) (k : IsProblem 
   rows : Every (λ g. IsOver (size_of q.space) g.row) (generators q)
   rows = rows_of_space q.space.variables (size_of q.space) q.constraints (omega arith) k.rows
 
-  row_over_places : (row : Terms) → IsOver (size_of q.space) row → Every (λ (t : ℕ × ℤ). In (closed_places q) t.0) (collapsed_row q.space.variables (dependences_of q) row)
-  row_over_places row b = collapsed_over q.space.variables q.space.rates (dependences_of q) (dependences_sound q k) row (below_size (size_of q.space) (2 ^ q.space.variables + q.space.rates) row sizes b)
+  row_over_places : (row : Terms) → IsOver (size_of q.space) row
+      → Every (λ (t : ℕ × ℤ). In (closed_places q) t.0) (collapsed_row q.space.variables (dependences_of q) row)
+  row_over_places row b = collapsed_over q.space.variables q.space.rates (dependences_of q) (dependences_sound q k) row
+      (below_size (size_of q.space) (2 ^ q.space.variables + q.space.rates) row sizes b)
 
   columns_over : Every (λ (r : Terms). Every (λ (t : ℕ × ℤ). In (closed_places q) t.0) r) (columns (closed_generators q))
   columns_over = columns_keep (In (closed_places q)) (closed_generators q)
       (every-map (λ g. Every (λ (t : ℕ × ℤ). In (closed_places q) t.0) g.row) (collapsed_generator q.space.variables (dependences_of q)) (generators q)
-      (every-same (λ g. IsOver (size_of q.space) g.row) (λ g. Every (λ (t : ℕ × ℤ). In (closed_places q) t.0) (collapsed_row q.space.variables (dependences_of q) g.row)) (generators q) (λ g b. row_over_places g.row b) rows))
+      (every-same (λ g. IsOver (size_of q.space) g.row) (λ g. Every (λ (t : ℕ × ℤ). In (closed_places q) t.0)
+      (collapsed_row q.space.variables (dependences_of q) g.row)) (generators q) (λ g b. row_over_places g.row b) rows))
 
-  values_separate : ((j : ℕ) → j < length (columns (closed_generators q)) → is_at_least_zero (rational_value (get_or (columns (closed_generators q)) j []) (rational_at (closed_places q) qs)) ≡ true)
+  values_separate : ((j : ℕ) → j < length (columns (closed_generators q))
+      → is_at_least_zero (rational_value (get_or (columns (closed_generators q)) j []) (rational_at (closed_places q) qs)) ≡ true)
       × (is_at_least_zero (rational_value (closed_target q target) (rational_at (closed_places q) qs)) ≡ false)
-  values_separate = point_separates (closed_places q) (rise_apart 1 (2 ^ q.space.variables + q.space.rates) (closed_places q) closed_places_rise) (columns (closed_generators q)) (closed_target q target) qs (rational_at (closed_places q) qs)
+  values_separate = point_separates (closed_places q) (rise_apart 1 (2 ^ q.space.variables + q.space.rates)
+      (closed_places q) closed_places_rise) (columns (closed_generators q)) (closed_target q target) qs (rational_at (closed_places q) qs)
       (λ j l. all_of (λ (t : ℕ × ℤ). In (closed_places q) t.0) (get_or (columns (closed_generators q)) j [])
       (every_at (λ (r : Terms). Every (λ (t : ℕ × ℤ). In (closed_places q) t.0) r) (columns (closed_generators q)) j [] columns_over l))
       (all_of (λ (t : ℕ × ℤ). In (closed_places q) t.0) (closed_target q target) (row_over_places target u))
       (λ j l. found_at 1 (2 ^ q.space.variables + q.space.rates) (closed_places q) qs closed_places_rise s.complete j l) s
 
-  scaled_row : (row : Terms) → Every (λ (t : ℕ × ℤ). integer (coefficient values t.0) ≡ times (integer (pos (scale_of qs))) (rational_at (closed_places q) qs t.0)) row
-  scaled_row row = every_all (λ (t : ℕ × ℤ). integer (coefficient values t.0) ≡ times (integer (pos (scale_of qs))) (rational_at (closed_places q) qs t.0)) row (λ t. whole_at t.0)
+  scaled_row : (row : Terms) → Every (λ (t : ℕ × ℤ). integer (coefficient values t.0)
+      ≡ times (integer (pos (scale_of qs))) (rational_at (closed_places q) qs t.0)) row
+  scaled_row row = every_all (λ (t : ℕ × ℤ). integer (coefficient values t.0)
+      ≡ times (integer (pos (scale_of qs))) (rational_at (closed_places q) qs t.0)) row (λ t. whole_at t.0)
 
   no_value_at_zero : coefficient values 0 ≡ pos 0
   no_value_at_zero = pairs_below 1 (2 ^ q.space.variables + q.space.rates) (closed_places q) (scaled_point qs) 0 closed_places_rise (omega arith)
@@ -189,12 +212,16 @@ module _ (q : ProblemView) (target : Terms) (qs : List Rational) (k : IsProblem 
       (least_scaled (scale_of qs) (coefficient values) (rational_at (closed_places q) qs) (scale_pos qs) (get_or (columns (closed_generators q)) j [])
       (scaled_row (get_or (columns (closed_generators q)) j [])) (values_separate.0 j l))))
 
-  value_same : (row : Terms) → IsOver (size_of q.space) row → value (collapsed_row q.space.variables (dependences_of q) row) (coefficient values) ≡ value row (point_of (spread_point q qs))
-  value_same row b = collapsed_value q.space.variables (dependences_of q) row (coefficient values) no_value_at_zero ∙ sym (value_spread q.space.variables (dependences_of q) (size_of q.space) values row b)
+  value_same : (row : Terms) → IsOver (size_of q.space) row
+      → value (collapsed_row q.space.variables (dependences_of q) row) (coefficient values) ≡ value row (point_of (spread_point q qs))
+  value_same row b = collapsed_value q.space.variables (dependences_of q) row (coefficient values) no_value_at_zero
+      ∙ sym (value_spread q.space.variables (dependences_of q) (size_of q.space) values row b)
       ∙ ap (λ (vs : List ℤ). value row (point_of vs)) (spread_same q.space.variables (dependences_of q) (size_of q.space) (closed_places q) (scaled_point qs))
 
   generators_met : Every (λ g. Meets g.kind (value g.row (point_of (spread_point q qs)))) (generators q)
-  generators_met = every_both (λ g. IsOver (size_of q.space) g.row) (λ g. Meets g.kind (value (collapsed_row q.space.variables (dependences_of q) g.row) (coefficient values))) (λ g. Meets g.kind (value g.row (point_of (spread_point q qs)))) (generators q)
+  generators_met = every_both (λ g. IsOver (size_of q.space) g.row) (λ g. Meets g.kind
+      (value (collapsed_row q.space.variables (dependences_of q) g.row) (coefficient values)))
+      (λ g. Meets g.kind (value g.row (point_of (spread_point q qs)))) (generators q)
       (λ g b m. subst (Meets g.kind) (value_same g.row b) m) rows
       (every_mapped (λ g. Meets g.kind (value g.row (coefficient values))) (collapsed_generator q.space.variables (dependences_of q)) (generators q) closed_met)
 
@@ -206,13 +233,19 @@ module _ (q : ProblemView) (target : Terms) (qs : List Rational) (k : IsProblem 
         polymatroid = both.0;
         met = both.1;
         violated = subst (λ (z : ℤ). z ≤ℤ neg_ℤ (pos 1)) (value_same target u)
-            (below_scaled (scale_of qs) (coefficient values) (rational_at (closed_places q) qs) (scale_pos qs) (closed_target q target) (scaled_row (closed_target q target)) values_separate.1);
+            (below_scaled (scale_of qs) (coefficient values) (rational_at (closed_places q) qs) (scale_pos qs) (closed_target q target)
+            (scaled_row (closed_target q target)) values_separate.1);
       }
 
 -- the coordinates as the code has them
 pub places_rise : (q : ProblemView) (cs : List ℕ) → IsProblem q → cs ≡ closed_places q → (to : ℕ) × RiseTo 1 to cs
-places_rise q cs k e = (2 ^ q.space.variables + q.space.rates, subst (RiseTo 1 (2 ^ q.space.variables + q.space.rates)) (sym e) (coords_rise q.space.variables q.space.rates (dependences_of q) (dependences_sound q k)))
+places_rise q cs k e = (
+  2 ^ q.space.variables + q.space.rates,
+  subst (RiseTo 1 (2 ^ q.space.variables + q.space.rates)) (sym e)
+      (coords_rise q.space.variables q.space.rates (dependences_of q) (dependences_sound q k)),
+)
 
 -- and the row of the scaled values
 pub pairs_canonical : (cs : List ℕ) (vs : List ℤ) (ts : Terms) → ts ≡ terms_of_places cs vs → (to : ℕ) × RiseTo 1 to cs → All IsWithin vs → Ascends 0 ts
-pairs_canonical cs vs ts e r w = subst (Ascends 0) (sym e) (ascends_lower 0 1 (terms_of_places cs vs) (omega arith) (pairs_ascend 1 r.0 cs vs r.1 (every_of IsWithin vs w)))
+pairs_canonical cs vs ts e r w = subst (Ascends 0) (sym e) (ascends_lower 0 1 (terms_of_places cs vs) (omega arith)
+    (pairs_ascend 1 r.0 cs vs r.1 (every_of IsWithin vs w)))

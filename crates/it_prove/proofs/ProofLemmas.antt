@@ -9,7 +9,7 @@ use Rattle.it_rational.proofs.Field.{field_ℚ}
 use Rattle.it_space.specs.declared.answers.Cause.{Cause}
 use Rattle.it_space.specs.declared.answers.Cause.TheVariants.{Scale}
 use Rattle.it_space.specs.declared.answers.Cause.TheVariants as causes
-use Rattle.it_space.specs.Problems.{ProblemView, IsProblem}
+use Rattle.it_problems.specs.Problems.{ProblemView, IsProblem}
 use Rattle.it_space.specs.Answers.{CertificateView}
 use Rattle.it_space.specs.Rows.{Terms, IsCanonical, IsOver, coefficient, point_of}
 use Rattle.it_space.specs.Spaces.{size_of}
@@ -62,21 +62,25 @@ module _ (q : ProblemView) (target : Terms) (k : IsProblem q) (u : IsOver (size_
   -- ---- points
 
   module _ (qs : List Rational) (values : List ℤ) (same : values ≡ spread_point q qs) (fit : NumbersFit qs)
-      (s : Separates rationals (length (closed_places q)) (length (columns (closed_generators q))) (feasibility_problem (closed_places q) (columns (closed_generators q)) (closed_target q target)) qs) where
+      (s : Separates rationals (length (closed_places q)) (length (columns (closed_generators q)))
+      (feasibility_problem (closed_places q) (columns (closed_generators q)) (closed_target q target)) qs) where
     values_refute : RefutesRow q target values
     values_refute = subst (RefutesRow q target) (sym same) (point_right q target qs k u s)
 
-    pub refuted_follows : Valid ≡ no_verdict (length (elementals q.space.variables)) (generators q) target (point_of values) → Follows q target (Point qs) (No values)
+    pub refuted_follows : Valid ≡ no_verdict (length (elementals q.space.variables)) (generators q) target (point_of values)
+        → Follows q target (Point qs) (No values)
     refuted_follows e = inl ((fit, subst (PointFits q target) same ((valid_no_is q target values k u values_refute.complete).0 (sym e)).1), ap No same)
 
-    pub wide_point : (no_verdict (length (elementals q.space.variables)) (generators q) target (point_of values) ≡ Valid → ⊥) → Follows q target (Point qs) (Undecided Scale)
+    pub wide_point : (no_verdict (length (elementals q.space.variables)) (generators q) target (point_of values) ≡ Valid → ⊥)
+        → Follows q target (Point qs) (Undecided Scale)
     wide_point n = inr ((λ f. n ((valid_no_is q target values k u values_refute.complete).1 (values_refute, subst (PointFits q target) (sym same) f.1))), refl)
 
     pub point_size : length values ≡ size_of q.space
     point_size = values_refute.complete
 
 -- scaled numbers that fit are within the limit
-pub scaled_within : (l : ℕ) (qs : List Rational) (values : List ℤ) → values ≡ map (scaled_number l) qs → Every (λ q. IsWithin (scaled_number l q)) qs → All IsWithin values
+pub scaled_within : (l : ℕ) (qs : List Rational) (values : List ℤ) → values ≡ map (scaled_number l) qs
+    → Every (λ q. IsWithin (scaled_number l q)) qs → All IsWithin values
 scaled_within l qs values e f = subst (All IsWithin) (sym e) (all_of IsWithin (map (scaled_number l) qs) (every-map IsWithin (scaled_number l) qs f))
 
 -- ---- the run
@@ -103,34 +107,48 @@ module _ (coords : List ℕ) (rs ss : List Terms) (s : SameRows rs ss) (r t : Te
   }
 
   abbrev run_by : Option ℕ → RunEndView (List (ℕ × Rational)) (List Rational) → ℕ → simplex.FeasibilityProblem Rational → Type 0
-  run_by budget end n p = (¬ (StartFits (length coords) n p) × (end ≡ Width zero)) ⊎ (StartFits (length coords) n p × RunsTo (length coords) n p budget (start rationals (length coords) n p) end)
+  run_by budget end n p = (¬ (StartFits (length coords) n p) × (end ≡ Width zero))
+      ⊎ (StartFits (length coords) n p × RunsTo (length coords) n p budget (start rationals (length coords) n p) end)
 
   pub same_run : (budget : Option ℕ) (end : RunEndView (List (ℕ × Rational)) (List Rational)) → Solves coords rs r budget end → Solves coords ss t budget end
   same_run budget end h = subst₂ (run_by budget end) (same_length rs ss s) same_problem h
 
-  pub same_sums : (ws : List (ℕ × Rational)) → SumsUp rationals (length coords) (length rs) (feasibility_problem coords rs r) ws → SumsUp rationals (length coords) (length ss) (feasibility_problem coords ss t) ws
+  pub same_sums : (ws : List (ℕ × Rational)) → SumsUp rationals (length coords) (length rs) (feasibility_problem coords rs r) ws
+      → SumsUp rationals (length coords) (length ss) (feasibility_problem coords ss t) ws
   same_sums ws h = subst₂ (λ (n : ℕ) (p : simplex.FeasibilityProblem Rational). SumsUp rationals (length coords) n p ws) (same_length rs ss s) same_problem h
 
-  pub same_separates : (qs : List Rational) → Separates rationals (length coords) (length rs) (feasibility_problem coords rs r) qs → Separates rationals (length coords) (length ss) (feasibility_problem coords ss t) qs
-  same_separates qs h = subst₂ (λ (n : ℕ) (p : simplex.FeasibilityProblem Rational). Separates rationals (length coords) n p qs) (same_length rs ss s) same_problem h
+  pub same_separates : (qs : List Rational) → Separates rationals (length coords) (length rs) (feasibility_problem coords rs r) qs
+      → Separates rationals (length coords) (length ss) (feasibility_problem coords ss t) qs
+  same_separates qs h = subst₂ (λ (n : ℕ) (p : simplex.FeasibilityProblem Rational). Separates rationals (length coords) n p qs)
+      (same_length rs ss s) same_problem h
 
 -- the run of the code's rows is that of the problem
-module _ (q : ProblemView) (target : Terms) (coords : List ℕ) (at : coords ≡ closed_places q) (rs : List Terms) (s : SameRows rs (columns (closed_generators q)))
+module _ (q : ProblemView) (target : Terms) (coords : List ℕ) (at : coords ≡ closed_places q) (rs : List Terms)
+    (s : SameRows rs (columns (closed_generators q)))
     (r : Terms) (e : (c : ℕ) → coefficient r c ≡ coefficient (closed_target q target) c) where
-  pub ends_so : CollapsesFit q target → (budget : Option ℕ) (end : RunEndView (List (ℕ × Rational)) (List Rational)) (o : ProofView) → Solves coords rs r budget end → Follows q target end o → EndsByRun q target budget o
+  pub ends_so : CollapsesFit q target → (budget : Option ℕ) (end : RunEndView (List (ℕ × Rational)) (List Rational)) (o : ProofView)
+      → Solves coords rs r budget end → Follows q target end o → EndsByRun q target budget o
   ends_so fit budget end o h f = record {
     end = end;
-    run = inr (fit, same_run (closed_places q) rs (columns (closed_generators q)) s r (closed_target q target) e budget end (subst (λ (cs : List ℕ). Solves cs rs r budget end) at h));
+    run = inr (
+      fit,
+      same_run (closed_places q) rs (columns (closed_generators q)) s r (closed_target q target) e budget end
+          (subst (λ (cs : List ℕ). Solves cs rs r budget end) at h),
+    );
     follows = f;
   }
 
   pub sums_so : (ws : List (ℕ × Rational)) → SumsUp rationals (length coords) (length rs) (feasibility_problem coords rs r) ws
-      → SumsUp rationals (length (closed_places q)) (length (columns (closed_generators q))) (feasibility_problem (closed_places q) (columns (closed_generators q)) (closed_target q target)) ws
-  sums_so ws h = same_sums (closed_places q) rs (columns (closed_generators q)) s r (closed_target q target) e ws (subst (λ (cs : List ℕ). SumsUp rationals (length cs) (length rs) (feasibility_problem cs rs r) ws) at h)
+      → SumsUp rationals (length (closed_places q)) (length (columns (closed_generators q)))
+      (feasibility_problem (closed_places q) (columns (closed_generators q)) (closed_target q target)) ws
+  sums_so ws h = same_sums (closed_places q) rs (columns (closed_generators q)) s r (closed_target q target) e ws
+      (subst (λ (cs : List ℕ). SumsUp rationals (length cs) (length rs) (feasibility_problem cs rs r) ws) at h)
 
   pub separates_so : (qs : List Rational) → Separates rationals (length coords) (length rs) (feasibility_problem coords rs r) qs
-      → Separates rationals (length (closed_places q)) (length (columns (closed_generators q))) (feasibility_problem (closed_places q) (columns (closed_generators q)) (closed_target q target)) qs
-  separates_so qs h = same_separates (closed_places q) rs (columns (closed_generators q)) s r (closed_target q target) e qs (subst (λ (cs : List ℕ). Separates rationals (length cs) (length rs) (feasibility_problem cs rs r) qs) at h)
+      → Separates rationals (length (closed_places q)) (length (columns (closed_generators q)))
+      (feasibility_problem (closed_places q) (columns (closed_generators q)) (closed_target q target)) qs
+  separates_so qs h = same_separates (closed_places q) rs (columns (closed_generators q)) s r (closed_target q target) e qs
+      (subst (λ (cs : List ℕ). Separates rationals (length cs) (length rs) (feasibility_problem cs rs r) qs) at h)
 
 pub wide_start : (q : ProblemView) (target : Terms) (budget : Option ℕ) → ¬ (CollapsesFit q target) → EndsByRun q target budget (Undecided (causes.Width 0))
 wide_start q target budget n = record { end = Width 0; run = inl (n, refl); follows = refl }
@@ -147,28 +165,33 @@ right_end coords rs r (OfWidth k) h = tt
 
 -- the same with what the code has
 module _ (q : ProblemView) (target : Terms) (coords items : List ℕ) (slice : coords ≡ items) (at : items ≡ closed_places q)
-    (rs rows : List Terms) (same : rs ≡ rows) (s : SameRows rows (columns (closed_generators q))) (r : Terms) (e : (c : ℕ) → coefficient r c ≡ coefficient (closed_target q target) c) (x : Solved) where
+    (rs rows : List Terms) (same : rs ≡ rows) (s : SameRows rows (columns (closed_generators q))) (r : Terms)
+    (e : (c : ℕ) → coefficient r c ≡ coefficient (closed_target q target) c) (x : Solved) where
   places_are : coords ≡ closed_places q
   places_are = slice ∙ at
 
   rows_are : SameRows rs (columns (closed_generators q))
   rows_are = subst (λ (xs : List Terms). SameRows xs (columns (closed_generators q))) (sym same) s
 
-  pub answer_ends : CollapsesFit q target → (budget : Option ℕ) → Solves coords rs r budget (end_of_answer x) → (end : RunEndView (List (ℕ × Rational)) (List Rational)) (o : ProofView) → end_of_answer x ≡ end → Follows q target end o
+  pub answer_ends : CollapsesFit q target → (budget : Option ℕ) → Solves coords rs r budget (end_of_answer x)
+      → (end : RunEndView (List (ℕ × Rational)) (List Rational)) (o : ProofView) → end_of_answer x ≡ end → Follows q target end o
       → EndsByRun q target budget o
   answer_ends fit budget h end o is f = ends_so q target coords places_are rs rows_are r e fit budget end o (subst (Solves coords rs r budget) is h) f
 
   pub answer_sums : IsRightAnswer coords rs r x → (part : List (ℕ × Rational)) → end_of_answer x ≡ Weights part
-      → SumsUp rationals (length (closed_places q)) (length (columns (closed_generators q))) (feasibility_problem (closed_places q) (columns (closed_generators q)) (closed_target q target)) part
+      → SumsUp rationals (length (closed_places q)) (length (columns (closed_generators q)))
+      (feasibility_problem (closed_places q) (columns (closed_generators q)) (closed_target q target)) part
   answer_sums h part is = sums_so q target coords places_are rs rows_are r e part (subst (IsRightEnd coords rs r) is (right_end coords rs r x h))
 
   pub answer_separates : IsRightAnswer coords rs r x → (part : List Rational) → end_of_answer x ≡ Point part
-      → Separates rationals (length (closed_places q)) (length (columns (closed_generators q))) (feasibility_problem (closed_places q) (columns (closed_generators q)) (closed_target q target)) part
+      → Separates rationals (length (closed_places q)) (length (columns (closed_generators q)))
+      (feasibility_problem (closed_places q) (columns (closed_generators q)) (closed_target q target)) part
   answer_separates h part is = separates_so q target coords places_are rs rows_are r e part (subst (IsRightEnd coords rs r) is (right_end coords rs r x h))
 
 -- ---- one outcome
 
-one_follows : (q : ProblemView) (target : Terms) (e : RunEndView (List (ℕ × Rational)) (List Rational)) (o p : ProofView) → Follows q target e o → Follows q target e p → o ≡ p
+one_follows : (q : ProblemView) (target : Terms) (e : RunEndView (List (ℕ × Rational)) (List Rational)) (o p : ProofView)
+    → Follows q target e o → Follows q target e p → o ≡ p
 one_follows q target (Weights ws) o p (inl a) (inl b) = a.3 ∙ ap Yes (one_lift q target ws a.0 b.0 a.1 b.1) ∙ sym b.3
 one_follows q target (Weights ws) o p (inl a) (inr b) = absurd (b.0 a.0 a.1 a.2)
 one_follows q target (Weights ws) o p (inr a) (inl b) = absurd (a.0 b.0 b.1 b.2)
@@ -180,7 +203,8 @@ one_follows q target (Point qs) o p (inr a) (inr b) = a.1 ∙ sym b.1
 one_follows q target (Pivots k) o p a b = a ∙ sym b
 one_follows q target (Width k) o p a b = a ∙ sym b
 
-one_run : (q : ProblemView) (target : Terms) (budget : Option ℕ) (d e : RunEndView (List (ℕ × Rational)) (List Rational)) → Runs q target budget d → Runs q target budget e → d ≡ e
+one_run : (q : ProblemView) (target : Terms) (budget : Option ℕ) (d e : RunEndView (List (ℕ × Rational)) (List Rational))
+    → Runs q target budget d → Runs q target budget e → d ≡ e
 one_run q target budget d e (inl a) (inl b) = a.1 ∙ sym b.1
 one_run q target budget d e (inl a) (inr b) = absurd (a.0 b.0)
 one_run q target budget d e (inr a) (inl b) = absurd (b.0 a.0)
@@ -262,7 +286,8 @@ never_out_of_steps q target effort k none (inl e) = run_never_out q target k (su
 never_out_of_steps q target effort k none (inr (quick, settled)) = settled
 
 -- so is the result of the code
-pub never_pivots : {E : Type 0} (q : ProblemView) (target : Terms) (effort : Effort) (r : Result Proof E) → IfOk r (λ proof. EndsWith q target effort (proof_view proof))
+pub never_pivots : {E : Type 0} (q : ProblemView) (target : Terms) (effort : Effort) (r : Result Proof E)
+    → IfOk r (λ proof. EndsWith q target effort (proof_view proof))
     → IfNone effort.pivots (IfOk r (λ proof. (k : ℕ) → proof_view proof ≢ Undecided (causes.Pivots k)))
 never_pivots q target effort r h = by effort.pivots refl r h
   where
@@ -273,6 +298,7 @@ never_pivots q target effort r h = by effort.pivots refl r h
     by None e (Ok proof) h = λ k is. never_out_of_steps q target effort k e (subst (EndsWith q target effort) is h)
 
 -- the result of the code by the defined run is a possible outcome about the target
-pub defined_ends : {E : Type 0} (q : ProblemView) (target : Terms) (effort : Effort) (r : Result Proof E) → IfOk r (λ proof. EndsByRun q target effort.pivots (proof_view proof)) → IfOk r (λ proof. EndsWith q target effort (proof_view proof))
+pub defined_ends : {E : Type 0} (q : ProblemView) (target : Terms) (effort : Effort) (r : Result Proof E)
+    → IfOk r (λ proof. EndsByRun q target effort.pivots (proof_view proof)) → IfOk r (λ proof. EndsWith q target effort (proof_view proof))
 defined_ends q target effort (Err fault) h = tt
 defined_ends q target effort (Ok proof) h = inl h

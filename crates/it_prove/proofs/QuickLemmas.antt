@@ -1,7 +1,7 @@
 -- What the check finds valid is settled.
 use Rattle.std.proofs.Common.{◌≡◌, ℤ, List, length, All, sym}
 use Rattle.it_number.specs.Limit.{IsWithin}
-use Rattle.it_space.specs.Problems.{ProblemView, IsProblem}
+use Rattle.it_problems.specs.Problems.{ProblemView, IsProblem}
 use Rattle.it_space.specs.Answers.{CertificateView}
 use Rattle.it_space.specs.Rows.{Terms, IsOver, IsCanonical, point_of}
 use Rattle.it_space.specs.Spaces.{size_of}
@@ -13,7 +13,8 @@ use Rattle.it_check.proofs.Truth.{valid_yes_is, valid_no_is}
 use Rattle.it_prove.specs.ProofViews.{Yes, No, IsSettled}
 
 module _ (q : ProblemView) (target : Terms) (k : IsProblem q) (u : IsOver (size_of q.space) target) where
-  pub settled_yes : (w : CertificateView) → IsCanonical w.weights → IsWithin w.scale → Valid ≡ yes_verdict (generators q) (size_of q.space) target w → IsSettled q target (Yes w)
+  pub settled_yes : (w : CertificateView) → IsCanonical w.weights → IsWithin w.scale
+      → Valid ≡ yes_verdict (generators q) (size_of q.space) target w → IsSettled q target (Yes w)
   settled_yes w canonical within e = ((valid_yes_is q target w k u).0 (sym e), canonical, within)
 
   pub settled_no : (values : List ℤ) → length values ≡ size_of q.space → All IsWithin values

@@ -4,7 +4,7 @@ use Rattle.std.proofs.lemmas.Int.{ints}
 use Rattle.std.specs.Result.{IfOk}
 use Rattle.it_rational.specs.Rational.{Rational}
 use Rattle.it_rational.proofs.Field.{field_ℚ}
-use Rattle.it_space.specs.Problems.{ProblemView, IsProblem}
+use Rattle.it_problems.specs.Problems.{ProblemView, IsProblem}
 use Rattle.it_space.specs.Answers.{CertificateView}
 use Rattle.it_space.specs.Rows.{Terms, IsOver, point_of, value}
 use Rattle.it_space.specs.Spaces.{size_of}
@@ -26,7 +26,8 @@ use Rattle.it_prove.proofs.PointLemmas.{point_right}
 module _ (q : ProblemView) (target : Terms) where
   -- weights sum to the collapsed target, and a point separates it from the columns
   abbrev IsRightEnd : RunEndView (List (ℕ × Rational)) (List Rational) → Type 0
-  IsRightEnd end = EndIsRight field_ℚ (length (closed_places q)) (length (columns (closed_generators q))) (feasibility_problem (closed_places q) (columns (closed_generators q)) (closed_target q target)) end
+  IsRightEnd end = EndIsRight field_ℚ (length (closed_places q)) (length (columns (closed_generators q)))
+      (feasibility_problem (closed_places q) (columns (closed_generators q)) (closed_target q target)) end
 
   right_run : (budget : Option ℕ) (end : RunEndView (List (ℕ × Rational)) (List Rational)) → Runs q target budget end → IsRightEnd end
   right_run budget end (inl a) = subst IsRightEnd (sym a.1) tt
@@ -35,15 +36,18 @@ module _ (q : ProblemView) (target : Terms) where
       let m = length (closed_places q) in let n = length (columns (closed_generators q)) in
       right_by field_ℚ m n (StepFits m n) (feasibility_problem (closed_places q) (columns (closed_generators q)) (closed_target q target)) budget end a.1
 
-  right_outcome : IsProblem q → IsOver (size_of q.space) target → (end : RunEndView (List (ℕ × Rational)) (List Rational)) (o : ProofView) → IsRightEnd end → Follows q target end o → IsRightProof q target o
-  right_outcome k u (Weights ws) o r (inl (w, lift, fit, is)) = subst (IsRightProof q target) (sym is) (lifted_certifies q target k u ws r fit.0.numbers w lift, fit.1)
+  right_outcome : IsProblem q → IsOver (size_of q.space) target → (end : RunEndView (List (ℕ × Rational)) (List Rational)) (o : ProofView)
+      → IsRightEnd end → Follows q target end o → IsRightProof q target o
+  right_outcome k u (Weights ws) o r (inl (w, lift, fit, is)) = subst (IsRightProof q target) (sym is)
+      (lifted_certifies q target k u ws r fit.0.numbers w lift, fit.1)
   right_outcome k u (Weights ws) o r (inr a) = subst (IsRightProof q target) (sym a.1) tt
   right_outcome k u (Point qs) o r (inl a) = subst (IsRightProof q target) (sym a.1) (point_right q target qs k u r, a.0.1)
   right_outcome k u (Point qs) o r (inr a) = subst (IsRightProof q target) (sym a.1) tt
   right_outcome k u (Pivots j) o r e = subst (IsRightProof q target) (sym e) tt
   right_outcome k u (Width j) o r e = subst (IsRightProof q target) (sym e) tt
 
-run_right : (q : ProblemView) (target : Terms) (budget : Option ℕ) (o : ProofView) → IsProblem q → IsOver (size_of q.space) target → EndsByRun q target budget o → IsRightProof q target o
+run_right : (q : ProblemView) (target : Terms) (budget : Option ℕ) (o : ProofView) → IsProblem q → IsOver (size_of q.space) target
+    → EndsByRun q target budget o → IsRightProof q target o
 run_right q target budget o k u e = right_outcome q target k u e.end o (right_run q target budget e.end e.run) e.follows
 
 -- what is settled is right
@@ -74,4 +78,5 @@ right_agree q target w values k u proof refutation =
     not_at_least_zero (value target (point_of values)) low high
 
 pub ends_agree : EndsAgree
-ends_agree q target effort other w values k u a b = right_agree q target w values k u (ends_are_right q target effort (Yes w) k u a) (ends_are_right q target other (No values) k u b)
+ends_agree q target effort other w values k u a b = right_agree q target w values k u (ends_are_right q target effort (Yes w) k u a)
+    (ends_are_right q target other (No values) k u b)

@@ -1,8 +1,8 @@
 -- The size of a problem's table, by the columns of the run.
 use Rattle.std.proofs.Common.{◌≡◌, ℕ, ◌+◌, ◌*◌, List, [], ◌∷◌, ◌++◌, map, length, refl, sym, ap, ◌∙◌, arith}
-use Rattle.it_space.specs.declared.problems.Kind.{Kind}
-use Rattle.it_space.specs.declared.problems.Kind.TheVariants.{Inequality, Equation}
-use Rattle.it_space.specs.declared.problems.Constraint.{Constraint}
+use Rattle.it_problems.specs.declared.problems.Kind.{Kind}
+use Rattle.it_problems.specs.declared.problems.Kind.TheVariants.{Inequality, Equation}
+use Rattle.it_problems.specs.declared.problems.Constraint.{Constraint}
 use Rattle.it_space.specs.Rows.{Terms}
 use Rattle.it_polymatroid.specs.Elementals.{Elemental, elementals}
 use Rattle.it_elemental.specs.Generators.{Generator, of_elemental, of_constraint, generator_list}
@@ -21,9 +21,12 @@ module _ (n : ℕ) (ds : List Dependence) where
   length-constraints : (cs : List Constraint) → length (columns (map (collapsed_generator n ds) (map of_constraint cs))) ≡ constraint_columns cs
   unfolding columns
   length-constraints [] = refl
-  length-constraints (c ∷ cs) = length_by_kind c.kind (collapsed_row n ds c.row) (columns (map (collapsed_generator n ds) (map of_constraint cs))) ∙ ap (λ k. column_count c.kind + k) (length-constraints cs)
+  length-constraints (c ∷ cs) = length_by_kind c.kind (collapsed_row n ds c.row)
+      (columns (map (collapsed_generator n ds) (map of_constraint cs))) ∙ ap (λ k. column_count c.kind + k) (length-constraints cs)
 
-  length-elementals : (m : ℕ) (es : List Elemental) (gs : List Generator) → length (columns (map (collapsed_generator n ds) (map (of_elemental m) es ++ gs))) ≡ length es + length (columns (map (collapsed_generator n ds) gs))
+  length-elementals : (m : ℕ) (es : List Elemental) (gs : List Generator)
+      → length (columns (map (collapsed_generator n ds) (map (of_elemental m) es ++ gs)))
+      ≡ length es + length (columns (map (collapsed_generator n ds) gs))
   unfolding columns
   length-elementals m [] gs = omega arith
   length-elementals m (e ∷ es) gs = omega (arith, length-elementals m es gs)
@@ -36,5 +39,6 @@ size_of_start q =
     let ds = dependences_of q in
     let k = length (closed_places q) in
     let gs = map of_constraint q.constraints in
-    let e : length (columns (closed_generators q)) ≡ length (elementals n) + constraint_columns q.constraints = length-elementals n ds n (elementals n) gs ∙ ap (λ c. length (elementals n) + c) (length-constraints n ds q.constraints) in
+    let e : length (columns (closed_generators q)) ≡ length (elementals n) + constraint_columns q.constraints = length-elementals n ds n
+    (elementals n) gs ∙ ap (λ c. length (elementals n) + c) (length-constraints n ds q.constraints) in
     sym (ap (λ c. k * (c + k)) e)

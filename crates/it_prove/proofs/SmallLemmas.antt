@@ -12,7 +12,7 @@ use Rattle.it_fraction.specs.Fits.{IsNarrow}
 use Rattle.it_space.specs.declared.answers.Cause.TheVariants as causes
 use Rattle.it_space.specs.declared.answers.Cause.TheVariants.{Scale}
 use Rattle.it_space.specs.Bounds.{IsSmall}
-use Rattle.it_space.specs.Problems.{ProblemView, IsProblem}
+use Rattle.it_problems.specs.Problems.{ProblemView, IsProblem}
 use Rattle.it_space.specs.Rows.{Terms, coefficient}
 use Rattle.std.specs.List.{AllByRecursion as Every}
 use Rattle.it_space.proofs.EveryLemmas.{all_of, every-same, every-map}
@@ -60,7 +60,8 @@ below_sign : (b : ℕ) (s : Bool) (x : Rational) → IsBelow b x → IsBelow b (
 below_sign b true x h = (h.0, ring_ℚ.unit-mul x ∙ h.1, h.2)
 below_sign b false x h = (
   neg_ℤ h.0,
-  ring ring_ℚ (integer (pos 1) ∷ x ∷ []) (S.times (S.minus (S.v 0)) (S.v 1)) (S.minus (S.times (S.v 0) (S.v 1))) refl ∙ ap minus (ring_ℚ.unit-mul x ∙ h.1) ∙ sym (whole_minus h.0),
+  ring ring_ℚ (integer (pos 1) ∷ x ∷ []) (S.times (S.minus (S.v 0)) (S.v 1)) (S.minus (S.times (S.v 0) (S.v 1))) refl
+      ∙ ap minus (ring_ℚ.unit-mul x ∙ h.1) ∙ sym (whole_minus h.0),
   abs_neg h.0 b h.2,
 )
 
@@ -100,15 +101,20 @@ module _ (coords : List ℕ) (cols : List Terms) (t : Terms) (few : length coord
       target_is_small : IsBelow (1040 * 2 ^ 106) (integer (coefficient t (get_or coords k 0)))
       target_is_small = (coefficient t (get_or coords k 0), refl, ts (get_or coords k 0))
 
-      by_test : (a b c : Bool) → IsBelow (1040 * 2 ^ 106) (cond a (times (sign rationals (feasibility_problem coords cols t) k) (integer (coefficient (get_or cols j []) (get_or coords k 0))))
-          (cond b (times (sign rationals (feasibility_problem coords cols t) k) (integer (coefficient t (get_or coords k 0)))) (cond c (integer (pos 1)) (integer (pos 0)))))
-      by_test true b c = below_sign (1040 * 2 ^ 106) (field_ℚ.order.is_least (integer (coefficient t (get_or coords k 0)))) (integer (coefficient (get_or cols j []) (get_or coords k 0))) column
-      by_test false true c = below_sign (1040 * 2 ^ 106) (field_ℚ.order.is_least (integer (coefficient t (get_or coords k 0)))) (integer (coefficient t (get_or coords k 0))) target_is_small
+      by_test : (a b c : Bool) → IsBelow (1040 * 2 ^ 106) (cond a
+          (times (sign rationals (feasibility_problem coords cols t) k) (integer (coefficient (get_or cols j []) (get_or coords k 0))))
+          (cond b (times (sign rationals (feasibility_problem coords cols t) k) (integer (coefficient t (get_or coords k 0))))
+          (cond c (integer (pos 1)) (integer (pos 0)))))
+      by_test true b c = below_sign (1040 * 2 ^ 106) (field_ℚ.order.is_least (integer (coefficient t (get_or coords k 0))))
+          (integer (coefficient (get_or cols j []) (get_or coords k 0))) column
+      by_test false true c = below_sign (1040 * 2 ^ 106) (field_ℚ.order.is_least (integer (coefficient t (get_or coords k 0))))
+          (integer (coefficient t (get_or coords k 0))) target_is_small
       by_test false false true = below_one (1040 * 2 ^ 106) (omega arith)
       by_test false false false = below_null (1040 * 2 ^ 106)
 
   start_fits : StartFits (length coords) (length cols) (feasibility_problem coords cols t)
-  start_fits k j h l = below_is_narrow (pile k) (sum_to ring_ℚ k (λ i. start_row rationals (length coords) (length cols) (feasibility_problem coords cols t) i j)) (omega (arith, pile_is k, h, few))
+  start_fits k j h l = below_is_narrow (pile k) (sum_to ring_ℚ k (λ i. start_row rationals (length coords) (length cols)
+      (feasibility_problem coords cols t) i j)) (omega (arith, pile_is k, h, few))
       (sum_below k (λ i. start_row rationals (length coords) (length cols) (feasibility_problem coords cols t) i j) (λ i. entry_below i j))
 
 -- ---- the run
@@ -116,23 +122,28 @@ module _ (coords : List ℕ) (cols : List Terms) (t : Terms) (few : length coord
 same_step : {W P : Type 0} (j : ℕ) → (let x : RunEndView W P = Width zero in x) ≡ Width j → zero ≡ j
 same_step j q = cc
 
-never_zero : {S W P : Type 0} (IsDone IsStuck Fits : S → Type 0) (next : S → S) (weights : S → W) (point : S → P) (left k : ℕ) (s : S) → EndsAs IsDone IsStuck Fits next weights point left k s (Width zero) → ⊥
+never_zero : {S W P : Type 0} (IsDone IsStuck Fits : S → Type 0) (next : S → S) (weights : S → W) (point : S → P) (left k : ℕ) (s : S)
+    → EndsAs IsDone IsStuck Fits next weights point left k s (Width zero) → ⊥
 never_zero D T F next ws pt zero k s (inl a) = absurd (cc)
 never_zero D T F next ws pt zero k s (inr (inl a)) = absurd (cc)
 never_zero D T F next ws pt zero k s (inr (inr a)) = absurd (cc)
 never_zero D T F next ws pt (suc left) k s (inl a) = absurd (cc)
 never_zero D T F next ws pt (suc left) k s (inr (inl a)) = absurd (cc)
-never_zero D T F next ws pt (suc left) k s (inr (inr (d, t, inl a))) = let q : zero ≡ min (suc k) 4294967295 = same_step (min (suc k) 4294967295) a.1 in absurd (omega arith)
+never_zero D T F next ws pt (suc left) k s (inr (inr (d, t, inl a))) = let q : zero
+    ≡ min (suc k) 4294967295 = same_step (min (suc k) 4294967295) a.1 in absurd (omega arith)
 never_zero D T F next ws pt (suc left) k s (inr (inr (d, t, inr a))) = never_zero D T F next ws pt left (suc k) (next s) a.1
 
-never_run : (m n : ℕ) (p : simplex.FeasibilityProblem Rational) (budget : Option ℕ) (t : SimplexTable Rational) (e : RunEndView (List (ℕ × Rational)) (List Rational)) → e ≡ Width zero → RunsTo m n p budget t e → ⊥
+never_run : (m n : ℕ) (p : simplex.FeasibilityProblem Rational) (budget : Option ℕ) (t : SimplexTable Rational)
+    (e : RunEndView (List (ℕ × Rational)) (List Rational)) → e ≡ Width zero → RunsTo m n p budget t e → ⊥
 never_run m n p (Some steps) t e z r =
-    never_zero (IsDone rationals m n) (IsStuck rationals m n) (StepFits m n) (next rationals m n) (weights rationals m n) (point rationals m n p) steps zero t (subst (RunsTo m n p (Some steps) t) z r)
+    never_zero (IsDone rationals m n) (IsStuck rationals m n) (StepFits m n) (next rationals m n) (weights rationals m n)
+    (point rationals m n p) steps zero t (subst (RunsTo m n p (Some steps) t) z r)
 never_run m n p None t e z r =
     never_zero (IsDone rationals m n) (IsStuck rationals m n) (StepFits m n) (next rationals m n) (weights rationals m n) (point rationals m n p) r.0 zero t
     (subst (RunsTo m n p (Some r.0) t) z r.1)
 
-run_never_at_start : (q : ProblemView) (target : Terms) (budget : Option ℕ) → IsProblem q → AreSmall q target → EndsByRun q target budget (Undecided (causes.Width 0)) → ⊥
+run_never_at_start : (q : ProblemView) (target : Terms) (budget : Option ℕ) → IsProblem q → AreSmall q target
+    → EndsByRun q target budget (Undecided (causes.Width 0)) → ⊥
 run_never_at_start q target budget k s e = by_cases e.run (zero_end e.end e.follows)
   where
     all_small : Every (λ g. IsSmall g.row) (generators q)
@@ -164,25 +175,35 @@ run_never_at_start q target budget k s e = by_cases e.run (zero_end e.end e.foll
     all_collapses_fit : CollapsesFit q target
     all_collapses_fit = record {
       each = all_of (λ g. CollapseFits q.space.variables (dependences_of q) g.row) (generators q)
-          (every-same (λ g. IsSmall g.row) (λ g. CollapseFits q.space.variables (dependences_of q) g.row) (generators q) (λ g b. collapse_fits q.space.variables (dependences_of q) g.row b) all_small);
+          (every-same (λ g. IsSmall g.row) (λ g. CollapseFits q.space.variables (dependences_of q) g.row) (generators q)
+          (λ g b. collapse_fits q.space.variables (dependences_of q) g.row b) all_small);
       own = collapse_fits q.space.variables (dependences_of q) target s.own;
     }
 
     few_places : length (closed_places q) ≤ 1040
     few_places =
         let power : 2 ^ q.space.variables ≤ 2 ^ 10 = pow_mono {i = q.space.variables} {j = 10} k.space.few in
-        omega (arith, power, k.space.few_rates, rise_length 1 (2 ^ q.space.variables + q.space.rates) (closed_places q) (coords_rise q.space.variables q.space.rates (dependences_of q) (dependences_sound q k)))
+        omega (
+          arith,
+          power,
+          k.space.few_rates,
+          rise_length 1 (2 ^ q.space.variables + q.space.rates) (closed_places q)
+              (coords_rise q.space.variables q.space.rates (dependences_of q) (dependences_sound q k)),
+        )
 
-    start : StartFits (length (closed_places q)) (length (columns (closed_generators q))) (feasibility_problem (closed_places q) (columns (closed_generators q)) (closed_target q target))
+    start : StartFits (length (closed_places q)) (length (columns (closed_generators q)))
+        (feasibility_problem (closed_places q) (columns (closed_generators q)) (closed_target q target))
     start = start_fits (closed_places q) (columns (closed_generators q)) (closed_target q target) few_places
         (columns_small (closed_generators q) (every-map (λ g. SmallRow g.row) (collapsed_generator q.space.variables (dependences_of q)) (generators q)
-        (every-same (λ g. IsSmall g.row) (λ g. SmallRow (collapsed_row q.space.variables (dependences_of q) g.row)) (generators q) (λ g b. small_row q.space.variables (dependences_of q) g.row b) all_small)))
+        (every-same (λ g. IsSmall g.row) (λ g. SmallRow (collapsed_row q.space.variables (dependences_of q) g.row)) (generators q)
+        (λ g b. small_row q.space.variables (dependences_of q) g.row b) all_small)))
         (small_row q.space.variables (dependences_of q) target s.own)
 
     by_cases : Runs q target budget e.end → e.end ≡ Width 0 → ⊥
     by_cases (inl a) z = a.0 all_collapses_fit
     by_cases (inr (f, inl a)) z = a.0 start
-    by_cases (inr (f, inr a)) z = never_run (length (closed_places q)) (length (columns (closed_generators q))) (feasibility_problem (closed_places q) (columns (closed_generators q)) (closed_target q target)) budget
+    by_cases (inr (f, inr a)) z = never_run (length (closed_places q)) (length (columns (closed_generators q)))
+        (feasibility_problem (closed_places q) (columns (closed_generators q)) (closed_target q target)) budget
         (start_of (closed_places q) (columns (closed_generators q)) (closed_target q target)) e.end z a.1
 
 pub never_at_start : NeverAtStart

@@ -3,9 +3,9 @@ use Rattle.std.proofs.Common.{ℕ, zero, suc, ◌+◌, ◌-◌, ◌*◌, ◌^◌
 use Rattle.std.specs.List.{AllByRecursion as Every}
 use Rattle.std.proofs.lemmas.Int.{ints}
 use Rattle.std.proofs.lemmas.List.{length-map}
-use Rattle.it_space.specs.declared.problems.Constraint.{Constraint}
-use Rattle.it_space.specs.declared.problems.Kind.{Kind}
-use Rattle.it_space.specs.declared.problems.Kind.TheVariants.{Inequality, Equation}
+use Rattle.it_problems.specs.declared.problems.Constraint.{Constraint}
+use Rattle.it_problems.specs.declared.problems.Kind.{Kind}
+use Rattle.it_problems.specs.declared.problems.Kind.TheVariants.{Inequality, Equation}
 use Rattle.it_space.specs.Bounds.{IsSmall}
 use Rattle.it_space.specs.Rows.{Terms, coefficient, negated_terms}
 use Rattle.it_polymatroid.specs.Elementals.{Elemental, Conditional, Mutual, elementals}
@@ -39,7 +39,8 @@ term_few : (s : ℕ) (a : ℤ) → length (set_term s a) ≤ 1
 term_few zero a = omega arith
 term_few (suc s) a = omega arith
 
-both_small : (m n : ℕ) (xs ys : Terms) → (length xs ≤ m) × Every Small xs → (length ys ≤ n) × Every Small ys → (length (xs ++ ys) ≤ m + n) × Every Small (xs ++ ys)
+both_small : (m n : ℕ) (xs ys : Terms) → (length xs ≤ m) × Every Small xs → (length ys ≤ n) × Every Small ys
+    → (length (xs ++ ys) ≤ m + n) × Every Small (xs ++ ys)
 both_small m n xs ys a b = (omega (arith, length-append xs ys, a.0, b.0), every-append Small xs ys a.1 b.1)
 
 small_of : (m : ℕ) (row : Terms) → m ≤ 4 → (length row ≤ m) × Every Small row → IsSmall row
@@ -52,25 +53,30 @@ elemental_small : (n : ℕ) (e : Elemental) → IsSmall (elemental_row n e)
 elemental_small n (Conditional i) =
     let all_but : Terms = set_term (2 ^ n - 1 - 2 ^ i) (negsuc 0) in
     let all : Terms = set_term (2 ^ n - 1) (pos 1) in
-    small_of 2 (all_but ++ all) (omega arith) (both_small 1 1 all_but all (one_small_term (2 ^ n - 1 - 2 ^ i) (negsuc 0) (omega arith)) (one_small_term (2 ^ n - 1) (pos 1) (omega arith)))
+    small_of 2 (all_but ++ all) (omega arith) (both_small 1 1 all_but all (one_small_term (2 ^ n - 1 - 2 ^ i) (negsuc 0) (omega arith))
+    (one_small_term (2 ^ n - 1) (pos 1) (omega arith)))
 elemental_small n (Mutual i j k) =
     let a : Terms = set_term k (negsuc 0) in
     let b : Terms = set_term (k + 2 ^ i) (pos 1) in
     let c : Terms = set_term (k + 2 ^ j) (pos 1) in
     let d : Terms = set_term (k + 2 ^ i + 2 ^ j) (negsuc 0) in
-    small_of 4 (a ++ b ++ c ++ d) (omega arith) (both_small 3 1 (a ++ b ++ c) d (both_small 2 1 (a ++ b) c (both_small 1 1 a b (one_small_term k (negsuc 0) (omega arith)) (one_small_term (k + 2 ^ i) (pos 1) (omega arith)))
+    small_of 4 (a ++ b ++ c ++ d) (omega arith) (both_small 3 1 (a ++ b ++ c) d
+    (both_small 2 1 (a ++ b) c (both_small 1 1 a b (one_small_term k (negsuc 0) (omega arith))
+    (one_small_term (k + 2 ^ i) (pos 1) (omega arith)))
     (one_small_term (k + 2 ^ j) (pos 1) (omega arith))) (one_small_term (k + 2 ^ i + 2 ^ j) (negsuc 0) (omega arith)))
 
 pub generators_small : (n : ℕ) (cs : List Constraint) → All (λ c. IsSmall c.row) cs → Every (λ g. IsSmall g.row) (generator_list n cs)
 unfolding generator_list
 generators_small n cs a = every-append (λ (g : Generator). IsSmall g.row) (map (of_elemental n) (elementals n)) (map of_constraint cs)
-    (every-map (λ (g : Generator). IsSmall g.row) (of_elemental n) (elementals n) (every_of (λ e. IsSmall (elemental_row n e)) (elementals n) (λ i d l. elemental_small n (get_or (elementals n) i d))))
+    (every-map (λ (g : Generator). IsSmall g.row) (of_elemental n) (elementals n)
+    (every_of (λ e. IsSmall (elemental_row n e)) (elementals n) (λ i d l. elemental_small n (get_or (elementals n) i d))))
     (every-map (λ (g : Generator). IsSmall g.row) of_constraint cs (every_of (λ (c : Constraint). IsSmall c.row) cs a))
 
 -- ---- rows over closed sets
 
 module _ (n : ℕ) (ds : List Dependence) where
-  parts_fit : (f : ℕ → ℤ) (ts : Terms) (m : ℕ) → ((c : ℕ) → unsigned_abs (f c) ≤ m * 2 ^ 106) → m + length ts ≤ 1040 → Every Small ts → PlaceSumsFit f (placed_terms n ds ts)
+  parts_fit : (f : ℕ → ℤ) (ts : Terms) (m : ℕ) → ((c : ℕ) → unsigned_abs (f c) ≤ m * 2 ^ 106) → m + length ts ≤ 1040 → Every Small ts
+      → PlaceSumsFit f (placed_terms n ds ts)
   parts_fit f [] m b l e = tt
   parts_fit f (t ∷ ts) m b l e = (
     (λ h. omega (arith, l, abs_add (f (place n ds t.0)) t.1 (m * 2 ^ 106) (2 ^ 106) (b (place n ds t.0)) (omega (arith, e.0)))),
@@ -88,7 +94,8 @@ module _ (n : ℕ) (ds : List Dependence) where
   coefficient_small [] c e = omega arith
   coefficient_small (t ∷ ts) c e = by_test (nat_lt 0 (place n ds t.0)) (coefficient_small ts c e.1)
     where
-      sum_stays_small : (s : Bool) → unsigned_abs (coefficient (collapsed_row n ds ts) c) ≤ length ts * 2 ^ 106 → unsigned_abs (cond s t.1 (pos 0) +ℤ coefficient (collapsed_row n ds ts) c) ≤ suc (length ts) * 2 ^ 106
+      sum_stays_small : (s : Bool) → unsigned_abs (coefficient (collapsed_row n ds ts) c) ≤ length ts * 2 ^ 106
+          → unsigned_abs (cond s t.1 (pos 0) +ℤ coefficient (collapsed_row n ds ts) c) ≤ suc (length ts) * 2 ^ 106
       sum_stays_small true h = omega (arith, abs_add t.1 (coefficient (collapsed_row n ds ts) c) (2 ^ 106) (length ts * 2 ^ 106) (omega (arith, e.0)) h)
       sum_stays_small false h = omega (arith, abs_add (pos 0) (coefficient (collapsed_row n ds ts) c) 0 (length ts * 2 ^ 106) (omega arith) h)
 
@@ -106,15 +113,25 @@ small_row n ds row s c = omega (arith, s.few, coefficient_small n ds row c (ever
 
 by_kind : (k : Kind) (r : Terms) → SmallRow r → Every SmallRow (columns_by k r)
 by_kind Inequality r s = (s, tt)
-by_kind Equation r s = (s, ((λ c. subst (λ (z : ℤ). unsigned_abs z ≤ 1040 * 2 ^ 106) (sym (coefficient-negated_terms c r)) (abs_neg (coefficient r c) (1040 * 2 ^ 106) (s c))), tt))
+by_kind Equation r s = (
+  s,
+  (
+    (λ c. subst (λ (z : ℤ). unsigned_abs z ≤ 1040 * 2 ^ 106) (sym (coefficient-negated_terms c r))
+        (abs_neg (coefficient r c) (1040 * 2 ^ 106) (s c))),
+    tt,
+  ),
+)
 
 pub columns_small : (gs : List Generator) → Every (λ g. SmallRow g.row) gs → Every SmallRow (columns gs)
 unfolding columns
-columns_small gs e = every-flat_map SmallRow (λ (g : Generator). columns_by g.kind g.row) gs (every-same (λ g. SmallRow g.row) (λ g. Every SmallRow (columns_by g.kind g.row)) gs (λ g s. by_kind g.kind g.row s) e)
+columns_small gs e = every-flat_map SmallRow (λ (g : Generator). columns_by g.kind g.row) gs
+    (every-same (λ g. SmallRow g.row) (λ g. Every SmallRow (columns_by g.kind g.row)) gs (λ g s. by_kind g.kind g.row s) e)
 
 -- the negation of a small row is small
 pub small-negated_terms : (row : Terms) → IsSmall row → IsSmall (negated_terms row)
 small-negated_terms row s = record {
   few = omega (arith, length-map {B = ℕ × ℤ} row (λ t. (t.0, neg_ℤ t.1)), s.few);
-  each = all_of Small (negated_terms row) (every-map Small (λ (t : ℕ × ℤ). (t.0, neg_ℤ t.1)) row (every-same Small (λ (t : ℕ × ℤ). unsigned_abs (neg_ℤ t.1) ≤ 2 ^ 106) row (λ t h. abs_neg t.1 (2 ^ 106) h) (every_of Small row s.each)));
+  each = all_of Small (negated_terms row) (every-map Small (λ (t : ℕ × ℤ). (t.0, neg_ℤ t.1)) row
+      (every-same Small (λ (t : ℕ × ℤ). unsigned_abs (neg_ℤ t.1) ≤ 2 ^ 106) row (λ t h. abs_neg t.1 (2 ^ 106) h)
+      (every_of Small row s.each)));
 }

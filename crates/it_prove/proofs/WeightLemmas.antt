@@ -51,18 +51,27 @@ terms_of_columns : (l n from : ℕ) (ws : List (ℕ × Rational)) → AreWeights
 terms_of_columns l n from [] a = tt
 terms_of_columns l n from (w ∷ ws) a = (a.1, terms_of_columns l n (suc w.0) ws a.3)
 
-coefficient_not_negative : (l n from : ℕ) (ws : List (ℕ × Rational)) → 0 < l → Every (λ q. q.den ∣ l) (numbers_of ws) → AreWeights rationals n from ws → (j : ℕ) → pos 0 ≤ℤ coefficient (scaled_by l ws) j
+coefficient_not_negative : (l n from : ℕ) (ws : List (ℕ × Rational)) → 0 < l → Every (λ q. q.den ∣ l) (numbers_of ws)
+    → AreWeights rationals n from ws → (j : ℕ) → pos 0 ≤ℤ coefficient (scaled_by l ws) j
 coefficient_not_negative l n from [] h d a j = omega (arith, ints)
 coefficient_not_negative l n from (w ∷ ws) h d a j = by_test (eqb w.0 j) (scaled_above l w.1 h d.0 a.2) (coefficient_not_negative l n (suc w.0) ws h d.1 a.3 j)
   where
-    by_test : (b : Bool) → pos 0 <ℤ scaled_number l w.1 → pos 0 ≤ℤ coefficient (scaled_by l ws) j → pos 0 ≤ℤ (cond b (scaled_number l w.1) (pos 0) +ℤ coefficient (scaled_by l ws) j)
+    by_test : (b : Bool) → pos 0 <ℤ scaled_number l w.1 → pos 0 ≤ℤ coefficient (scaled_by l ws) j
+        → pos 0 ≤ℤ (cond b (scaled_number l w.1) (pos 0) +ℤ coefficient (scaled_by l ws) j)
     by_test true g k = omega (arith, ints)
     by_test false g k = omega (arith, ints)
 
 -- as a row over the columns they are canonical
-pub scaled_terms_ascend : (l n from : ℕ) (ws : List (ℕ × Rational)) → 0 < l → Every (λ q. q.den ∣ l) (numbers_of ws) → Every (λ q. IsWithin (scaled_number l q)) (numbers_of ws) → AreWeights rationals n from ws → Ascends from (scaled_by l ws)
+pub scaled_terms_ascend : (l n from : ℕ) (ws : List (ℕ × Rational)) → 0 < l → Every (λ q. q.den ∣ l) (numbers_of ws)
+    → Every (λ q. IsWithin (scaled_number l q)) (numbers_of ws) → AreWeights rationals n from ws → Ascends from (scaled_by l ws)
 scaled_terms_ascend l n from [] h d f a = tt
-scaled_terms_ascend l n from (w ∷ ws) h d f a = (a.0, not_zero (scaled_number l w.1) (scaled_above l w.1 h d.0 a.2), f.0, ascends_from_next (scaled_terms_ascend l n (suc w.0) ws h d.1 f.1 a.3))
+scaled_terms_ascend l n from (w ∷ ws) h d f a = (
+  a.0,
+  not_zero (scaled_number l w.1) (scaled_above l w.1 h d.0 a.2),
+  f.0,
+  ascends_from_next
+      (scaled_terms_ascend l n (suc w.0) ws h d.1 f.1 a.3),
+)
   where
     not_zero : (x : ℤ) → pos 0 <ℤ x → x ≢ pos 0
     not_zero x h e = omega (arith, ints, e)
@@ -110,7 +119,8 @@ module _ (gs : List Generator) (coords : List ℕ) (target : Terms) (ws : List (
 
   -- at each coordinate of the list
   pub adds_up : (c : ℕ) → ((k : ℕ) × (k < length coords) × (get_or coords k 0 ≡ c))
-      → pos (scale_of (numbers_of ws)) *ℤ coefficient target c ≡ value (weights_from 0 0 gs (coefficient (scaled_by (scale_of (numbers_of ws)) ws))) (column gs c)
+      → pos (scale_of (numbers_of ws)) *ℤ coefficient target c
+      ≡ value (weights_from 0 0 gs (coefficient (scaled_by (scale_of (numbers_of ws)) ws))) (column gs c)
   adds_up c i =
       sym (scaled_sum (scale_of (numbers_of ws)) ws (λ j. coefficient (get_or (columns gs) j []) c) (coefficient target c) scaled_divide
       (sums_up coords (columns gs) target ws a c i))
@@ -126,5 +136,6 @@ module _ (gs : List Generator) (coords : List ℕ) (target : Terms) (ws : List (
   pub scaled_positive : (j : ℕ) → pos 0 ≤ℤ coefficient (scaled_by (scale_of (numbers_of ws)) ws) j
   scaled_positive = coefficient_not_negative (scale_of (numbers_of ws)) (length (columns gs)) 0 ws scale_some scaled_divide a.ordered
 
-  pub scaled_canonical : Every (λ q. IsWithin (scaled_number (scale_of (numbers_of ws)) q)) (numbers_of ws) → Ascends 0 (scaled_by (scale_of (numbers_of ws)) ws)
+  pub scaled_canonical : Every (λ q. IsWithin (scaled_number (scale_of (numbers_of ws)) q)) (numbers_of ws)
+      → Ascends 0 (scaled_by (scale_of (numbers_of ws)) ws)
   scaled_canonical f = scaled_terms_ascend (scale_of (numbers_of ws)) (length (columns gs)) 0 ws scale_some scaled_divide f a.ordered

@@ -1,6 +1,6 @@
 -- Problems over closed sets, made once for runs about many targets under a problem and under those that begin with its generators.
 use Rattle.std.specs.Prelude.{◌≡◌, ℕ, ◌<◌, ◌≤◌, List, [], ◌∷◌, length, take, map}
-use Rattle.it_space.specs.Problems.{ProblemView}
+use Rattle.it_problems.specs.Problems.{ProblemView}
 use Rattle.it_space.specs.Rows.{Terms, coefficient}
 use Rattle.it_elemental.specs.Generators.{Generator, generators, generator_at}
 use Rattle.it_closure.specs.declared.dependences.Dependence.{Dependence}

@@ -2,7 +2,7 @@
 ghost use Rattle.std.specs.Prelude.{◌≡◌, ◌≢◌, ℕ, true, IfOk, OnOk};
 ghost use Rattle.std.specs.Option.{IfNone, IfSome};
 ghost use Rattle.it_space.specs.declared.answers.Cause.TheVariants as causes;
-ghost use Rattle.it_space.specs.Problems.{ProblemView};
+ghost use Rattle.it_problems.specs.Problems.{ProblemView};
 ghost use Rattle.it_space.specs.Rows.{IsOver};
 ghost use Rattle.it_space.specs.Spaces.{size_of};
 ghost use Rattle.it_prove.specs.ClosedProblems.{IsClosedProblem};
@@ -11,7 +11,8 @@ ghost use Rattle.it_prove.specs.ProofViews.{EndsWith, IsRightProof, IsSettled, U
 use crate::closed::ClosedProblem;
 use crate::quick::settle;
 use crate::types::{Effort, Proof};
-use it_space::{Problem, Row};
+use it_problems::Problem;
+use it_space::Row;
 use std::alloc::{AllocError, Global};
 
 /// The most steps of a quick run. Answers don't show it.

@@ -15,7 +15,8 @@ use it_closure::column_count;
 use it_columns::common_scale;
 use it_elemental::{generator_count, kind_at};
 use it_fraction::Fraction;
-use it_space::{Certificate, Kind, Problem, Row, RowFault, push_some};
+use it_problems::{Kind, Problem};
+use it_space::{Certificate, Row, RowFault, push_some};
 use std::alloc::{AllocError, Global};
 
 /// The weight of a generator of this kind whose first column is `column`, where `row` has the weights of columns: for an equation that

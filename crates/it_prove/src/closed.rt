@@ -9,8 +9,9 @@ use crate::columns::push_columns;
 use crate::types::Effort;
 use it_closure::Dependences;
 use it_elemental::generator_count;
+use it_problems::Problem;
 use it_quick::QuickProblem;
-use it_space::{Problem, Row, RowFault};
+use it_space::{Row, RowFault};
 use std::alloc::{AllocError, Global};
 
 /// A problem over closed sets: its dependences, its coordinates, and the columns of its first `count` generators; and the state of quick

@@ -7,7 +7,8 @@ ghost use Rattle.it_prove.specs.Steps.{GeneratorFits, GoOnBy, closed_columns, cl
 use it_closure::Dependences;
 use it_columns::{generator_row, push_row};
 use it_elemental::kind_at;
-use it_space::{Problem, Row, RowFault};
+use it_problems::Problem;
+use it_space::{Row, RowFault};
 use std::alloc::Global;
 
 /// The row of generator `index` over closed sets. `Wide` if a partial sum of its coefficients passes the limit.

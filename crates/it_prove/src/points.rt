@@ -12,7 +12,8 @@ ghost use Rattle.it_columns.specs.Scaling.{NumbersFit, scaled_point};
 use it_closure::Dependences;
 use it_columns::{common_scale, scaled_values};
 use it_fraction::Fraction;
-use it_space::{Point, Problem, Row, RowFault, push_some};
+use it_problems::Problem;
+use it_space::{Point, Row, RowFault, push_some};
 use std::alloc::{AllocError, Global};
 
 /// Appends coordinate number `k` with its value, unless that is 0.

@@ -2,7 +2,7 @@
 //! The result of a last call is named before it is returned, so that its contract is available at the return.
 ghost use Rattle.std.specs.Prelude.{◌≡◌, ◌++◌, ℕ, IfErr, IfOk, OnOk};
 ghost use Rattle.it_space.specs.Answers.{certificate_view};
-ghost use Rattle.it_space.specs.Problems.{ProblemView};
+ghost use Rattle.it_problems.specs.Problems.{ProblemView};
 ghost use Rattle.it_space.specs.Rows.{IsOver, coefficient};
 ghost use Rattle.it_space.specs.Spaces.{size_of};
 ghost use Rattle.it_closure.specs.Reading.{dependences_of};
@@ -22,8 +22,9 @@ use it_check::{Verdict, check_no, check_yes};
 use it_closure::Dependences;
 use it_fraction::Fraction;
 use it_lift::lift;
+use it_problems::Problem;
 use it_simplex::{Budget, Solved, solve};
-use it_space::{Cause, Certificate, Problem, Row, RowFault};
+use it_space::{Cause, Certificate, Row, RowFault};
 use std::alloc::{AllocError, Global};
 
 /// The certificate by weights of the columns over closed sets, lifted to all sets. `Wide` if a number of the scaled weights or of the

@@ -9,8 +9,9 @@ ghost use Rattle.it_prove.specs.ProofViews.{IsSettled, proof_view};
 
 use crate::types::Proof;
 use it_check::{Verdict, check_no, check_yes};
+use it_problems::Problem;
 use it_quick::{Proposal, QuickProblem};
-use it_space::{Certificate, Point, Problem, Row};
+use it_space::{Certificate, Point, Row};
 use std::alloc::{AllocError, Global};
 
 /// Whether `weight` may be the next in an ascending list: its generator's number is at least `from`, and it is nonzero and within the

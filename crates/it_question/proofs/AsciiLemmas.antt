@@ -22,7 +22,6 @@ use Rattle.it_syntax.proofs.RunLemmas.{value_digits}
 use Rattle.it_question.specs.AsciiTexts.{IsAsciiQuestion, TextsAreAscii}
 use Rattle.it_question.specs.Lines.{LineView, split_lines, file_end, line_letters, letters_of_lines}
 use Rattle.it_question.specs.NewNames.{NameSortView, Variable, Rate, with_name, no_names}
-use Rattle.it_question.specs.QuestionLimits.{most_variables, most_rates}
 use Rattle.it_question.specs.QuestionForms.{new_name, more_new, new_names, names_line, question, file}
 use Rattle.it_question.specs.Questions.{BodyView, QuestionView}
 use Rattle.it_question.proofs.LineParts.{AreWhole, lines_sound, texts_of}
@@ -34,6 +33,7 @@ use Rattle.it_forms.proofs.FormLanguage.{prefix_moves}
 use Rattle.it_forms.proofs.LetterLemmas.{letters_append, letters_cleaned}
 use Rattle.it_question.specs.LineTexts.{without_leading, unless_blank, without_trailing, text_of_lines}
 use Rattle.it_question.specs.Texts.{question_line_count, with_texts}
+use Rattle.it_space.specs.Spaces.{most_variables, most_rates}
 
 -- ---- bytes of tokens
 
@@ -115,7 +115,8 @@ lines_ascii : (lines : List LineView) → AreWhole lines → IsAscii (text_of_li
 lines_ascii [] h = IsAscii-nil
 lines_ascii (l ∷ lines) h =
     let line = trailing_ascii (without_leading l.text) (leading_ascii l.text (spelled_ascii 0 l.text l.tokens h.0.spelled)) in
-    IsAscii-append (without_trailing (without_leading l.text)) (10 ∷ text_of_lines (texts_of lines)) line (IsAscii-cons 10 (text_of_lines (texts_of lines)) (omega arith) (lines_ascii lines h.1))
+    IsAscii-append (without_trailing (without_leading l.text)) (10 ∷ text_of_lines (texts_of lines)) line
+    (IsAscii-cons 10 (text_of_lines (texts_of lines)) (omega arith) (lines_ascii lines h.1))
 
 -- ---- the words of lines
 
@@ -146,7 +147,8 @@ lines_words : (lines : List LineView) → AreWhole lines → AsciiWords (letters
 lines_words [] h = tt
 lines_words (l ∷ lines) h =
     let words = until_words l.text l.tokens (spelled_ascii 0 l.text l.tokens h.0.spelled) in
-    let line : AsciiWords (line_letters l) = subst (λ (m : Option Misspelling). AsciiWords (letters_until l.text l.tokens (last_letter m))) (sym h.0.misspelling) words in
+    let line : AsciiWords (line_letters l) = subst (λ (m : Option Misspelling). AsciiWords (letters_until l.text l.tokens (last_letter m)))
+    (sym h.0.misspelling) words in
     words_append (line_letters l) (letters_of_lines lines) line (lines_words lines h.1)
 
 -- ---- the names that are spelled
@@ -164,14 +166,16 @@ name_ascii Rate v w a h = record { variables = a.variables; rates = All-append I
 
 -- the words of what follows a form are ASCII
 words_after : {A : Type 0} (f : Form A) (y : A) (m k : FlaggedLetters) → Spells f y m k → AsciiWords (letters m) → AsciiWords (letters k)
-words_after f y m k s h = let w = prefix_moves f y m k s in words_behind (letters w.prefix) (letters k) (subst AsciiWords (ap letters w.is ∙ letters_append w.prefix k) h)
+words_after f y m k s h = let w = prefix_moves f y m k s
+    in words_behind (letters w.prefix) (letters k) (subst AsciiWords (ap letters w.is ∙ letters_append w.prefix k) h)
   where
     words_behind : (a b : List Letter) → AsciiWords (a ++ b) → AsciiWords b
     words_behind [] b h = h
     words_behind (Word w ∷ a) b h = words_behind a b h.1
     words_behind (l ∷ a) b h = words_behind a b h
 
-new_name_ascii : (sort : NameSortView) (most : ℕ) (v y : NamesView) (m k : FlaggedLetters) → Spells (new_name sort most v) y m k → AsciiNames v → AsciiWords (letters m) → AsciiNames y
+new_name_ascii : (sort : NameSortView) (most : ℕ) (v y : NamesView) (m k : FlaggedLetters) → Spells (new_name sort most v) y m k
+    → AsciiNames v → AsciiWords (letters m) → AsciiNames y
 unfolding new_name Spells
 new_name_ascii sort most v y m k s a h = subst AsciiNames s.2 (by_letter s.0 s.1 (subst (λ (q : FlaggedLetters). AsciiWords (letters q)) s.3 h))
   where
@@ -179,23 +183,29 @@ new_name_ascii sort most v y m k s a h = subst AsciiNames s.2 (by_letter s.0 s.1
     by_letter (Word w) e h = name_ascii sort v w a h.0
     by_letter l e h = absurd cc
 
-more_names_ascii : (sort : NameSortView) (most : ℕ) (v y : NamesView) (m k : FlaggedLetters) → Spells (more_new sort most v) y m k → AsciiNames v → AsciiWords (letters m) → AsciiNames y
+more_names_ascii : (sort : NameSortView) (most : ℕ) (v y : NamesView) (m k : FlaggedLetters) → Spells (more_new sort most v) y m k
+    → AsciiNames v → AsciiWords (letters m) → AsciiNames y
 unfolding more_new Spells
 more_names_ascii sort most v y m k s a h = turns s.0 v m s.1 a h
   where
-    turns : (n : ℕ) (v : NamesView) (m : FlaggedLetters) → AreTurns (λ (v : NamesView). symbol Comma) (λ v u. Spells (Then (new_name sort most v) (λ more. Give more))) n v y m k → AsciiNames v → AsciiWords (letters m) → AsciiNames y
+    turns : (n : ℕ) (v : NamesView) (m : FlaggedLetters)
+        → AreTurns (λ (v : NamesView). symbol Comma) (λ v u. Spells (Then (new_name sort most v) (λ more. Give more))) n v y m k
+        → AsciiNames v → AsciiWords (letters m) → AsciiNames y
     turns zero v m t a h = subst AsciiNames t.0 a
     turns (suc n) v m t a h =
         let words = words_after (Take (symbol Comma)) t.0 m t.1 t.4 h in
-        turns n t.2 t.3 t.6 (subst AsciiNames t.5.3.0 (new_name_ascii sort most v t.5.0 t.1 t.5.1 t.5.2 a words)) (words_after (Then (new_name sort most v) (λ more. Give more)) t.2 t.1 t.3 t.5 words)
+        turns n t.2 t.3 t.6 (subst AsciiNames t.5.3.0 (new_name_ascii sort most v t.5.0 t.1 t.5.1 t.5.2 a words))
+        (words_after (Then (new_name sort most v) (λ more. Give more)) t.2 t.1 t.3 t.5 words)
 
-new_names_ascii : (sort : NameSortView) (most : ℕ) (v y : NamesView) (m k : FlaggedLetters) → Spells (new_names sort most v) y m k → AsciiNames v → AsciiWords (letters m) → AsciiNames y
+new_names_ascii : (sort : NameSortView) (most : ℕ) (v y : NamesView) (m k : FlaggedLetters) → Spells (new_names sort most v) y m k
+    → AsciiNames v → AsciiWords (letters m) → AsciiNames y
 unfolding new_names Spells
 new_names_ascii sort most v y m k s a h =
     let first = new_name_ascii sort most v s.0 m s.1 s.2 a h in
     subst AsciiNames s.3.3.3.0 (more_names_ascii sort most s.0 s.3.0 s.1 s.3.1 s.3.2 first (words_after (new_name sort most v) s.0 m s.1 s.2 h))
 
-names_line_ascii : (sort : NameSortView) (most : ℕ) (keyword : List ℕ) (v y : NamesView) (m k : FlaggedLetters) → Spells (names_line sort most keyword v) y m k → AsciiNames v → AsciiWords (letters m) → AsciiNames y
+names_line_ascii : (sort : NameSortView) (most : ℕ) (keyword : List ℕ) (v y : NamesView) (m k : FlaggedLetters)
+    → Spells (names_line sort most keyword v) y m k → AsciiNames v → AsciiWords (letters m) → AsciiNames y
 unfolding names_line Spells
 names_line_ascii sort most keyword v y m k (inl s) a h = new_names_ascii sort most v y s.1 k s.3 a (words_after (Take (word keyword)) s.0 m s.1 s.2 h)
 names_line_ascii sort most keyword v y m k (inr s) a h = subst AsciiNames s.0 a
@@ -217,11 +227,15 @@ all_questions lines (b ∷ qs) a =
     let i = question_line_count b in
     let h = a.0 in
     let words : AsciiWords h.said = (subst AsciiWords h.first (lines_words (take i lines) h.whole)).1 in
-    let all : AsciiWords (letters (without_flags h.said ++ the_end)) = subst AsciiWords (sym (letters_append (without_flags h.said) the_end ∙ ap (λ (ls : List Letter). ls ++ file_end ∷ []) (letters_cleaned h.said))) (words_append h.said (file_end ∷ []) words tt) in
+    let all : AsciiWords (letters (without_flags h.said ++ the_end)) = subst AsciiWords
+    (sym (letters_append (without_flags h.said) the_end ∙ ap (λ (ls : List Letter). ls ++ file_end ∷ []) (letters_cleaned h.said)))
+    (words_append h.said (file_end ∷ []) words tt) in
     let names = names_ascii b (without_flags h.said ++ the_end) the_end h.says all in
     let q : QuestionView = record { body = b; text = text_of_lines (texts_of (take i lines)) } in
     let first : IsAsciiQuestion q = record { text = lines_ascii (take i lines) h.whole; variables = names.variables; rates = names.rates } in
     All-cons IsAsciiQuestion q (with_texts (drop i lines) qs) first (all_questions (drop i lines) qs a.1)
 
 pub texts_are_ascii : TextsAreAscii
-texts_are_ascii bytes qs asked = subst (All IsAsciiQuestion) asked.says (all_questions asked.lines asked.tree.0 (questions_at asked.lines asked.tree.0 (lines_sound 1 (split_lines bytes) asked.lines asked.cut) (said file with_texts bytes qs asked)))
+texts_are_ascii bytes qs asked = subst (All IsAsciiQuestion) asked.says
+    (all_questions asked.lines asked.tree.0 (questions_at asked.lines asked.tree.0 (lines_sound 1 (split_lines bytes) asked.lines asked.cut)
+    (said file with_texts bytes qs asked)))

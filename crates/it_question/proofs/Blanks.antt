@@ -55,7 +55,8 @@ solid_kept (b ∷ text) rest h = ap (unless_blank b) (solid_kept text rest h.1) 
 
 pub some_kept : (gap line : List ℕ) (c : ℕ) (more : List ℕ) → without_trailing line ≡ c ∷ more → without_trailing (gap ++ line) ≡ gap ++ without_trailing line
 some_kept [] line c more e = refl
-some_kept (b ∷ gap) line c more e = ap (unless_blank b) (some_kept gap line c more e) ∙ ap (λ (t : List ℕ). unless_blank b (gap ++ t)) e ∙ by_list gap ∙ ap (λ (t : List ℕ). b ∷ (gap ++ t)) (sym e)
+some_kept (b ∷ gap) line c more e = ap (unless_blank b) (some_kept gap line c more e) ∙ ap (λ (t : List ℕ). unless_blank b (gap ++ t)) e
+    ∙ by_list gap ∙ ap (λ (t : List ℕ). b ∷ (gap ++ t)) (sym e)
   where
     by_list : (gap : List ℕ) → unless_blank b (gap ++ c ∷ more) ≡ b ∷ (gap ++ c ∷ more)
     by_list [] = refl
@@ -75,4 +76,5 @@ trailing_once (b ∷ line) = by_list (without_trailing line) (trailing_once line
 
 -- what is trimmed stays so
 pub trimmed_once : (line : List ℕ) → without_trailing (without_leading (without_trailing (without_leading line))) ≡ without_trailing (without_leading line)
-trimmed_once line = ap without_trailing (leading_kept (without_trailing (without_leading line)) (trailing_stops is_space (without_leading line) (leading_stops line))) ∙ trailing_once (without_leading line)
+trimmed_once line = ap without_trailing (leading_kept (without_trailing (without_leading line))
+    (trailing_stops is_space (without_leading line) (leading_stops line))) ∙ trailing_once (without_leading line)

@@ -15,11 +15,13 @@ clean_itself : (m : FlaggedLetters) (ls : List Letter) → m ≡ without_flags l
 clean_itself m ls e = let back : letters m ≡ ls = ap letters e ∙ letters_cleaned ls in (e ∙ ap without_flags (sym back), sym back)
 
 -- one more letter without a flag in front
-one_more_clean : (x : Letter × Option Code) (l : Letter) (p k : FlaggedLetters) (ls : List Letter) → x ≡ (l, None) → CleanParts p k ls → CleanParts (x ∷ p) k (l ∷ ls)
+one_more_clean : (x : Letter × Option Code) (l : Letter) (p k : FlaggedLetters) (ls : List Letter) → x ≡ (l, None) → CleanParts p k ls
+    → CleanParts (x ∷ p) k (l ∷ ls)
 one_more_clean x l p k ls e c =
     let letter : x.0 ≡ l = ap (λ (y : Letter × Option Code). y.0) e in
     record {
-      prefix = ap (λ (y : Letter × Option Code). y ∷ p) (e ∙ ap (λ (l : Letter). (l, None)) (sym letter)) ∙ ap (λ (q : FlaggedLetters). (x.0, None) ∷ q) c.prefix;
+      prefix = ap (λ (y : Letter × Option Code). y ∷ p) (e ∙ ap (λ (l : Letter). (l, None)) (sym letter))
+          ∙ ap (λ (q : FlaggedLetters). (x.0, None) ∷ q) c.prefix;
       after = c.after;
       all = ap (λ (y : Letter). y ∷ ls) (sym letter) ∙ ap (λ (q : List Letter). x.0 ∷ q) c.all;
     }

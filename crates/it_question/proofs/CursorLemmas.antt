@@ -39,4 +39,5 @@ own_code-line r more = by_tokens r.tokens.now
 
     by_tokens : (ts : List Token) → own_code (letters_until r.line.now ts end_letter ++ more) ≡ own_code (letters_until r.line.now ts end_letter)
     by_tokens [] = own_code-first end_letter more []
-    by_tokens (t ∷ ts) = own_code-first (letter_of r.line.now t.start t.end t.kind) (letters_until r.line.now ts end_letter ++ more) (letters_until r.line.now ts end_letter)
+    by_tokens (t ∷ ts) = own_code-first (letter_of r.line.now t.start t.end t.kind) (letters_until r.line.now ts end_letter ++ more)
+        (letters_until r.line.now ts end_letter)

@@ -29,7 +29,8 @@ plain_shorter line = omega (arith, length-map (before_comment (without_return li
 abbrev pub GoOn : ℕ → List (List ℕ) → List (List ℕ) → List LineView → Type 0
 GoOn n whole more old = (rest : List LineView) → AreLines n more rest → AreLines 1 whole (old ++ rest)
 
-pub goes_on : (n : ℕ) (whole more : List (List ℕ)) (bytes : List ℕ) (old new : List LineView) → GoOn n whole (bytes ∷ more) old → IsLineAdded n bytes old new → GoOn (n + 1) whole more new
+pub goes_on : (n : ℕ) (whole more : List (List ℕ)) (bytes : List ℕ) (old new : List LineView) → GoOn n whole (bytes ∷ more) old
+    → IsLineAdded n bytes old new → GoOn (n + 1) whole more new
 goes_on n whole more bytes old new h (inl a) rest r = subst (λ (t : List LineView). AreLines 1 whole (t ++ rest)) (sym a.1) (h rest (inl (a.0, r)))
 goes_on n whole more bytes old new h (inr a) rest r =
     let e : new ++ rest ≡ old ++ a.0 ∷ rest = ap (λ (t : List LineView). t ++ rest) a.1 ∙ append_assoc old (a.0 ∷ []) rest in

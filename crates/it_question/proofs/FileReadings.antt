@@ -19,7 +19,8 @@ use Rattle.it_question.proofs.QuestionOutlines.{file_has}
 use Rattle.it_question.proofs.WholeFileLemmas.{asked_is_read, read_says}
 
 -- a file whose letters were read
-pub file_read : (bytes : List ℕ) (lines : List LineView) (ys : List BodyView) (r : List Letter) (qs : List QuestionView) → AreLinesOf bytes lines → read file (letters_of_lines lines) ≡ Ok (ys, r) → qs ≡ with_texts lines ys → IsFile bytes qs
+pub file_read : (bytes : List ℕ) (lines : List LineView) (ys : List BodyView) (r : List Letter) (qs : List QuestionView)
+    → AreLinesOf bytes lines → read file (letters_of_lines lines) ≡ Ok (ys, r) → qs ≡ with_texts lines ys → IsFile bytes qs
 file_read bytes lines ys r qs cut e are = subst (IsFile bytes) (sym are) (read_says file _ file_has file_ends with_texts bytes lines ys r cut e)
 
 -- the questions with their texts are those that were read
@@ -35,10 +36,13 @@ from_map P f (x ∷ xs) h = All-cons (λ y. P (f y)) x xs (All-head P (f x) (map
 all_limited : (ls r : List Letter) (ys : List BodyView) → read file ls ≡ Ok (ys, r) → All IsQuestion ys
 all_limited ls r ys e = All-weaker IsRead IsQuestion (λ q h. h.limits) ys (file_limited ls r ys e)
 
-pub bodies_limited : (bodies : List Body) (lines : List LineView) (r : List Letter) → read file (letters_of_lines lines) ≡ Ok (map body_view bodies, r) → All (λ b. IsQuestion (body_view b)) bodies
+pub bodies_limited : (bodies : List Body) (lines : List LineView) (r : List Letter)
+    → read file (letters_of_lines lines) ≡ Ok (map body_view bodies, r) → All (λ b. IsQuestion (body_view b)) bodies
 bodies_limited bodies lines r e = from_map IsQuestion body_view bodies (all_limited (letters_of_lines lines) r (map body_view bodies) e)
 
-pub questions_limited : (qs : List Question) (lines : List LineView) (ys : List BodyView) (r : List Letter) → read file (letters_of_lines lines) ≡ Ok (ys, r) → map question_view qs ≡ with_texts lines ys → All (λ q. IsQuestion (question_body q)) qs
+pub questions_limited : (qs : List Question) (lines : List LineView) (ys : List BodyView) (r : List Letter)
+    → read file (letters_of_lines lines) ≡ Ok (ys, r) → map question_view qs ≡ with_texts lines ys
+    → All (λ q. IsQuestion (question_body q)) qs
 questions_limited qs lines ys r e are =
     let same : map question_body qs ≡ ys = map_twice qs ∙ ap (map (λ (q : QuestionView). q.body)) are ∙ body_again lines ys in
     from_map IsQuestion question_body qs (subst (All IsQuestion) (sym same) (all_limited (letters_of_lines lines) r ys e))
@@ -50,13 +54,16 @@ questions_limited qs lines ys r e are =
 -- the questions of a file are read
 file_is_read : (bytes : List ℕ) (qs : List QuestionView) → IsFile bytes qs → All (λ (q : QuestionView). IsRead q.body) qs
 file_is_read bytes qs asked =
-    from_map IsRead (λ (q : QuestionView). q.body) qs (subst (All IsRead) (sym (body_again asked.lines asked.tree.0) ∙ ap (map (λ (q : QuestionView). q.body)) asked.says)
+    from_map IsRead (λ (q : QuestionView). q.body) qs (subst (All IsRead)
+    (sym (body_again asked.lines asked.tree.0) ∙ ap (map (λ (q : QuestionView). q.body)) asked.says)
     (file_limited (letters_of_lines asked.lines) [] asked.tree.0 (asked_is_read file _ file_has with_texts bytes qs asked)))
 
 -- so they keep the limits
 pub file_limits : (bytes : List ℕ) (qs : List QuestionView) → IsFile bytes qs → All (λ (q : QuestionView). IsQuestion q.body) qs
-file_limits bytes qs asked = All-weaker (λ (q : QuestionView). IsRead q.body) (λ (q : QuestionView). IsQuestion q.body) (λ q h. h.limits) qs (file_is_read bytes qs asked)
+file_limits bytes qs asked = All-weaker (λ (q : QuestionView). IsRead q.body) (λ (q : QuestionView). IsQuestion q.body) (λ q h. h.limits) qs
+    (file_is_read bytes qs asked)
 
 -- and their tables aren't too large
 pub file_has_small_tables : (bytes : List ℕ) (qs : List QuestionView) → IsFile bytes qs → All (λ (q : QuestionView). HasSmallTable q.body) qs
-file_has_small_tables bytes qs asked = All-weaker (λ (q : QuestionView). IsRead q.body) (λ (q : QuestionView). HasSmallTable q.body) (λ q h. h.small) qs (file_is_read bytes qs asked)
+file_has_small_tables bytes qs asked = All-weaker (λ (q : QuestionView). IsRead q.body) (λ (q : QuestionView). HasSmallTable q.body)
+    (λ q h. h.small) qs (file_is_read bytes qs asked)

@@ -9,7 +9,7 @@ use Rattle.std.proofs.lemmas.List.Elements.{All-nil, All-cons, All-head, All-tai
 use Rattle.std.proofs.lemmas.List.Quantifiers.{position-Some}
 use Rattle.it_closure.specs.Sizes.{table_size}
 use Rattle.it_demand.specs.QuestionSpaces.{space_of}
-use Rattle.it_space.specs.Spaces.{IsSpace}
+use Rattle.it_space.specs.Spaces.{IsSpace, most_variables, most_rates}
 use Rattle.it_forms.specs.declared.types.Code.TheVariants as codes
 use Rattle.it_forms.specs.declared.types.Symbol.TheVariants.{Comma, Semicolon}
 use Rattle.it_forms.specs.Letters.{Letter}
@@ -27,7 +27,7 @@ use Rattle.it_syntax.proofs.FormLimits.{Knows, empty_is_set, names_keep, relatio
 use Rattle.it_question.specs.Limits.{AreLinesOver, IsRegionOf, IsTryOf, AreRatesOf, IsVerbOver, IsQuestion}
 use Rattle.it_question.specs.NewNames.{NameSortView, Variable, Rate, with_name, no_names, is_taken, new_flag, once_flag}
 use Rattle.it_question.specs.QuestionForms.{count, new_name, more_new, new_names, names_line, own_line, own_words, own_keyword, more_own_lines, own_lines, once, more_once, distinct, auxiliary, set, part, more_parts, try_line, more_tries, region, containment, verb, question, more_questions, file}
-use Rattle.it_question.specs.QuestionLimits.{most_questions, most_variables, most_rates, most_lines, auxiliaries_left, givens_left, rows_left}
+use Rattle.it_question.specs.QuestionLimits.{most_questions, most_lines, auxiliaries_left, givens_left, rows_left}
 use Rattle.it_question.specs.Questions.{OwnLinesView, RegionView, VerbView, Prove, Eliminate, Contain, BodyView, no_lines}
 use Rattle.it_question.specs.ProblemLines.{givens_alone, names_under, lines_under}
 use Rattle.it_question.specs.TableSizes.{problem_of_lines, most_entries, size_flag, HasSmallTable}
@@ -59,21 +59,25 @@ name_keeps sort least most v w g l e m =
 
 more_names_keep : (sort : NameSortView) (most : ℕ) (v w : NamesView) → AreNamed sort most v w → Always (more_new sort most w) (λ p y. AreNamed sort most v y)
 unfolding more_new
-more_names_keep sort most v w h = each_keeps (Punctuation Comma ∷ []) (λ a l. (None, tt {0})) (λ a u. new_name sort most a) (λ v more. more) (AreNamed sort most v) (λ a ha l e m. name_keeps sort 1 most v a ha.grown) w h
+more_names_keep sort most v w h = each_keeps (Punctuation Comma ∷ []) (λ a l. (None, tt {0})) (λ a u. new_name sort most a) (λ v more. more)
+    (AreNamed sort most v) (λ a ha l e m. name_keeps sort 1 most v a ha.grown) w h
 
 new_names_keep : (sort : NameSortView) (most : ℕ) (v : NamesView) → Always (new_names sort most v) (λ p y. AreNamed sort most v y)
 unfolding new_names Always
-new_names_keep sort most v = always_weaker (new_name sort most v) _ _ (λ p a ha. always_weaker (more_new sort most a) _ _ (λ q b hb l e m. hb) (more_names_keep sort most v a ha)) (name_keeps sort 0 most v v (not_grown sort v))
+new_names_keep sort most v = always_weaker (new_name sort most v) _ _ (λ p a ha. always_weaker (more_new sort most a) _ _
+    (λ q b hb l e m. hb) (more_names_keep sort most v a ha)) (name_keeps sort 0 most v v (not_grown sort v))
 
 -- a line with names, or none
 record MayBeNamed (sort : NameSortView) (most : ℕ) (v w : NamesView) : Type 0 where
   grown : IsGrown sort 0 v w
   few : count sort v ≤ most → count sort w ≤ most
 
-names_line_keeps : (sort : NameSortView) (most : ℕ) (keyword : List ℕ) (v : NamesView) → Always (names_line sort most keyword v) (λ p y. MayBeNamed sort most v y)
+names_line_keeps : (sort : NameSortView) (most : ℕ) (keyword : List ℕ) (v : NamesView)
+    → Always (names_line sort most keyword v) (λ p y. MayBeNamed sort most v y)
 unfolding names_line Always
 names_line_keeps sort most keyword v = (
-  λ l e m. always_weaker (new_names sort most v) _ _ (λ p y h. record { grown = record { own = h.grown.own; is = h.grown.is; some = omega arith }; few = λ k. h.few }) (new_names_keep sort most v),
+  λ l e m. always_weaker (new_names sort most v) _ _ (λ p y h.
+      record { grown = record { own = h.grown.own; is = h.grown.is; some = omega arith }; few = λ k. h.few }) (new_names_keep sort most v),
   record { grown = not_grown sort v; few = λ k. k },
 )
 
@@ -93,27 +97,58 @@ record AreOwn (g r : ℕ) (v : NamesView) (own : OwnLinesView) : Type 0 where
 all_and_one : {X : Type 0} (P : X → Type 0) (xs : List X) (x : X) → All P xs → P x → All P (xs ++ x ∷ [])
 all_and_one P xs x h k = All-append P xs (x ∷ []) h (All-cons P x [] k (All-nil P))
 
-own_line_keeps : (g r : ℕ) (v : NamesView) (own : OwnLinesView) (b : Bool) → AreOwn g r v own → limit_flag (if b then givens_left g own else rows_left r own) ≡ None → Always (own_line v own b) (λ p y. AreOwn g r v y)
+own_line_keeps : (g r : ℕ) (v : NamesView) (own : OwnLinesView) (b : Bool) → AreOwn g r v own
+    → limit_flag (if b then givens_left g own else rows_left r own) ≡ None → Always (own_line v own b) (λ p y. AreOwn g r v y)
 unfolding own_line Always
 own_line_keeps g r v own true h m =
     let some = some_allowed (givens_left g own) m in
-    let more : (x : GivenView) → IsGivenOf (length v.variables) x → AreOwn g r v (record own { givens = own.givens ++ x ∷ [] }) = λ x hx. record { few_givens = omega (arith, some, length-append own.givens (x ∷ [])); few_rows = h.few_rows; givens = all_and_one (IsGivenOf (length v.variables)) own.givens x h.givens hx; rows = h.rows } in
-    always_weaker (to_end (given (scope_of v false))) (λ p x. IsGivenOf (length v.variables) x) (λ p x. AreOwn g r v (record own { givens = own.givens ++ x ∷ [] })) (λ p x hx. more x hx)
+    let more : (x : GivenView) → IsGivenOf (length v.variables) x
+    → AreOwn g r v (record own { givens = own.givens ++ x ∷ [] }) = λ x hx.
+    record {
+      few_givens = omega (arith, some, length-append own.givens (x ∷ []));
+      few_rows = h.few_rows;
+      givens = all_and_one
+          (IsGivenOf (length v.variables)) own.givens x h.givens hx;
+      rows = h.rows;
+    } in
+    always_weaker (to_end (given (scope_of v false))) (λ p x. IsGivenOf (length v.variables) x)
+    (λ p x. AreOwn g r v (record own { givens = own.givens ++ x ∷ [] })) (λ p x hx. more x hx)
     (line_keeps (given (scope_of v false)) (IsGivenOf (length v.variables)) (given_keeps (scope_of v false) (length v.variables) (variables_covered v)))
 own_line_keeps g r v own false h m =
     let some = some_allowed (rows_left r own) m in
-    let more : (x : RelationView) → IsRelationOf (length v.variables) (length v.rates) x → AreOwn g r v (record own { rows = own.rows ++ x ∷ [] }) = λ x hx. record { few_givens = h.few_givens; few_rows = omega (arith, some, length-append own.rows (x ∷ [])); givens = h.givens; rows = all_and_one (IsRelationOf (length v.variables) (length v.rates)) own.rows x h.rows hx } in
-    always_weaker (to_end (relation (scope_of v true))) (λ p x. IsRelationOf (length v.variables) (length v.rates) x) (λ p x. AreOwn g r v (record own { rows = own.rows ++ x ∷ [] })) (λ p x hx. more x hx)
-    (line_keeps (relation (scope_of v true)) (IsRelationOf (length v.variables) (length v.rates)) (relation_keeps (scope_of v true) (length v.variables) (length v.rates) (scope_covers v true)))
+    let more : (x : RelationView) → IsRelationOf (length v.variables) (length v.rates) x
+    → AreOwn g r v (record own { rows = own.rows ++ x ∷ [] }) = λ x hx.
+    record {
+      few_givens = h.few_givens;
+      few_rows = omega (arith, some, length-append own.rows (x ∷ []));
+      givens = h.givens;
+      rows
+          = all_and_one (IsRelationOf (length v.variables) (length v.rates)) own.rows x h.rows hx;
+    } in
+    always_weaker (to_end (relation (scope_of v true))) (λ p x. IsRelationOf (length v.variables) (length v.rates) x)
+    (λ p x. AreOwn g r v (record own { rows = own.rows ++ x ∷ [] })) (λ p x hx. more x hx)
+    (line_keeps (relation (scope_of v true)) (IsRelationOf (length v.variables) (length v.rates))
+    (relation_keeps (scope_of v true) (length v.variables) (length v.rates) (scope_covers v true)))
 
 own_lines_keep : (g r : ℕ) (v : NamesView) → Always (own_lines g r v) (λ p own. AreOwn g r v own)
 unfolding more_own_lines
 own_lines_keep g r v =
     loop_keeps own_words (own_keyword g r) (own_line v) (λ p own. AreOwn g r v own) (λ p own h l e m. own_line_keeps g r v own (is_of (Keyword (codes "given")) l) h m) [] no_lines
-    (record { few_givens = omega arith; few_rows = omega arith; givens = All-nil (IsGivenOf (length v.variables)); rows = All-nil (IsRelationOf (length v.variables) (length v.rates)) })
+    (record {
+      few_givens = omega arith;
+      few_rows = omega arith;
+      givens = All-nil (IsGivenOf (length v.variables));
+      rows = All-nil
+          (IsRelationOf (length v.variables) (length v.rates));
+    })
 
 lines_over : (g r : ℕ) (v : NamesView) (own : OwnLinesView) → g ≤ 64 → r ≤ 64 → AreOwn g r v own → AreLinesOver v own
-lines_over g r v own few_g few_r h = record { few_givens = omega (arith, few_g, h.few_givens); few_rows = omega (arith, few_r, h.few_rows); givens = h.givens; rows = h.rows }
+lines_over g r v own few_g few_r h = record {
+  few_givens = omega (arith, few_g, h.few_givens);
+  few_rows = omega (arith, few_r, h.few_rows);
+  givens = h.givens;
+  rows = h.rows;
+}
 
 -- ---- the rates of an `eliminate` line
 
@@ -121,7 +156,9 @@ lines_over g r v own few_g few_r h = record { few_givens = omega (arith, few_g, 
 knows_rates : (v : NamesView) → Knows (index_of v.rates) (length v.rates)
 knows_rates v w i e = (position-Some (bytes_eq w) v.rates i [] e).0
 
-unseen : (m : ℕ) (measure : Bool) (seen : List ℕ) (o : Option ℕ) → ((i : ℕ) → o ≡ Some i → i < m) → once_flag measure (λ i. list_any (λ j. j == i) seen) o ≡ None → (unwrap_or o 0 < m) × (list_any (λ j. j == unwrap_or o 0) seen ≡ false)
+unseen : (m : ℕ) (measure : Bool) (seen : List ℕ) (o : Option ℕ) → ((i : ℕ) → o ≡ Some i → i < m)
+    → once_flag measure (λ i. list_any (λ j. j == i) seen) o ≡ None → (unwrap_or o 0 < m)
+    × (list_any (λ j. j == unwrap_or o 0) seen ≡ false)
 unseen m true seen o k e = absurd cc
 unseen m false seen None k e = absurd cc
 unseen m false seen (Some i) k e = (k i refl, by_test (list_any (λ j. j == i) seen) e)
@@ -155,8 +192,19 @@ distinct_keeps : (env : Environment) (m : ℕ) → Knows env m → Always (disti
 unfolding distinct more_once Always
 distinct_keeps env m k = always_weaker (once env []) _ _
     (λ p i hi. each_keeps (Punctuation Comma ∷ []) (λ a l. (None, tt {0})) (λ seen u. once env seen) (λ seen i. seen ++ i ∷ []) (AreRatesOf m)
-    (λ seen hs l e u. always_weaker (once env seen) _ _ (λ q j hj. record { some = omega (arith, length-append seen (j ∷ [])); within = all_and_one (λ (r : ℕ). r < m) seen j hs.within hj.0; distinct = distinct_more seen j hs.distinct hj.1 }) (once_keeps env m k seen)) (i ∷ [])
-    (record { some = omega arith; within = all_and_one (λ (r : ℕ). r < m) [] i (All-nil (λ (r : ℕ). r < m)) hi.0; distinct = one_distinct i })) (once_keeps env m k [])
+    (λ seen hs l e u. always_weaker (once env seen) _ _ (λ q j hj.
+    record {
+      some = omega (arith, length-append seen (j ∷ []));
+      within = all_and_one
+          (λ (r : ℕ). r < m) seen j hs.within hj.0;
+      distinct = distinct_more seen j hs.distinct hj.1;
+    }) (once_keeps env m k seen)) (i ∷ [])
+    (record {
+      some = omega arith;
+      within = all_and_one (λ (r : ℕ). r < m) [] i
+          (All-nil (λ (r : ℕ). r < m)) hi.0;
+      distinct = one_distinct i;
+    })) (once_keeps env m k [])
 
 -- ---- `try` lines
 
@@ -178,7 +226,12 @@ unnamed_within n k = by_count k
     empty = empty_is_set n
 
     of_four : (a b c d : Option ℕ) → IsWithin n a → IsWithin n b → IsWithin n c → IsWithin n d → AreWithin n (a ∷ b ∷ c ∷ d ∷ [])
-    of_four a b c d ha hb hc hd = record { four = refl; within = All-cons (IsWithin n) a (b ∷ c ∷ d ∷ []) ha (All-cons (IsWithin n) b (c ∷ d ∷ []) hb (All-cons (IsWithin n) c (d ∷ []) hc (All-cons (IsWithin n) d [] hd (All-nil (IsWithin n))))) }
+    of_four a b c d ha hb hc hd = record {
+      four = refl;
+      within = All-cons (IsWithin n) a (b ∷ c ∷ d ∷ []) ha
+          (All-cons (IsWithin n) b (c ∷ d ∷ []) hb (All-cons (IsWithin n) c (d ∷ []) hc
+          (All-cons (IsWithin n) d [] hd (All-nil (IsWithin n)))));
+    }
 
     by_count : (k : ℕ) → AreWithin n (unnamed_sets k)
     by_count zero = of_four (Some 0) (Some 0) (Some 0) (Some 0) empty empty empty empty
@@ -198,7 +251,8 @@ with_set_within n sets i set small h = record { four = same_length sets i ∙ h.
     all_within : (sets : Sets) (i : ℕ) → All (IsWithin n) sets → All (IsWithin n) (with_set sets i set)
     all_within [] i h = All-nil (IsWithin n)
     all_within (s ∷ sets) zero h = All-cons (IsWithin n) (Some set) sets small (All-tail (IsWithin n) s sets h)
-    all_within (s ∷ sets) (suc i) h = All-cons (IsWithin n) s (with_set sets i set) (All-head (IsWithin n) s sets h) (all_within sets i (All-tail (IsWithin n) s sets h))
+    all_within (s ∷ sets) (suc i) h = All-cons (IsWithin n) s (with_set sets i set) (All-head (IsWithin n) s sets h)
+        (all_within sets i (All-tail (IsWithin n) s sets h))
 
 part_keeps : (aux env : Environment) (n : ℕ) → Knows env n → (sets : Sets) → AreWithin n sets → Always (part aux env sets) (λ p y. AreWithin n y)
 unfolding part auxiliary set Always
@@ -210,8 +264,14 @@ part_keeps aux env n k sets h = λ w e m l' e' m'. (
 try_line_keeps : (aux env : Environment) (n : ℕ) → Knows env n → (sets : Sets) → AreWithin n sets → Always (try_line aux env sets) (λ p t. IsTryOf n t)
 unfolding try_line more_parts Always
 try_line_keeps aux env n k sets h = always_weaker (part aux env sets) _ _
-    (λ p first hf. always_weaker (more_parts aux env first) _ _ (λ q all ha l e m. record { four = length-map all (λ s. unwrap_or s 0) ∙ ha.four; within = All-map (λ (s : ℕ). s < 2 ^ n) (λ s. unwrap_or s 0) all ha.within })
-    (each_keeps (Punctuation Semicolon ∷ []) (λ a l. (None, tt {0})) (λ sets u. part aux env sets) (λ sets more. more) (AreWithin n) (λ sets hs l e m. part_keeps aux env n k sets hs) first hf)) (part_keeps aux env n k sets h)
+    (λ p first hf. always_weaker (more_parts aux env first) _ _ (λ q all ha l e m.
+    record {
+      four = length-map all (λ s. unwrap_or s 0) ∙ ha.four;
+      within = All-map (λ (s : ℕ). s < 2 ^ n) (λ s. unwrap_or s 0) all
+          ha.within;
+    })
+    (each_keeps (Punctuation Semicolon ∷ []) (λ a l. (None, tt {0})) (λ sets u. part aux env sets) (λ sets more. more) (AreWithin n)
+    (λ sets hs l e m. part_keeps aux env n k sets hs) first hf)) (part_keeps aux env n k sets h)
 
 try_allowed : (whole : Bool) (n : ℕ) → (if whole then Some codes.Word else limit_flag n) ≡ None → 1 ≤ n
 try_allowed true n e = absurd cc
@@ -221,20 +281,29 @@ try_allowed false n e = some_allowed n e
 abbrev AreTries : ℕ → List (List ℕ) → Type 0
 AreTries n ts = (length ts ≤ 64) × All (IsTryOf n) ts
 
-tries_keep : (aux env : Environment) (n : ℕ) → Knows env n → (auxiliaries : ℕ) → Always (more_tries aux env (unnamed_sets auxiliaries) []) (λ p ts. AreTries n ts)
+tries_keep : (aux env : Environment) (n : ℕ) → Knows env n → (auxiliaries : ℕ)
+    → Always (more_tries aux env (unnamed_sets auxiliaries) []) (λ p ts. AreTries n ts)
 unfolding more_tries
 tries_keep aux env n k auxiliaries =
     let sets = unnamed_sets auxiliaries in
     each_keeps (Keyword (codes "try") ∷ []) (λ ts l. (if list_all is_some sets then Some codes.Word else limit_flag (most_lines - length ts), tt {0})) (λ ts u. try_line aux env sets) (λ ts t. ts ++ t ∷ []) (AreTries n)
-    (λ ts h l e m. always_weaker (try_line aux env sets) _ _ (λ p t ht. (let some = try_allowed (list_all is_some sets) (most_lines - length ts) m in omega (arith, some, length-append ts (t ∷ [])), all_and_one (IsTryOf n) ts t h.1 ht)) (try_line_keeps aux env n k sets (unnamed_within n auxiliaries))) []
+    (λ ts h l e m. always_weaker (try_line aux env sets) _ _ (λ p t ht. (
+      let some = try_allowed (list_all is_some sets) (most_lines - length ts) m
+          in omega (arith, some, length-append ts (t ∷ [])),
+      all_and_one (IsTryOf n) ts t h.1 ht,
+    ))
+    (try_line_keeps aux env n k sets (unnamed_within n auxiliaries))) []
     (omega arith, All-nil (IsTryOf n))
 
 -- ---- regions
 
-region_of_own : (v names : NamesView) (own : OwnLinesView) → length v.variables ≤ 10 → MayBeNamed Variable (length v.variables + auxiliaries_left v) v names → AreLinesOver names own → IsRegionOf v (record { names = names; auxiliaries = length names.variables - length v.variables; lines = own })
+region_of_own : (v names : NamesView) (own : OwnLinesView) → length v.variables ≤ 10
+    → MayBeNamed Variable (length v.variables + auxiliaries_left v) v names → AreLinesOver names own
+    → IsRegionOf v (record { names = names; auxiliaries = length names.variables - length v.variables; lines = own })
 region_of_own v names own few h lines =
     let variables : names.variables ≡ v.variables ++ h.grown.own = ap (λ (w : NamesView). w.variables) h.grown.is in
-    let total : length names.variables ≡ length v.variables + length h.grown.own = ap (λ (ws : List (List ℕ)). length ws) variables ∙ length-append v.variables h.grown.own in
+    let total : length names.variables ≡ length v.variables + length h.grown.own = ap (λ (ws : List (List ℕ)). length ws) variables
+    ∙ length-append v.variables h.grown.own in
     let most = h.few (omega arith) in
     let left = min-le_left 4 (10 - length v.variables) in
     let right = min-le_right 4 (10 - length v.variables) in
@@ -258,7 +327,13 @@ region_keeps : (g r : ℕ) (v : NamesView) → g ≤ 64 → r ≤ 64 → length 
 unfolding region Always
 region_keeps g r v few_g few_r few = λ l e m.
     always_weaker (names_line Variable (length v.variables + auxiliaries_left v) (codes "aux") v) _ _
-    (λ p names hn. always_weaker (own_lines g r names) _ _ (λ q own ho. record { region = region_of_own v names own few hn (lines_over g r names own few_g few_r ho); givens = ho.few_givens; rows = ho.few_rows }) (own_lines_keep g r names))
+    (λ p names hn. always_weaker (own_lines g r names) _ _ (λ q own ho.
+    record {
+      region = region_of_own v names own few hn (lines_over g r names own few_g few_r ho);
+      givens = ho.few_givens;
+      rows
+          = ho.few_rows;
+    }) (own_lines_keep g r names))
     (names_line_keeps Variable (length v.variables + auxiliaries_left v) (codes "aux") v)
 
 -- ---- what a question wants
@@ -268,7 +343,8 @@ unflagged_is_small : (v : NamesView) (own : OwnLinesView) → size_flag v own �
 unfolding size_flag
 unflagged_is_small v own e = by_test (nat_lt most_entries (table_size (problem_of_lines v own))) refl e
   where
-    by_test : (b : Bool) → nat_lt most_entries (table_size (problem_of_lines v own)) ≡ b → cond b (Some codes.Large) None ≡ None → table_size (problem_of_lines v own) ≤ most_entries
+    by_test : (b : Bool) → nat_lt most_entries (table_size (problem_of_lines v own)) ≡ b → cond b (Some codes.Large) None ≡ None
+        → table_size (problem_of_lines v own) ≤ most_entries
     by_test true t k = absurd cc
     by_test false t k = grind (arith, nat_tests)
 
@@ -285,7 +361,11 @@ containment_keeps own v few =
     always_weaker (region g r v) _ _
     (λ p first hf l e m. always_weaker (region (givens_left g first.lines) (rows_left r first.lines) v) _ _
     (λ q second hs. always_weaker (more_tries (auxiliary_env v second.names) (env_of first.names) (unnamed_sets second.auxiliaries) []) _ _
-    (λ s tries ht l e none l' e' m'. record { over = (hf.region, hs.region, ht.0, ht.1); small = unflagged_is_small first.names (lines_under own (Contain first second tries)) none })
+    (λ s tries ht l e none l' e' m'. record {
+      over = (hf.region, hs.region, ht.0, ht.1);
+      small = unflagged_is_small first.names
+          (lines_under own (Contain first second tries)) none;
+    })
     (tries_keep (auxiliary_env v second.names) (env_of first.names) (length first.names.variables) (knows_names first.names) second.auxiliaries))
     (region_keeps (givens_left g first.lines) (rows_left r first.lines) v (omega arith) (omega arith) few))
     (region_keeps g r v (omega arith) (omega arith) few)
@@ -293,9 +373,15 @@ containment_keeps own v few =
 verb_keeps : (own : OwnLinesView) (v : NamesView) → length v.variables ≤ 10 → Always (verb own v) (λ p y. IsWanted own v y)
 unfolding verb Always
 verb_keeps own v few = (
-  λ l e m. always_weaker (to_end (relation (scope_of v true))) (λ p x. IsRelationOf (length v.variables) (length v.rates) x) (λ p x. IsWanted own v (Prove x)) (λ p x hx. record { over = hx; small = unflagged_is_small v own m }) (line_keeps (relation (scope_of v true)) (IsRelationOf (length v.variables) (length v.rates)) (relation_keeps (scope_of v true) (length v.variables) (length v.rates) (scope_covers v true))),
+  λ l e m. always_weaker (to_end (relation (scope_of v true))) (λ p x. IsRelationOf (length v.variables) (length v.rates) x)
+      (λ p x. IsWanted own v (Prove x)) (λ p x hx. record { over = hx; small = unflagged_is_small v own m })
+      (line_keeps (relation (scope_of v true)) (IsRelationOf (length v.variables) (length v.rates))
+      (relation_keeps (scope_of v true) (length v.variables) (length v.rates) (scope_covers v true))),
   (
-    λ l e m. always_weaker (to_end (distinct (index_of v.rates))) (λ p x. AreRatesOf (length v.rates) x) (λ p x. IsWanted own v (Eliminate x)) (λ p x hx. record { over = hx; small = unflagged_is_small v (givens_alone own) m }) (line_keeps (distinct (index_of v.rates)) (AreRatesOf (length v.rates)) (distinct_keeps (index_of v.rates) (length v.rates) (knows_rates v))),
+    λ l e m. always_weaker (to_end (distinct (index_of v.rates))) (λ p x. AreRatesOf (length v.rates) x)
+        (λ p x. IsWanted own v (Eliminate x)) (λ p x hx. record { over = hx; small = unflagged_is_small v (givens_alone own) m })
+        (line_keeps (distinct (index_of v.rates)) (AreRatesOf (length v.rates))
+        (distinct_keeps (index_of v.rates) (length v.rates) (knows_rates v))),
     λ l e m. containment_keeps own v few,
   ),
 )
@@ -330,7 +416,18 @@ question_keeps = always_weaker (new_names Variable most_variables no_names) _ _
     (λ p variables hv. always_weaker (names_line Rate most_rates (codes "rates") variables) _ _
     (λ q names hn. let n = are_names variables names hv hn in
     always_weaker (own_lines most_lines most_lines names) _ _
-    (λ r own ho. always_weaker (verb own names) _ _ (λ s aim ha. record { limits = record { some = n.some; few = n.few; few_rates = n.few_rates; lines = lines_over most_lines most_lines names own (omega arith) (omega arith) ho; verb = ha.over }; small = ha.small })
+    (λ r own ho. always_weaker (verb own names) _ _ (λ s aim ha.
+    record {
+      limits = record {
+        some = n.some;
+        few = n.few;
+        few_rates = n.few_rates;
+        lines = lines_over most_lines most_lines names own
+            (omega arith) (omega arith) ho;
+        verb = ha.over;
+      };
+      small = ha.small;
+    })
     (verb_keeps own names n.few)) (own_lines_keep most_lines most_lines names)) (names_line_keeps Rate most_rates (codes "rates") variables)) (new_names_keep Variable most_variables no_names)
 
 file_keeps : Always file (λ p qs. All IsRead qs)
@@ -345,13 +442,19 @@ file_limited ls r qs e = value_read file (All IsRead) ls r qs file_keeps e
 
 pub names_limited : (variables names : NamesView) (ls a b r : List Letter) → read (new_names Variable most_variables no_names) ls ≡ Ok (variables, a) → read (names_line Rate most_rates (codes "rates") variables) b ≡ Ok (names, r) → IsSpace (space_of names)
 names_limited variables names ls a b r e f =
-    let hv = value_read (new_names Variable most_variables no_names) (AreNamed Variable most_variables no_names) ls a variables (new_names_keep Variable most_variables no_names) e in
+    let hv = value_read (new_names Variable most_variables no_names) (AreNamed Variable most_variables no_names) ls a variables
+    (new_names_keep Variable most_variables no_names) e in
     let hn = value_read (names_line Rate most_rates (codes "rates") variables) (MayBeNamed Rate most_rates variables) b r names (names_line_keeps Rate most_rates (codes "rates") variables) f in
     let n = are_names variables names hv hn in
     record { some = n.some; few = n.few; few_rates = n.few_rates }
 
 pub lines_limited : (v : NamesView) (ls r : List Letter) (own : OwnLinesView) → read (own_lines most_lines most_lines v) ls ≡ Ok (own, r) → AreLinesOver v own
-lines_limited v ls r own e = lines_over most_lines most_lines v own (omega arith) (omega arith) (value_read (own_lines most_lines most_lines v) (AreOwn most_lines most_lines v) ls r own (own_lines_keep most_lines most_lines v) e)
+lines_limited v ls r own e = lines_over most_lines most_lines v own (omega arith) (omega arith)
+    (value_read (own_lines most_lines most_lines v) (AreOwn most_lines most_lines v) ls r own (own_lines_keep most_lines most_lines v) e)
 
-pub region_limited : (own : OwnLinesView) (v : NamesView) (ls r : List Letter) (x : RegionView) → length v.variables ≤ 10 → read (region (givens_left most_lines own) (rows_left most_lines own) v) ls ≡ Ok (x, r) → IsCounted (givens_left most_lines own) (rows_left most_lines own) v x
-region_limited own v ls r x few e = value_read (region (givens_left most_lines own) (rows_left most_lines own) v) (IsCounted (givens_left most_lines own) (rows_left most_lines own) v) ls r x (region_keeps (givens_left most_lines own) (rows_left most_lines own) v (omega arith) (omega arith) few) e
+pub region_limited : (own : OwnLinesView) (v : NamesView) (ls r : List Letter) (x : RegionView) → length v.variables ≤ 10
+    → read (region (givens_left most_lines own) (rows_left most_lines own) v) ls ≡ Ok (x, r)
+    → IsCounted (givens_left most_lines own) (rows_left most_lines own) v x
+region_limited own v ls r x few e = value_read (region (givens_left most_lines own) (rows_left most_lines own) v)
+    (IsCounted (givens_left most_lines own) (rows_left most_lines own) v) ls r x
+    (region_keeps (givens_left most_lines own) (rows_left most_lines own) v (omega arith) (omega arith) few) e

@@ -38,13 +38,17 @@ next_is P xs ys x h e = All-head P x ys (subst (All P) e h)
 pub others_are : {X : Type 0} (P : X → Type 0) (xs ys : List X) (x : X) → All P xs → xs ≡ x ∷ ys → All P ys
 others_are P xs ys x h e = All-tail P x ys (subst (All P) e h)
 
-pub texts_step : (old new : List Question) (q : Question) (rest after : List Line) (texts : List (List ℕ)) (xs ys : List Body) (x : Body) (n : ℕ) (whole : List QuestionView)
-    → map question_view old ++ with_texts (map line_view rest) (map body_view xs) ≡ whole → xs ≡ x ∷ ys → new ≡ old ++ q ∷ [] → n ≡ question_line_count (body_view x) → texts ≡ texts_of (take n (map line_view rest)) → after ≡ drop n rest
+pub texts_step : (old new : List Question) (q : Question) (rest after : List Line) (texts : List (List ℕ)) (xs ys : List Body) (x : Body)
+    (n : ℕ) (whole : List QuestionView)
+    → map question_view old ++ with_texts (map line_view rest) (map body_view xs) ≡ whole → xs ≡ x ∷ ys → new ≡ old ++ q ∷ []
+    → n ≡ question_line_count (body_view x) → texts ≡ texts_of (take n (map line_view rest)) → after ≡ drop n rest
     → question_view q ≡ question_with (body_view x) (text_of_lines texts) → map question_view new ++ with_texts (map line_view after) (map body_view ys) ≡ whole
 texts_step old new q rest after texts xs ys x n whole h e pushed count own left is =
     let m = question_line_count (body_view x) in
     let lines = map line_view rest in
-    let head : question_view q ≡ question_with (body_view x) (text_of_lines (texts_of (take m lines))) = is ∙ ap (λ (ts : List (List ℕ)). question_with (body_view x) (text_of_lines ts)) (own ∙ ap (λ (k : ℕ). texts_of (take k lines)) count) in
+    let head : question_view q ≡ question_with (body_view x) (text_of_lines (texts_of (take m lines))) = is
+    ∙ ap (λ (ts : List (List ℕ)). question_with (body_view x) (text_of_lines ts)) (own ∙ ap (λ (k : ℕ). texts_of (take k lines)) count)
+    in
     let after_lines : map line_view after ≡ drop m lines = ap (map line_view) (left ∙ ap (λ (k : ℕ). drop k rest) count) ∙ sym (drop-map line_view m rest) in
     ap (λ (qs : List Question). map question_view qs ++ with_texts (map line_view after) (map body_view ys)) pushed
     ∙ ap (λ (prefix : List QuestionView). prefix ++ with_texts (map line_view after) (map body_view ys)) (map-append question_view old (q ∷ []))

@@ -54,11 +54,19 @@ line_view kinds.Word line start end n p h = h
 line_view (kinds.Number v) line start end n p h = h
 line_view (kinds.Symbol s) line start end n p h = h
 
-line_parted : (line : List ℕ) (ts : List Token) (m : Option Misspelling) (more : List Letter) (n : ℕ) (p r : List Letter) → HasLines (suc n) p → letters_until line ts (last_letter m) ++ more ≡ p ++ r → LineParted line ts m more n p r
+line_parted : (line : List ℕ) (ts : List Token) (m : Option Misspelling) (more : List Letter) (n : ℕ) (p r : List Letter)
+    → HasLines (suc n) p → letters_until line ts (last_letter m) ++ more ≡ p ++ r → LineParted line ts m more n p r
 line_parted line ts m more n [] r h e = absurd h
 line_parted line [] None more n (l ∷ p) r h e =
     let same : End ≡ l = cc in
-    record { after = p; parts = ap (λ (x : Letter). x ∷ p) (sym same); more_is = cc; lines = subst (λ (x : Letter). HasLines (suc n) (x ∷ p)) (sym same) h; whole = refl }
+    record {
+      after = p;
+      parts = ap (λ (x : Letter). x ∷ p) (sym same);
+      more_is = cc;
+      lines = subst
+          (λ (x : Letter). HasLines (suc n) (x ∷ p)) (sym same) h;
+      whole = refl;
+    }
 line_parted line [] (Some k) more n (l ∷ p) r h e =
     let same : Bad k.code ≡ l = cc in
     absurd (subst (λ (x : Letter). HasLines (suc n) (x ∷ p)) (sym same) h)
@@ -67,7 +75,14 @@ line_parted line (t ∷ ts) m more n (l ∷ p) r h e =
     let same : letter ≡ l = cc in
     let tails : letters_until line ts (last_letter m) ++ more ≡ p ++ r = cc in
     let k = line_parted line ts m more n p r (line_view t.kind line t.start t.end n p (subst (λ (x : Letter). HasLines (suc n) (x ∷ p)) (sym same) h)) tails in
-    record { after = k.after; parts = ap (λ (x : Letter). x ∷ p) (sym same) ∙ ap (λ (q : List Letter). letter ∷ q) k.parts; more_is = k.more_is; lines = k.lines; whole = k.whole }
+    record {
+      after = k.after;
+      parts = ap (λ (x : Letter). x ∷ p) (sym same)
+          ∙ ap (λ (q : List Letter). letter ∷ q) k.parts;
+      more_is = k.more_is;
+      lines = k.lines;
+      whole = k.whole;
+    }
 
 -- n lines, and those after them
 pub record FirstLines (n : ℕ) (lines : List LineView) (p r : List Letter) : Type 0 where
@@ -78,7 +93,8 @@ pub record FirstLines (n : ℕ) (lines : List LineView) (p r : List Letter) : Ty
   pub sound : AreSound (drop n lines)
 
 -- the letters of n lines are those of the first n, which have no misspelling
-pub letters_of_first_lines : (n : ℕ) (lines : List LineView) (p r : List Letter) → HasLines n p → letters_of_lines lines ≡ p ++ r → AreSound lines → FirstLines n lines p r
+pub letters_of_first_lines : (n : ℕ) (lines : List LineView) (p r : List Letter) → HasLines n p → letters_of_lines lines ≡ p ++ r
+    → AreSound lines → FirstLines n lines p r
 letters_of_first_lines zero [] [] r h e s = record { prefix = refl; after = e; long = refl; whole = tt; sound = tt }
 letters_of_first_lines zero (l ∷ lines) [] r h e s = record { prefix = refl; after = e; long = refl; whole = tt; sound = s }
 letters_of_first_lines zero lines (x ∷ p) r h e s = absurd h
@@ -88,7 +104,8 @@ letters_of_first_lines (suc n) (l ∷ lines) p r h e s =
     let k = line_parted l.text l.tokens l.misspelling (letters_of_lines lines) n p r h e in
     let more = letters_of_first_lines n lines k.after r k.lines k.more_is s.1 in
     record {
-      prefix = ap (λ (q : List Letter). line_letters l ++ q) more.prefix ∙ ap (λ (m : Option Misspelling). letters_until l.text l.tokens (last_letter m) ++ k.after) k.whole ∙ sym k.parts;
+      prefix = ap (λ (q : List Letter). line_letters l ++ q) more.prefix
+          ∙ ap (λ (m : Option Misspelling). letters_until l.text l.tokens (last_letter m) ++ k.after) k.whole ∙ sym k.parts;
       after = more.after;
       long = ap suc more.long;
       whole = (s.0 k.whole, more.whole);

@@ -11,7 +11,8 @@ pub record AreMoved (n i : ℕ) (lines rest : List Line) (moved : List (List ℕ
   pub texts : moved ++ texts_of (take (n - i) (map line_view rest)) ≡ texts_of (take n (map line_view lines))
   pub after : drop (n - i) rest ≡ drop n lines
 
-pub one_moved : (n i : ℕ) (lines rest left : List Line) (x : Line) (old new : List (Vec ℕ)) (text : Vec ℕ) → AreMoved n i lines rest (map (λ v. v.items) old) → i < n → rest ≡ x ∷ left → text.items ≡ x.text.items → new ≡ old ++ text ∷ []
+pub one_moved : (n i : ℕ) (lines rest left : List Line) (x : Line) (old new : List (Vec ℕ)) (text : Vec ℕ)
+    → AreMoved n i lines rest (map (λ v. v.items) old) → i < n → rest ≡ x ∷ left → text.items ≡ x.text.items → new ≡ old ++ text ∷ []
     → AreMoved n (i + 1) lines left (map (λ v. v.items) new)
 one_moved n i lines rest left x old new text h less e is pushed =
     let k = n - (i + 1) in

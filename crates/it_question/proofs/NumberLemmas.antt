@@ -28,7 +28,7 @@ use Rattle.it_syntax.specs.Spelling.{IsText}
 use Rattle.it_question.specs.Files.{IsFile}
 use Rattle.it_question.specs.Lines.{LineView, AreLines, letters_of_lines, split_lines}
 use Rattle.it_question.specs.QuestionForms.{own_words, own_keyword, own_line, more_own_lines, own_lines, names_line, new_names, distinct, more_tries, region, containment, verb, question, more_questions, file}
-use Rattle.it_question.specs.QuestionLimits.{most_questions, most_lines, most_variables, most_rates, auxiliaries_left, givens_left, rows_left}
+use Rattle.it_question.specs.QuestionLimits.{most_questions, most_lines, auxiliaries_left, givens_left, rows_left}
 use Rattle.it_question.specs.Questions.{OwnLinesView, RegionView, VerbView, BodyView, QuestionView, no_lines}
 use Rattle.it_question.specs.Questions as views
 use Rattle.it_question.specs.Texts.{question_line_count, with_texts}
@@ -36,6 +36,7 @@ use Rattle.it_question.specs.TrySets.{auxiliary_env, unnamed_sets}
 use Rattle.it_question.specs.NewNames.{Variable, Rate, no_names}
 use Rattle.it_question.proofs.QuestionOutlines.{file_has}
 use Rattle.it_question.proofs.WholeFileLemmas.{said}
+use Rattle.it_space.specs.Spaces.{most_variables, most_rates}
 
 -- ---- numbers of 64 bits
 
@@ -96,9 +97,12 @@ over_number m s minus n f = (λ l e u l' e' u'. always_any (atom s) _ (λ q a. r
 term_small : (m : ℕ) (s : Scope) (minus : Bool) → Always (term m s minus) (λ p t. AreSmall p → IsSmall t)
 unfolding term Always
 term_small m s minus = (
-  λ l e u. always_weaker (over_or m s minus 0 (atom_or_nothing s)) (λ p t. t.number ≡ 0) (λ q t. AreSmall ((l ∷ []) ++ q) → IsSmall t) (λ q t h small. subst (λ (n : ℕ). n < 2 ^ 64) (sym h) (lit< tt)) (over_number m s minus 0 (atom_or_nothing s)),
+  λ l e u. always_weaker (over_or m s minus 0 (atom_or_nothing s)) (λ p t. t.number ≡ 0) (λ q t. AreSmall ((l ∷ []) ++ q) → IsSmall t)
+      (λ q t h small. subst (λ (n : ℕ). n < 2 ^ 64) (sym h) (lit< tt)) (over_number m s minus 0 (atom_or_nothing s)),
   (
-    λ l e u. always_weaker (over_or m s minus (number_of l) (atom s)) (λ p t. t.number ≡ number_of l) (λ q t. AreSmall ((l ∷ []) ++ q) → IsSmall t) (λ q t h small. subst (λ (n : ℕ). n < 2 ^ 64) (sym h) (number_small l q e small)) (over_number m s minus (number_of l) (atom s)),
+    λ l e u. always_weaker (over_or m s minus (number_of l) (atom s)) (λ p t. t.number ≡ number_of l)
+        (λ q t. AreSmall ((l ∷ []) ++ q) → IsSmall t) (λ q t h small. subst (λ (n : ℕ). n < 2 ^ 64) (sym h) (number_small l q e small))
+        (over_number m s minus (number_of l) (atom s)),
     always_any (atom s) _ (λ q a small. lit< tt),
   ),
 )
@@ -107,8 +111,14 @@ terms_small : (most m : ℕ) (s : Scope) (minus : Bool) → Always (terms most m
 unfolding terms more_terms Always
 terms_small most m s minus =
     always_flagged _ (term m s minus) _ (always_weaker (term m s minus) _ _
-    (λ p t h. loop_keeps signs (λ ts l. (None, is_of (Punctuation Minus) l)) (λ ts minus. Then (allowed (most - length ts) (term (multiple_from m ts) s minus)) (λ t. Give (ts ++ t ∷ []))) (λ p ts. AreSmall p → Every IsSmall ts)
-    (λ p ts h l e u. always_flagged _ (term (multiple_from m ts) s (is_of (Punctuation Minus) l)) _ (always_weaker (term (multiple_from m ts) s (is_of (Punctuation Minus) l)) _ _ (λ q t k small. every_more IsSmall ts t (h (front_small p _ small)) (k (front_small q _ (rest_small (l ∷ []) _ (rest_small p _ small))))) (term_small (multiple_from m ts) s (is_of (Punctuation Minus) l))))
+    (λ p t h. loop_keeps signs (λ ts l. (None, is_of (Punctuation Minus) l))
+    (λ ts minus. Then (allowed (most - length ts) (term (multiple_from m ts) s minus)) (λ t. Give (ts ++ t ∷ [])))
+    (λ p ts. AreSmall p → Every IsSmall ts)
+    (λ p ts h l e u. always_flagged _ (term (multiple_from m ts) s (is_of (Punctuation Minus) l)) _
+    (always_weaker (term (multiple_from m ts) s (is_of (Punctuation Minus) l)) _ _
+    (λ q t k small. every_more IsSmall ts t (h (front_small p _ small))
+    (k (front_small q _ (rest_small (l ∷ []) _ (rest_small p _ small)))))
+    (term_small (multiple_from m ts) s (is_of (Punctuation Minus) l))))
     p (t ∷ []) (λ small. (h small, tt))) (term_small m s minus))
 
 pub sum_small : (most m : ℕ) (s : Scope) → Always (sum most m s) (λ p ts. AreSmall p → Every IsSmall ts)
@@ -121,16 +131,19 @@ sum_small most m s = (
 relation_small : (s : Scope) → Always (relation s) (λ p r. AreSmall p → HasSmallNumbers r)
 unfolding relation Always
 relation_small s = always_weaker (sum most_terms 1 s) _ _
-    (λ p left hl. always_any compare _ (λ q sign. always_weaker (sum (most_terms - length left) (multiple_from 1 left) s) _ _ (λ r right hr small. (hl (front_small p _ small), hr (front_small r _ (rest_small q _ (rest_small p _ small)))))
+    (λ p left hl. always_any compare _ (λ q sign. always_weaker (sum (most_terms - length left) (multiple_from 1 left) s) _ _
+    (λ r right hr small. (hl (front_small p _ small), hr (front_small r _ (rest_small q _ (rest_small p _ small)))))
     (sum_small (most_terms - length left) (multiple_from 1 left) s))) (sum_small most_terms 1 s)
 
 given_small : (s : Scope) → Always (given s) (λ p g. AreSmall p → GivenHasSmallNumbers g)
 unfolding given chain independence after_bar function Always
 given_small s =
     let env = s.variables in (
-      λ l e u. always_any (names env) _ (λ p a l e u. always_any (names env) _ (λ q b l e u. always_any (names env) _ (λ r c. always_any (more_members _ env _) _ (λ w sets small. tt)))),
+      λ l e u. always_any (names env) _ (λ p a l e u. always_any (names env) _
+          (λ q b l e u. always_any (names env) _ (λ r c. always_any (more_members _ env _) _ (λ w sets small. tt)))),
       (
-        λ l e u. always_any (names env) _ (λ p a l e u. always_any (names env) _ (λ q b. always_any (more_members _ env _) _ (λ r sets. (λ l e u. always_any (names env) _ (λ w c small. tt), λ small. tt)))),
+        λ l e u. always_any (names env) _ (λ p a l e u. always_any (names env) _
+            (λ q b. always_any (more_members _ env _) _ (λ r sets. (λ l e u. always_any (names env) _ (λ w c small. tt), λ small. tt)))),
         (
           λ l e u. always_any (names env) _ (λ p value l e u. always_any (names env) _ (λ q argument small. tt)),
           always_but _ (relation s) _ (always_weaker (relation s) _ _ (λ p r h small. h (front_small p _ small)) (relation_small s)),
@@ -140,10 +153,21 @@ given_small s =
 
 -- ---- questions
 
-own_line_small : (v : NamesView) (own : OwnLinesView) (b : Bool) → Always (own_line v own b) (λ p y. AreSmall p → LinesHaveSmallNumbers own → LinesHaveSmallNumbers y)
+own_line_small : (v : NamesView) (own : OwnLinesView) (b : Bool)
+    → Always (own_line v own b) (λ p y. AreSmall p → LinesHaveSmallNumbers own → LinesHaveSmallNumbers y)
 unfolding own_line Always
-own_line_small v own true = always_weaker (given (scope_of v false)) _ _ (λ p x h l e u small k. (every_more GivenHasSmallNumbers own.givens x k.0 (h (front_small p ((l ∷ []) ++ []) (front_small (p ++ ((l ∷ []) ++ [])) [] small))), k.1)) (given_small (scope_of v false))
-own_line_small v own false = always_weaker (relation (scope_of v true)) _ _ (λ p x h l e u small k. (k.0, every_more HasSmallNumbers own.rows x k.1 (h (front_small p ((l ∷ []) ++ []) (front_small (p ++ ((l ∷ []) ++ [])) [] small))))) (relation_small (scope_of v true))
+own_line_small v own true = always_weaker (given (scope_of v false)) _ _
+    (λ p x h l e u small k. (
+      every_more GivenHasSmallNumbers own.givens x k.0
+          (h (front_small p ((l ∷ []) ++ []) (front_small (p ++ ((l ∷ []) ++ [])) [] small))),
+      k.1,
+    )) (given_small (scope_of v false))
+own_line_small v own false = always_weaker (relation (scope_of v true)) _ _
+    (λ p x h l e u small k. (
+      k.0,
+      every_more HasSmallNumbers own.rows x k.1
+          (h (front_small p ((l ∷ []) ++ []) (front_small (p ++ ((l ∷ []) ++ [])) [] small))),
+    )) (relation_small (scope_of v true))
 
 own_lines_small : (g r : ℕ) (v : NamesView) → Always (own_lines g r v) (λ p own. AreSmall p → LinesHaveSmallNumbers own)
 unfolding more_own_lines
@@ -160,7 +184,14 @@ containment_small own v =
     let g = givens_left most_lines own in
     let r = rows_left most_lines own in
     always_weaker (region g r v) _ _
-    (λ p first hf l e u. always_weaker (region (givens_left g first.lines) (rows_left r first.lines) v) _ _ (λ q second hs. always_any (more_tries (auxiliary_env v second.names) (env_of first.names) (unnamed_sets second.auxiliaries) []) _ (λ r tries l' e' u' l'' e'' u'' small. (hf (front_small p _ small), hs (front_small q _ (rest_small (l ∷ []) _ (rest_small p _ small)))))) (region_small (givens_left g first.lines) (rows_left r first.lines) v)) (region_small g r v)
+    (λ p first hf l e u. always_weaker (region (givens_left g first.lines) (rows_left r first.lines) v) _ _
+    (λ q second hs. always_any (more_tries (auxiliary_env v second.names) (env_of first.names) (unnamed_sets second.auxiliaries) []) _
+    (λ r tries l' e' u' l'' e'' u'' small. (
+      hf (front_small p _ small),
+      hs
+          (front_small q _ (rest_small (l ∷ []) _ (rest_small p _ small))),
+    )))
+    (region_small (givens_left g first.lines) (rows_left r first.lines) v)) (region_small g r v)
 
 pub relation_line_small : (v : NamesView) → Always (to_end (relation (scope_of v true))) (λ p x. AreSmall p → HasSmallNumbers x)
 unfolding Always
@@ -169,21 +200,30 @@ relation_line_small v = always_weaker (relation (scope_of v true)) _ _ (λ p x h
 verb_small : (own : OwnLinesView) (v : NamesView) → Always (verb own v) (λ p y. AreSmall p → VerbHasSmallNumbers y)
 unfolding verb Always
 verb_small own v = (
-  λ l e u. always_weaker (to_end (relation (scope_of v true))) (λ p x. AreSmall p → HasSmallNumbers x) (λ p x. AreSmall ((l ∷ []) ++ (p ++ [])) → HasSmallNumbers x) (λ p x h small. h (front_small p [] (rest_small (l ∷ []) (p ++ []) small))) (relation_line_small v),
-  (λ l e u. always_any (to_end (distinct (index_of v.rates))) (λ q x. AreSmall ((l ∷ []) ++ (q ++ [])) → Unit {0}) (λ q x small. tt), λ l e u. always_weaker (containment own v) _ _ (λ q y h small. h (rest_small (l ∷ []) q small)) (containment_small own v)),
+  λ l e u. always_weaker (to_end (relation (scope_of v true))) (λ p x. AreSmall p → HasSmallNumbers x)
+      (λ p x. AreSmall ((l ∷ []) ++ (p ++ [])) → HasSmallNumbers x) (λ p x h small. h
+      (front_small p [] (rest_small (l ∷ []) (p ++ []) small))) (relation_line_small v),
+  (
+    λ l e u. always_any (to_end (distinct (index_of v.rates))) (λ q x. AreSmall ((l ∷ []) ++ (q ++ [])) → Unit {0})
+        (λ q x small. tt),
+    λ l e u. always_weaker (containment own v) _ _ (λ q y h small. h (rest_small (l ∷ []) q small))
+        (containment_small own v),
+  ),
 )
 
 question_small : Always question (λ p q. AreSmall p → QuestionHasSmallNumbers q)
 unfolding question Always
 question_small = always_any (new_names Variable most_variables no_names) _ (λ p variables. always_any (names_line Rate most_rates (codes "rates") variables) _
     (λ q names. always_weaker (own_lines most_lines most_lines names) _ _ (λ r own ho. always_weaker (verb own names) _ _ (λ w aim ha small.
-    let after = rest_small q _ (rest_small p _ small) in (ho (front_small r _ after), ha (front_small w _ (rest_small r _ after)))) (verb_small own names)) (own_lines_small most_lines most_lines names)))
+    let after = rest_small q _ (rest_small p _ small) in (ho (front_small r _ after), ha (front_small w _ (rest_small r _ after))))
+    (verb_small own names)) (own_lines_small most_lines most_lines names)))
 
 pub file_small : Always file (λ p qs. AreSmall p → Every QuestionHasSmallNumbers qs)
 unfolding file more_questions Always
 file_small = always_weaker (more_questions []) _ _ (λ p qs h l e u small. h (front_small p _ small))
     (loop_keeps (Keyword (codes "vars") ∷ []) (λ qs l. (limit_flag (most_questions - length qs), tt {0})) (λ qs u. Then question (λ q. Give (qs ++ q ∷ []))) (λ p qs. AreSmall p → Every QuestionHasSmallNumbers qs)
-    (λ p qs h l e u. always_weaker question _ _ (λ q b k small. every_more QuestionHasSmallNumbers qs b (h (front_small p _ small)) (k (front_small q _ (rest_small (l ∷ []) _ (rest_small p _ small))))) question_small) [] [] (λ small. tt))
+    (λ p qs h l e u. always_weaker question _ _ (λ q b k small. every_more QuestionHasSmallNumbers qs b (h (front_small p _ small))
+    (k (front_small q _ (rest_small (l ∷ []) _ (rest_small p _ small))))) question_small) [] [] (λ small. tt))
 
 -- ---- the letters of lines
 
@@ -192,7 +232,8 @@ before_small [] more h k = k
 before_small (Number n ∷ ls) more h k = (h.0, before_small ls more h.1 k)
 before_small (l ∷ ls) more h k = before_small ls more h k
 
-token_small : (line : List ℕ) (start end : ℕ) (kind : TokenKind) (text : List ℕ) (ls : List Letter) → IsText kind text → AreSmall ls → AreSmall (letter_of line start end kind ∷ ls)
+token_small : (line : List ℕ) (start end : ℕ) (kind : TokenKind) (text : List ℕ) (ls : List Letter) → IsText kind text → AreSmall ls
+    → AreSmall (letter_of line start end kind ∷ ls)
 token_small line start end kinds.Word text ls h k = k
 token_small line start end (kinds.Number n) text ls h k = (h.2, k)
 token_small line start end (kinds.Symbol s) text ls h k = k
@@ -201,19 +242,23 @@ end_small : (m : Option Misspelling) → AreSmall (last_letter m ∷ [])
 end_small None = tt
 end_small (Some m) = tt
 
-line_small : (line : List ℕ) (at : ℕ) (bytes : List ℕ) (ts : List Token) (m : Option Misspelling) → SpellsUntil at bytes ts m → AreSmall (letters_until line ts (last_letter m))
+line_small : (line : List ℕ) (at : ℕ) (bytes : List ℕ) (ts : List Token) (m : Option Misspelling) → SpellsUntil at bytes ts m
+    → AreSmall (letters_until line ts (last_letter m))
 line_small line at bytes [] m h = end_small m
-line_small line at bytes (t ∷ ts) m h = token_small line t.start t.end t.kind h.1.text (letters_until line ts (last_letter m)) h.1.spelled (line_small line t.end h.0 ts m h.2)
+line_small line at bytes (t ∷ ts) m h = token_small line t.start t.end t.kind h.1.text (letters_until line ts (last_letter m)) h.1.spelled
+    (line_small line t.end h.0 ts m h.2)
 
 pub lines_small : (n : ℕ) (split : List (List ℕ)) (lines : List LineView) → AreLines n split lines → AreSmall (letters_of_lines lines)
 lines_small n [] lines h = subst (λ (ls : List LineView). AreSmall (letters_of_lines ls)) (sym h) tt
 lines_small n (bytes ∷ more) lines (inl h) = lines_small (n + 1) more lines h.1
 lines_small n (bytes ∷ more) lines (inr h) = subst (λ (ls : List LineView). AreSmall (letters_of_lines ls)) (sym h.2)
-    (before_small (letters_until h.0.text h.0.tokens (last_letter h.0.misspelling)) (letters_of_lines h.1) (line_small h.0.text 0 h.0.text h.0.tokens h.0.misspelling h.3.spelled) (lines_small (n + 1) more h.1 h.5))
+    (before_small (letters_until h.0.text h.0.tokens (last_letter h.0.misspelling)) (letters_of_lines h.1)
+    (line_small h.0.text 0 h.0.text h.0.tokens h.0.misspelling h.3.spelled) (lines_small (n + 1) more h.1 h.5))
 
 -- ---- files
 
-pub texts_apart : (lines : List LineView) (qs : List BodyView) → Every QuestionHasSmallNumbers qs → Every (λ (q : QuestionView). QuestionHasSmallNumbers q.body) (with_texts lines qs)
+pub texts_apart : (lines : List LineView) (qs : List BodyView) → Every QuestionHasSmallNumbers qs
+    → Every (λ (q : QuestionView). QuestionHasSmallNumbers q.body) (with_texts lines qs)
 texts_apart lines [] h = tt
 texts_apart lines (q ∷ qs) h = (h.0, texts_apart (drop (question_line_count q) lines) qs h.1)
 
@@ -221,5 +266,6 @@ texts_apart lines (q ∷ qs) h = (h.0, texts_apart (drop (question_line_count q)
 pub file_has_small_numbers : (bytes : List ℕ) (qs : List QuestionView) → IsFile bytes qs → Every (λ (q : QuestionView). QuestionHasSmallNumbers q.body) qs
 file_has_small_numbers bytes qs asked =
     let small = lines_small 1 (split_lines bytes) asked.lines asked.cut in
-    let all = always_said file _ file_has (λ p qs. AreSmall p → Every QuestionHasSmallNumbers qs) file_small (letters_of_lines asked.lines) asked.tree.0 (said file with_texts bytes qs asked) small in
+    let all = always_said file _ file_has (λ p qs. AreSmall p → Every QuestionHasSmallNumbers qs) file_small
+    (letters_of_lines asked.lines) asked.tree.0 (said file with_texts bytes qs asked) small in
     subst (Every (λ (q : QuestionView). QuestionHasSmallNumbers q.body)) asked.says (texts_apart asked.lines asked.tree.0 all)

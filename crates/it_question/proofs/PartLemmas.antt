@@ -74,7 +74,8 @@ at_end (Bad c ∷ ls) y x h = absurd cc
 at_end {A} (End ∷ ls) y x h = (ap (λ (t : List Letter). End ∷ t) (ap left_after h), ap (value_or y) h)
 
 -- a value, and then the line's end
-pub whole_ok : {A : Type 0} (f : Form A) (o : Outline) → Has f o → (ls more : List Letter) (x : A) → read (to_end f) ls ≡ Ok (x, []) → read (to_end f) (ls ++ more) ≡ Ok (x, more)
+pub whole_ok : {A : Type 0} (f : Form A) (o : Outline) → Has f o → (ls more : List Letter) (x : A) → read (to_end f) ls ≡ Ok (x, [])
+    → read (to_end f) (ls ++ more) ≡ Ok (x, more)
 unfolding read
 whole_ok {A} f o h ls more x e = by_result (read f ls) refl e
   where
@@ -82,7 +83,8 @@ whole_ok {A} f o h ls more x e = by_result (read f ls) refl e
     by_result (Err g) is k = absurd cc
     by_result (Ok y) is k =
         let ends = at_end y.1 y.0 x k in
-        let here : read f ls ≡ Ok (x, End ∷ []) = is ∙ ap (λ (p : A × List Letter). Ok p) (ap (λ (r : List Letter). (y.0, r)) ends.0 ∙ ap (λ (z : A). (z, End ∷ [])) ends.1) in
+        let here : read f ls ≡ Ok (x, End ∷ []) = is ∙ ap (λ (p : A × List Letter). Ok p)
+        (ap (λ (r : List Letter). (y.0, r)) ends.0 ∙ ap (λ (z : A). (z, End ∷ [])) ends.1) in
         ap (λ (t : Reads A). then_end t) (part_ok f o h ls (End ∷ []) more x here tt)
 
 -- ---- where nothing is left

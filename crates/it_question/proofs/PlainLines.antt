@@ -38,8 +38,11 @@ is_so b e = let k = by_tests (b == 9) (b == 10) (b == 13) (b == 35) e in record 
 -- a kind of bytes that has none of the others
 all_plain : (f : ℕ → Bool) → f 9 ≡ false → f 10 ≡ false → f 13 ≡ false → f 35 ≡ false → (bytes : List ℕ) → AreAll f bytes → AreAll is_plain bytes
 all_plain f tab feed return comment [] h = tt
-all_plain f tab feed return comment (b ∷ bytes) h =
-    (rw (other_byte f 9 tab b h.0, other_byte f 10 feed b h.0, other_byte f 13 return b h.0, other_byte f 35 comment b h.0) refl, all_plain f tab feed return comment bytes h.1)
+all_plain f tab feed return comment (b ∷ bytes) h = (
+  rw (other_byte f 9 tab b h.0, other_byte f 10 feed b h.0, other_byte f 13 return b h.0, other_byte f 35 comment b h.0) refl,
+  all_plain
+      f tab feed return comment bytes h.1,
+)
 
 symbol_plain : (s : Symbol) → AreAll is_plain (symbol_text s)
 symbol_plain LeftParen = (refl, tt)

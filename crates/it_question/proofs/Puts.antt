@@ -56,9 +56,11 @@ join_lines : (n m : ℕ) (a b : List Letter) → HasLines n a → HasLines m b �
 join_lines zero m [] b h g = let e : m ≡ 0 + m = omega arith in subst (λ (i : ℕ). HasLines i b) e g
 join_lines zero m (l ∷ a) b h g = absurd h
 join_lines (suc n) m [] b h g = absurd h
-join_lines (suc n) m (End ∷ a) b h g = let e : suc (n + m) ≡ suc n + m = omega arith in subst (λ (i : ℕ). HasLines i (End ∷ (a ++ b))) e (join_lines n m a b h g)
+join_lines (suc n) m (End ∷ a) b h g = let e : suc (n + m) ≡ suc n + m = omega arith
+    in subst (λ (i : ℕ). HasLines i (End ∷ (a ++ b))) e (join_lines n m a b h g)
 join_lines (suc n) m (Bad c ∷ a) b h g = absurd h
-join_lines (suc n) m (l ∷ a) b h g = let e : suc (n + m) ≡ suc n + m = omega arith in subst (λ (i : ℕ). HasLines i (l ∷ (a ++ b))) e (subst (λ (i : ℕ). HasLines i (a ++ b)) (sym e) (join_lines (suc n) m a b h g))
+join_lines (suc n) m (l ∷ a) b h g = let e : suc (n + m) ≡ suc n + m = omega arith
+    in subst (λ (i : ℕ). HasLines i (l ∷ (a ++ b))) e (subst (λ (i : ℕ). HasLines i (a ++ b)) (sym e) (join_lines (suc n) m a b h g))
 
 -- ---- forms within a line
 
@@ -79,7 +81,9 @@ token_among ks (Word w) h e = tt
 token_among ks (Number n) h e = tt
 token_among ks (Sym s) h e = tt
 token_among ks End h e = let x = apart_among (LineEnd ∷ FileEnd ∷ []) ks End h e in absurd cc
-token_among ks (Bad c) h e = let x : is_among (LineEnd ∷ FileEnd ∷ []) (Bad Unfinished) ≡ false = subst (λ (d : Code). is_among (LineEnd ∷ FileEnd ∷ []) (Bad d) ≡ false) (bad_among ks c e) (apart_among (LineEnd ∷ FileEnd ∷ []) ks (Bad c) h e) in absurd cc
+token_among ks (Bad c) h e = let x : is_among (LineEnd ∷ FileEnd ∷ []) (Bad Unfinished)
+    ≡ false = subst (λ (d : Code). is_among (LineEnd ∷ FileEnd ∷ []) (Bad d) ≡ false) (bad_among ks c e)
+    (apart_among (LineEnd ∷ FileEnd ∷ []) ks (Bad c) h e) in absurd cc
 
 pub no_tokens : {m k : FlaggedLetters} → m ≡ k → Puts AreTokens m k
 no_tokens e = record { prefix = []; is = e; kind = tt }
@@ -91,10 +95,12 @@ tokens_then p q = puts_then AreTokens AreTokens AreTokens join_tokens p q
 pub taken_token : {A : Type 0} (t : Terminal A) (a : A) (m k : FlaggedLetters) → NoEndAmong t.kinds → IsTaken t a m k → Puts AreTokens m k
 taken_token t a m k i s = record { prefix = (s.0, (t.says s.0).0) ∷ []; is = s.3; kind = token_among t.kinds s.0 i s.1 }
 
-turns_in_line : {A B : Type 0} (t : A → Terminal B) (Step : A → B → A → FlaggedLetters → FlaggedLetters → Type 0) → ((a : A) → NoEndAmong (t a).kinds) → ((a : A) (b : B) (c : A) (m k : FlaggedLetters) → Step a b c m k → Puts AreTokens m k)
+turns_in_line : {A B : Type 0} (t : A → Terminal B) (Step : A → B → A → FlaggedLetters → FlaggedLetters → Type 0)
+    → ((a : A) → NoEndAmong (t a).kinds) → ((a : A) (b : B) (c : A) (m k : FlaggedLetters) → Step a b c m k → Puts AreTokens m k)
     → (n : ℕ) (a y : A) (m k : FlaggedLetters) → AreTurns t Step n a y m k → Puts AreTokens m k
 turns_in_line t Step i h zero a y m k s = no_tokens s.1
-turns_in_line t Step i h (suc n) a y m k s = tokens_then (taken_token (t a) s.0 m s.1 (i a) s.4) (tokens_then (h a s.0 s.2 s.1 s.3 s.5) (turns_in_line t Step i h n s.2 y s.3 k s.6))
+turns_in_line t Step i h (suc n) a y m k s = tokens_then (taken_token (t a) s.0 m s.1 (i a) s.4)
+    (tokens_then (h a s.0 s.2 s.1 s.3 s.5) (turns_in_line t Step i h n s.2 y s.3 k s.6))
 
 pub in_line : {A : Type 0} (f : Form A) → HasNoEnd f → (y : A) (m k : FlaggedLetters) → Spells f y m k → Puts AreTokens m k
 unfolding HasNoEnd Spells
@@ -103,7 +109,8 @@ in_line (Take t) i y m k s = taken_token t y m k i s
 in_line (Then f g) i y m k s = tokens_then (in_line f i.0 s.0 m s.1 s.2) (in_line (g s.0) (i.1 s.0) y s.1 k s.3)
 in_line (If t g h) i y m k (inl s) = tokens_then (taken_token t s.0 m s.1 i.0 s.2) (in_line (g s.0) (i.1 s.0) y s.1 k s.3)
 in_line (If t g h) i y m k (inr s) = in_line h i.2 y m k s
-in_line (While ks says step a) i y m k s = turns_in_line (λ a. record { kinds = ks; says = says a }) (λ a b. Spells (step a b)) (λ a. i.0) (λ a b c m k t. in_line (step a b) (i.1 a b) c m k t) s.0 a y m k s.1
+in_line (While ks says step a) i y m k s = turns_in_line (λ a. record { kinds = ks; says = says a }) (λ a b. Spells (step a b)) (λ a. i.0)
+    (λ a b c m k t. in_line (step a b) (i.1 a b) c m k t) s.0 a y m k s.1
 
 -- ---- whole lines
 

@@ -45,7 +45,12 @@ not_grown sort v = record { own = []; is = own_none sort; some = omega arith }
     own_none Rate = ap (λ (names : List (List ℕ)). record { variables = v.variables; rates = names }) (sym (append-nil v.rates))
 
 pub grown_more : (sort : NameSortView) (least : ℕ) (v w : NamesView) (name : List ℕ) → IsGrown sort least v w → IsGrown sort 1 v (with_name sort w name)
-grown_more sort least v w name g = record { own = g.own ++ name ∷ []; is = ap (λ (u : NamesView). with_name sort u name) g.is ∙ own_more sort; some = omega (arith, length-append g.own (name ∷ [])) }
+grown_more sort least v w name g = record {
+  own = g.own ++ name ∷ [];
+  is = ap (λ (u : NamesView). with_name sort u name) g.is
+      ∙ own_more sort;
+  some = omega (arith, length-append g.own (name ∷ []));
+}
   where
     own_more : (sort : NameSortView) → with_name sort (with_own sort v g.own) name ≡ with_own sort v (g.own ++ name ∷ [])
     own_more Variable = ap (λ (names : List (List ℕ)). record { variables = names; rates = v.rates }) (append_assoc v.variables g.own (name ∷ []))
@@ -59,32 +64,40 @@ more_new_has_no_end : (sort : NameSortView) (most : ℕ) (v : NamesView) → Has
 unfolding HasNoEnd more_new
 more_new_has_no_end sort most v = (refl, λ v u. (new_name_has_no_end sort most v, λ w. tt))
 
-one_more_name : (sort : NameSortView) (least most : ℕ) (v w y : NamesView) (m k : FlaggedLetters) → IsGrown sort least v w → Spells (new_name sort most w) y m k → IsGrown sort 1 v y
+one_more_name : (sort : NameSortView) (least most : ℕ) (v w y : NamesView) (m k : FlaggedLetters) → IsGrown sort least v w
+    → Spells (new_name sort most w) y m k → IsGrown sort 1 v y
 unfolding new_name Spells
 one_more_name sort least most v w y m k g s = subst (IsGrown sort 1 v) s.2 (grown_more sort least v w _ g)
 
-more_names_grow : (sort : NameSortView) (most : ℕ) (v w y : NamesView) (m k : FlaggedLetters) → IsGrown sort 1 v w → Spells (more_new sort most w) y m k → IsGrown sort 1 v y
+more_names_grow : (sort : NameSortView) (most : ℕ) (v w y : NamesView) (m k : FlaggedLetters) → IsGrown sort 1 v w
+    → Spells (more_new sort most w) y m k → IsGrown sort 1 v y
 unfolding more_new Spells
 more_names_grow sort most v w y m k g s = turns s.0 w m g s.1
   where
-    turns : (n : ℕ) (w : NamesView) (m : FlaggedLetters) → IsGrown sort 1 v w → AreTurns (λ (w : NamesView). record { kinds = Punctuation Comma ∷ []; says = λ l. (None, tt {0}) }) (λ w u. Spells (Then (new_name sort most w) (λ more. Give more))) n w y m k → IsGrown sort 1 v y
+    turns : (n : ℕ) (w : NamesView) (m : FlaggedLetters) → IsGrown sort 1 v w
+        → AreTurns (λ (w : NamesView). record { kinds = Punctuation Comma ∷ []; says = λ l. (None, tt {0}) })
+        (λ w u. Spells (Then (new_name sort most w) (λ more. Give more))) n w y m k → IsGrown sort 1 v y
     turns zero w m g t = subst (IsGrown sort 1 v) t.0 g
     turns (suc n) w m g t = turns n t.2 t.3 (subst (IsGrown sort 1 v) t.5.3.0 (one_more_name sort 1 most v w t.5.0 t.1 t.5.1 g t.5.2)) t.6
 
-pub new_names_lines : (sort : NameSortView) (most : ℕ) (v y : NamesView) (m k : FlaggedLetters) → Spells (new_names sort most v) y m k → Puts (HasLines 1) m k × IsGrown sort 1 v y
+pub new_names_lines : (sort : NameSortView) (most : ℕ) (v y : NamesView) (m k : FlaggedLetters) → Spells (new_names sort most v) y m k
+    → Puts (HasLines 1) m k × IsGrown sort 1 v y
 unfolding new_names Spells
 new_names_lines sort most v y m k s =
     let grown = more_names_grow sort most v s.0 s.3.0 s.1 s.3.1 (one_more_name sort 0 most v v s.0 m s.1 (not_grown sort v) s.2) s.3.2 in
-    let tokens = tokens_then (in_line (new_name sort most v) (new_name_has_no_end sort most v) s.0 m s.1 s.2) (in_line (more_new sort most s.0) (more_new_has_no_end sort most s.0) s.3.0 s.1 s.3.1 s.3.2) in
+    let tokens = tokens_then (in_line (new_name sort most v) (new_name_has_no_end sort most v) s.0 m s.1 s.2)
+    (in_line (more_new sort most s.0) (more_new_has_no_end sort most s.0) s.3.0 s.1 s.3.1 s.3.2) in
     (puts_at (tokens_lines 0 tokens (end_puts _ s.3.3.0 s.3.1 s.3.3.1 refl s.3.3.2)) s.3.3.3.1, subst (IsGrown sort 1 v) s.3.3.3.0 grown)
 
 -- a line with names, or neither
 abbrev OneOrNone : ℕ → NameSortView → NamesView → NamesView → Type 0
 OneOrNone i sort v y = ((i ≡ 1) × IsGrown sort 1 v y) ⊎ ((i ≡ 0) × (v ≡ y))
 
-names_line_lines : (sort : NameSortView) (most : ℕ) (w : List ℕ) (v y : NamesView) (m k : FlaggedLetters) → Spells (names_line sort most w v) y m k → (i : ℕ) × Puts (HasLines i) m k × OneOrNone i sort v y
+names_line_lines : (sort : NameSortView) (most : ℕ) (w : List ℕ) (v y : NamesView) (m k : FlaggedLetters)
+    → Spells (names_line sort most w v) y m k → (i : ℕ) × Puts (HasLines i) m k × OneOrNone i sort v y
 unfolding names_line Spells
-names_line_lines sort most w v y m k (inl s) = let l = new_names_lines sort most v y s.1 k s.3 in (1, tokens_lines 0 (taken_token (word w) s.0 m s.1 refl s.2) l.0, inl (refl, l.1))
+names_line_lines sort most w v y m k (inl s) = let l = new_names_lines sort most v y s.1 k s.3
+    in (1, tokens_lines 0 (taken_token (word w) s.0 m s.1 refl s.2) l.0, inl (refl, l.1))
 names_line_lines sort most w v y m k (inr s) = (0, no_lines s.1, inr (refl, s.0))
 
 -- ---- lines that make a count grow by as many as they are
@@ -94,8 +107,10 @@ pub record Grows {A : Type 0} (count : A → ℕ) (a y : A) (m k : FlaggedLetter
   pub puts : Puts (HasLines lines) m k
   pub grows : count y ≡ count a + lines
 
-pub turns_grow : {A B : Type 0} (t : A → Terminal B) (Step : A → B → A → FlaggedLetters → FlaggedLetters → Type 0) (count : A → ℕ) → ((a : A) → NoEndAmong (t a).kinds)
-    → ((a : A) (b : B) (c : A) (m k : FlaggedLetters) → Step a b c m k → (i : ℕ) × Puts (HasLines (suc i)) m k × (count c ≡ count a + suc i)) → (n : ℕ) (a y : A) (m k : FlaggedLetters) → AreTurns t Step n a y m k → Grows count a y m k
+pub turns_grow : {A B : Type 0} (t : A → Terminal B) (Step : A → B → A → FlaggedLetters → FlaggedLetters → Type 0) (count : A → ℕ)
+    → ((a : A) → NoEndAmong (t a).kinds)
+    → ((a : A) (b : B) (c : A) (m k : FlaggedLetters) → Step a b c m k → (i : ℕ) × Puts (HasLines (suc i)) m k
+    × (count c ≡ count a + suc i)) → (n : ℕ) (a y : A) (m k : FlaggedLetters) → AreTurns t Step n a y m k → Grows count a y m k
 turns_grow t Step count i h zero a y m k s = record { lines = 0; puts = no_lines s.1; grows = let e = ap count s.0 in omega (arith, e) }
 turns_grow t Step count i h (suc n) a y m k s =
     let first = h a s.0 s.2 s.1 s.3 s.5 in
@@ -106,14 +121,27 @@ turns_grow t Step count i h (suc n) a y m k s =
       grows = omega (arith, more.grows, first.2);
     }
 
-own_line_lines : (v : NamesView) (own : OwnLinesView) (b : Bool) (y : OwnLinesView) (m k : FlaggedLetters) → Spells (own_line v own b) y m k → (i : ℕ) × Puts (HasLines (suc i)) m k × (own_line_count y ≡ own_line_count own + suc i)
+own_line_lines : (v : NamesView) (own : OwnLinesView) (b : Bool) (y : OwnLinesView) (m k : FlaggedLetters) → Spells (own_line v own b) y m k
+    → (i : ℕ) × Puts (HasLines (suc i)) m k × (own_line_count y ≡ own_line_count own + suc i)
 unfolding own_line Spells
-own_line_lines v own true y m k s = (0, puts_at (line_puts (given (scope_of v false)) (given_has_no_end _) s.0 m s.1 s.2) s.3.1, sym (ap own_line_count s.3.0) ∙ omega (arith, length-append own.givens (s.0 ∷ [])))
-own_line_lines v own false y m k s = (0, puts_at (line_puts (relation (scope_of v true)) (relation_has_no_end _) s.0 m s.1 s.2) s.3.1, sym (ap own_line_count s.3.0) ∙ omega (arith, length-append own.rows (s.0 ∷ [])))
+own_line_lines v own true y m k s = (
+  0,
+  puts_at (line_puts (given (scope_of v false)) (given_has_no_end _) s.0 m s.1 s.2) s.3.1,
+  sym
+      (ap own_line_count s.3.0) ∙ omega (arith, length-append own.givens (s.0 ∷ [])),
+)
+own_line_lines v own false y m k s = (
+  0,
+  puts_at (line_puts (relation (scope_of v true)) (relation_has_no_end _) s.0 m s.1 s.2) s.3.1,
+  sym
+      (ap own_line_count s.3.0) ∙ omega (arith, length-append own.rows (s.0 ∷ [])),
+)
 
-own_lines_lines : (g r : ℕ) (v : NamesView) (own y : OwnLinesView) (m k : FlaggedLetters) → Spells (more_own_lines g r v own) y m k → Grows own_line_count own y m k
+own_lines_lines : (g r : ℕ) (v : NamesView) (own y : OwnLinesView) (m k : FlaggedLetters) → Spells (more_own_lines g r v own) y m k
+    → Grows own_line_count own y m k
 unfolding more_own_lines Spells
-own_lines_lines g r v own y m k s = turns_grow (λ (own : OwnLinesView). record { kinds = own_words; says = own_keyword g r own }) (λ own b. Spells (own_line v own b)) own_line_count (λ own. refl) (λ own b c m k t. own_line_lines v own b c m k t) s.0 own y m k s.1
+own_lines_lines g r v own y m k s = turns_grow (λ (own : OwnLinesView). record { kinds = own_words; says = own_keyword g r own })
+    (λ own b. Spells (own_line v own b)) own_line_count (λ own. refl) (λ own b c m k t. own_line_lines v own b c m k t) s.0 own y m k s.1
 
 -- ---- `try` lines
 
@@ -128,10 +156,12 @@ parts_has_no_end aux env sets = (refl, λ sets u. (part_has_no_end aux env sets,
 try_line_lines : (aux env : Environment) (sets : Sets) (y : List ℕ) (m k : FlaggedLetters) → Spells (try_line aux env sets) y m k → Puts (HasLines 1) m k
 unfolding try_line Spells
 try_line_lines aux env sets y m k s =
-    let tokens = tokens_then (in_line (part aux env sets) (part_has_no_end aux env sets) s.0 m s.1 s.2) (in_line (more_parts aux env s.0) (parts_has_no_end aux env s.0) s.3.0 s.1 s.3.1 s.3.2) in
+    let tokens = tokens_then (in_line (part aux env sets) (part_has_no_end aux env sets) s.0 m s.1 s.2)
+    (in_line (more_parts aux env s.0) (parts_has_no_end aux env s.0) s.3.0 s.1 s.3.1 s.3.2) in
     puts_at (tokens_lines 0 tokens (end_puts _ s.3.3.0 s.3.1 s.3.3.1 refl s.3.3.2)) s.3.3.3.1
 
-tries_lines : (aux env : Environment) (sets : Sets) (ts y : List (List ℕ)) (m k : FlaggedLetters) → Spells (more_tries aux env sets ts) y m k → Grows length ts y m k
+tries_lines : (aux env : Environment) (sets : Sets) (ts y : List (List ℕ)) (m k : FlaggedLetters)
+    → Spells (more_tries aux env sets ts) y m k → Grows length ts y m k
 unfolding more_tries Spells
 tries_lines aux env sets ts y m k s = turns_grow (λ (ts : List (List ℕ)). record { kinds = Keyword (codes "try") ∷ []; says = λ l. (if list_all is_some sets then Some codes.Word else limit_flag (most_lines - length ts), tt {0}) }) (λ ts u. Spells (Then (try_line aux env sets) (λ t. Give (ts ++ t ∷ [])))) length (λ ts. refl) (λ ts u c m k t. (0, puts_at (try_line_lines aux env sets t.0 m t.1 t.2) t.3.1, sym (ap length t.3.0) ∙ omega (arith, length-append ts (t.0 ∷ [])))) s.0 ts y m k s.1
 
@@ -146,7 +176,8 @@ aux_lines i v y (inl h) =
     let e = h.1.some in
     let l = ap (λ (u : NamesView). length u.variables) h.1.is ∙ length-append v.variables h.1.own in
     h.0 ∙ sym (one_line (length y.variables - length v.variables) (omega (arith, e, l)))
-aux_lines i v y (inr h) = let e : length y.variables - length v.variables ≡ 0 = let l = ap (λ (u : NamesView). length u.variables) h.1 in omega (arith, l) in h.0 ∙ sym (ap (min 1) e)
+aux_lines i v y (inr h) = let e : length y.variables - length v.variables ≡ 0 = let l = ap (λ (u : NamesView). length u.variables) h.1
+    in omega (arith, l) in h.0 ∙ sym (ap (min 1) e)
 
 region_lines : (g r : ℕ) (v : NamesView) (y : RegionView) (m k : FlaggedLetters) → Spells (region g r v) y m k → Puts (HasLines (region_line_count y)) m k
 unfolding region Spells
@@ -154,7 +185,8 @@ region_lines g r v y m k s =
     let names = names_line_lines Variable _ (codes "aux") v s.3.0 s.1 s.3.1 s.3.2 in
     let own = own_lines_lines g r s.3.0 _ s.3.3.0 s.3.1 s.3.3.1 s.3.3.2 in
     let all = lines_then 1 (names.0 + own.lines) (end_puts _ s.0 m s.1 refl s.2) (lines_then names.0 own.lines names.1 own.puts) in
-    subst (λ (x : RegionView). Puts (HasLines (region_line_count x)) m k) s.3.3.3.0 (lines_as (1 + (names.0 + own.lines)) _ (puts_at all s.3.3.3.1) (omega (arith, own.grows, aux_lines names.0 v s.3.0 names.2)))
+    subst (λ (x : RegionView). Puts (HasLines (region_line_count x)) m k) s.3.3.3.0
+    (lines_as (1 + (names.0 + own.lines)) _ (puts_at all s.3.3.3.1) (omega (arith, own.grows, aux_lines names.0 v s.3.0 names.2)))
 
 -- ---- questions
 
@@ -166,7 +198,8 @@ some_lines : {m n k : FlaggedLetters} (i : ℕ) → 1 ≤ i → Puts AreTokens m
 some_lines zero le p q = absurd (omega (arith, le))
 some_lines (suc i) le p q = tokens_lines i p q
 
-containment_lines : (own : OwnLinesView) (v : NamesView) (y : VerbView) (m k : FlaggedLetters) → Spells (containment own v) y m k → Puts (HasLines (verb_line_count y)) m k
+containment_lines : (own : OwnLinesView) (v : NamesView) (y : VerbView) (m k : FlaggedLetters) → Spells (containment own v) y m k
+    → Puts (HasLines (verb_line_count y)) m k
 unfolding containment Spells
 containment_lines own v y m k s =
     let first = region_lines _ _ v s.0 m s.1 s.2 in
@@ -176,7 +209,9 @@ containment_lines own v y m k s =
     let i = region_line_count s.0 in
     let j = region_line_count s.3.3.0 in
     let after = some_lines (j + (tries.lines + 1)) (omega arith) (taken_token (word (codes "region")) s.3.0 s.1 s.3.1 refl s.3.2) (lines_then j (tries.lines + 1) second (lines_then tries.lines 1 tries.puts contain)) in
-    subst (λ (x : VerbView). Puts (HasLines (verb_line_count x)) m k) s.3.3.3.3.3.3.0 (lines_as (i + (j + (tries.lines + 1))) _ (puts_at (lines_then i (j + (tries.lines + 1)) first after) s.3.3.3.3.3.3.1) (omega (arith, tries.grows)))
+    subst (λ (x : VerbView). Puts (HasLines (verb_line_count x)) m k) s.3.3.3.3.3.3.0
+    (lines_as (i + (j + (tries.lines + 1))) _ (puts_at (lines_then i (j + (tries.lines + 1)) first after) s.3.3.3.3.3.3.1)
+    (omega (arith, tries.grows)))
 
 verb_has_lines : (y : VerbView) → 1 ≤ verb_line_count y
 verb_has_lines (Prove r) = omega arith
@@ -191,7 +226,8 @@ verb_lines own v y m k (inr (inr s)) = some_lines (verb_line_count y) (verb_has_
 
 -- a `rates` line stands there where there are rates
 rates_lines : (i : ℕ) (v y : NamesView) → v.rates ≡ [] → OneOrNone i Rate v y → i ≡ min 1 (length y.rates)
-rates_lines i v y e (inl h) = h.0 ∙ sym (ap (λ (u : NamesView). min 1 (length u.rates)) h.1.is ∙ one_line (length (v.rates ++ h.1.own)) (let some = h.1.some in omega (arith, some, length-append v.rates h.1.own)))
+rates_lines i v y e (inl h) = h.0 ∙ sym (ap (λ (u : NamesView). min 1 (length u.rates)) h.1.is
+    ∙ one_line (length (v.rates ++ h.1.own)) (let some = h.1.some in omega (arith, some, length-append v.rates h.1.own)))
 rates_lines i v y e (inr h) = h.0 ∙ sym (ap (λ (u : NamesView). min 1 (length u.rates)) (sym h.1) ∙ ap (λ (xs : List (List ℕ)). min 1 (length xs)) e)
 
 -- A question, after its word `vars`, is as many lines as are counted of it.
@@ -220,6 +256,10 @@ pub questions_lines : (qs ys : List BodyView) (m k : FlaggedLetters) → Spells 
 unfolding more_questions Spells
 questions_lines qs ys m k s =
     turns_grow (λ (qs : List BodyView). record { kinds = Keyword (codes "vars") ∷ []; says = λ l. (limit_flag (most_questions - length qs), tt {0}) }) (λ qs u. Spells (Then question (λ q. Give (qs ++ q ∷ [])))) all_lines (λ qs. refl)
-    (λ qs u c m k t. let q = t.0 in let i = min 1 (length q.names.rates) + own_line_count q.lines + verb_line_count q.verb in
-    (i, lines_as (question_line_count q) (suc i) (puts_at (question_lines q m t.1 t.2) t.3.1) (omega arith), sym (ap all_lines t.3.0) ∙ lines_append qs q ∙ omega arith))
+    (λ qs u c m k t. let q = t.0 in let i = min 1 (length q.names.rates) + own_line_count q.lines + verb_line_count q.verb in (
+      i,
+      lines_as (question_line_count q) (suc i) (puts_at (question_lines q m t.1 t.2) t.3.1) (omega arith),
+      sym (ap all_lines t.3.0)
+          ∙ lines_append qs q ∙ omega arith,
+    ))
     s.0 qs ys m k s.1

@@ -40,16 +40,24 @@ new_name_has sort most v = has_take _ (Word []) refl
 pub new_names_has : (sort : NameSortView) (most : ℕ) (v : NamesView) → Has (new_names sort most v) (one_of (WordBut [] ∷ []))
 unfolding new_names more_new
 new_names_has sort most v =
-    has_then _ _ _ _ (new_name_has sort most v) (λ first. has_then _ _ _ _ (has_while _ _ _ _ _ (λ v u. has_then _ _ _ _ (new_name_has sort most v) (λ more. has_give _) refl) refl) (λ all. has_then _ _ _ _ end_has (λ u. has_give _) refl) refl) refl
+    has_then _ _ _ _ (new_name_has sort most v) (λ first. has_then _ _ _ _
+    (has_while _ _ _ _ _ (λ v u. has_then _ _ _ _ (new_name_has sort most v) (λ more. has_give _) refl) refl)
+    (λ all. has_then _ _ _ _ end_has (λ u. has_give _) refl) refl) refl
 
-names_line_has : (sort : NameSortView) (most : ℕ) (keyword : List ℕ) (v : NamesView) → Has (names_line sort most keyword v) (record { begins = Keyword keyword ∷ []; skips = true; goes = Keyword keyword ∷ [] })
+names_line_has : (sort : NameSortView) (most : ℕ) (keyword : List ℕ) (v : NamesView)
+    → Has (names_line sort most keyword v) (record { begins = Keyword keyword ∷ []; skips = true; goes = Keyword keyword ∷ [] })
 unfolding names_line
 names_line_has sort most keyword v = has_if _ _ _ _ _ (λ u. new_names_has sort most v) (has_give _) refl
 
-own_line_has : (v : NamesView) (own : OwnLinesView) (b : Bool) → Has (own_line v own b) (either (one_then (a_line a_given) nothing) (one_then (a_line (a_relation [])) nothing))
+own_line_has : (v : NamesView) (own : OwnLinesView) (b : Bool)
+    → Has (own_line v own b) (either (one_then (a_line a_given) nothing) (one_then (a_line (a_relation [])) nothing))
 unfolding own_line
-own_line_has v own true = has_more _ (one_then (a_line a_given) nothing) _ (has_then _ _ _ _ (has_then _ _ _ _ (given_has _) (λ x. has_then _ _ _ _ end_has (λ u. has_give _) refl) refl) (λ x. has_give _) refl) (left_fits (one_then (a_line a_given) nothing) (one_then (a_line (a_relation [])) nothing))
-own_line_has v own false = has_more _ (one_then (a_line (a_relation [])) nothing) _ (has_then _ _ _ _ (has_then _ _ _ _ (relation_has _) (λ x. has_then _ _ _ _ end_has (λ u. has_give _) refl) refl) (λ x. has_give _) refl) (right_fits (one_then (a_line a_given) nothing) (one_then (a_line (a_relation [])) nothing))
+own_line_has v own true = has_more _ (one_then (a_line a_given) nothing) _
+    (has_then _ _ _ _ (has_then _ _ _ _ (given_has _) (λ x. has_then _ _ _ _ end_has (λ u. has_give _) refl) refl) (λ x. has_give _) refl)
+    (left_fits (one_then (a_line a_given) nothing) (one_then (a_line (a_relation [])) nothing))
+own_line_has v own false = has_more _ (one_then (a_line (a_relation [])) nothing) _
+    (has_then _ _ _ _ (has_then _ _ _ _ (relation_has _) (λ x. has_then _ _ _ _ end_has (λ u. has_give _) refl) refl)
+    (λ x. has_give _) refl) (right_fits (one_then (a_line a_given) nothing) (one_then (a_line (a_relation [])) nothing))
 
 own_lines_has : (g r : ℕ) (v : NamesView) → Has (own_lines g r v) (record { begins = own_words; skips = true; goes = own_words })
 unfolding more_own_lines
@@ -64,12 +72,15 @@ a_part = record { begins = WordBut [] ∷ []; skips = false; goes = Punctuation 
 
 part_has : (aux env : Environment) (sets : Sets) → Has (part aux env sets) a_part
 unfolding part auxiliary
-part_has aux env sets = has_then _ _ _ _ (has_take _ (Word []) refl) (λ i. has_then _ _ _ _ (has_symbol Assign) (λ u. has_then _ _ _ _ (set_has env) (λ s. has_give _) refl) refl) refl
+part_has aux env sets = has_then _ _ _ _ (has_take _ (Word []) refl) (λ i. has_then _ _ _ _ (has_symbol Assign)
+    (λ u. has_then _ _ _ _ (set_has env) (λ s. has_give _) refl) refl) refl
 
 try_line_has : (aux env : Environment) (sets : Sets) → Has (try_line aux env sets) (one_of (WordBut [] ∷ []))
 unfolding try_line more_parts
 try_line_has aux env sets =
-    has_then _ _ _ _ (part_has aux env sets) (λ first. has_then _ _ _ _ (has_while _ _ _ _ _ (λ sets u. has_then _ _ _ _ (part_has aux env sets) (λ more. has_give _) refl) refl) (λ all. has_then _ _ _ _ (has_take _ End refl) (λ u. has_give _) refl) refl) refl
+    has_then _ _ _ _ (part_has aux env sets) (λ first. has_then _ _ _ _ (has_while _ _ _ _ _
+    (λ sets u. has_then _ _ _ _ (part_has aux env sets) (λ more. has_give _) refl) refl)
+    (λ all. has_then _ _ _ _ (has_take _ End refl) (λ u. has_give _) refl) refl) refl
 
 tries_has : (aux env : Environment) (sets : Sets) (ts : List (List ℕ)) → Has (more_tries aux env sets ts) (record { begins = Keyword (codes "try") ∷ []; skips = true; goes = Keyword (codes "try") ∷ [] })
 unfolding more_tries
@@ -90,13 +101,16 @@ containment_has own v =
 
 distinct_has : (env : Environment) → Has (distinct env) (record { begins = WordBut [] ∷ []; skips = false; goes = Punctuation Comma ∷ [] })
 unfolding distinct more_once once
-distinct_has env = has_then _ _ _ _ (has_take _ (Word []) refl) (λ first. has_while _ _ _ _ _ (λ seen u. has_then _ _ _ _ (has_take _ (Word []) refl) (λ i. has_give _) refl) refl) refl
+distinct_has env = has_then _ _ _ _ (has_take _ (Word []) refl) (λ first. has_while _ _ _ _ _
+    (λ seen u. has_then _ _ _ _ (has_take _ (Word []) refl) (λ i. has_give _) refl) refl) refl
 
 verb_has : (own : OwnLinesView) (v : NamesView) → Has (verb own v) (one_of (Keyword (codes "prove") ∷ Keyword (codes "eliminate") ∷ Keyword (codes "region") ∷ []))
 unfolding verb
 verb_has own v =
-    has_if _ _ _ _ _ (λ u. has_then _ _ _ _ (has_then _ _ _ _ (relation_has _) (λ x. has_then _ _ _ _ end_has (λ u. has_give _) refl) refl) (λ x. has_give _) refl)
-    (has_if _ _ _ _ _ (λ u. has_then _ _ _ _ (has_then _ _ _ _ (distinct_has _) (λ rates. has_then _ _ _ _ end_has (λ u. has_give _) refl) refl) (λ x. has_give _) refl)
+    has_if _ _ _ _ _ (λ u. has_then _ _ _ _ (has_then _ _ _ _ (relation_has _) (λ x. has_then _ _ _ _ end_has (λ u. has_give _) refl) refl)
+    (λ x. has_give _) refl)
+    (has_if _ _ _ _ _ (λ u. has_then _ _ _ _ (has_then _ _ _ _ (distinct_has _)
+    (λ rates. has_then _ _ _ _ end_has (λ u. has_give _) refl) refl) (λ x. has_give _) refl)
     (has_then _ _ _ _ (word_has (codes "region") refl) (λ u. containment_has own v) refl) refl) refl
 
 question_has : Has question (one_of (WordBut [] ∷ []))

@@ -29,7 +29,8 @@ unfolding read
 then_stops f g stops.Memory ls r e = tt
 then_stops f g (stops.Fault c) ls r e = ap (λ (t : Reads _). t >>= λ y. read (g y.0) y.1) e
 
-then_again : {A B C : Type 0} (f : Form A) (g : A → Form B) (h : B → Form C) (ls : List Letter) → read (Then f (λ a. Then (g a) h)) ls ≡ read (Then (Then f g) h) ls
+then_again : {A B C : Type 0} (f : Form A) (g : A → Form B) (h : B → Form C) (ls : List Letter)
+    → read (Then f (λ a. Then (g a) h)) ls ≡ read (Then (Then f g) h) ls
 unfolding read
 then_again {A} {B} {C} f g h ls = by_result (read f ls)
   where
@@ -40,11 +41,13 @@ then_again {A} {B} {C} f g h ls = by_result (read f ls)
 -- ---- regions
 
 -- a region is read under these limits
-pub region_under : (g r m n : ℕ) (v : NamesView) (ls a : List Letter) (x : RegionView) → g ≡ m → r ≡ n → read (region g r v) ls ≡ Ok (x, a) → read (region m n v) ls ≡ Ok (x, a)
+pub region_under : (g r m n : ℕ) (v : NamesView) (ls a : List Letter) (x : RegionView) → g ≡ m → r ≡ n → read (region g r v) ls ≡ Ok (x, a)
+    → read (region m n v) ls ≡ Ok (x, a)
 region_under g r m n v ls a x e f h = subst (λ (k : ℕ). read (region k n v) ls ≡ Ok (x, a)) e (subst (λ (k : ℕ). read (region g k v) ls ≡ Ok (x, a)) f h)
 
 -- The code read the first region up to a, `region` up to b, and the second up to d.
-pub record ReadRegions (own : OwnLinesView) (v : NamesView) (ls a b d : List Letter) (first second : RegionView) (most_givens most_rows more_givens more_rows : ℕ) : Type 0 where
+pub record ReadRegions (own : OwnLinesView) (v : NamesView) (ls a b d : List Letter) (first second : RegionView)
+    (most_givens most_rows more_givens more_rows : ℕ) : Type 0 where
   pub most_givens_are : most_givens ≡ givens_left most_lines own
   pub most_rows_are : most_rows ≡ rows_left most_lines own
   pub one : read (region most_givens most_rows v) ls ≡ Ok (first, a)
@@ -63,14 +66,17 @@ contain_line own first = Then (Take (flagged_word (codes "contain") (size_flag f
 abbrev end_of : OwnLinesView → RegionView → RegionView → List (List ℕ) → Form VerbView
 end_of own first second tries = Then (Take (flagged_word (codes "contain") (size_flag first.names (lines_with own first)))) (λ u. Then line_end (λ u. Give (Contain first second tries)))
 
-module _ (own : OwnLinesView) (v : NamesView) (ls a b d : List Letter) (first second : RegionView) (i j m n : ℕ) (h : ReadRegions own v ls a b d first second i j m n) where
+module _ (own : OwnLinesView) (v : NamesView) (ls a b d : List Letter) (first second : RegionView) (i j m n : ℕ)
+    (h : ReadRegions own v ls a b d first second i j m n) where
   up_to_tries : read (containment own v) ls ≡ read (Then (tries_of v first second) (λ ts. end_of own first second ts)) d
   unfolding containment
   up_to_tries =
       let g = givens_left most_lines own in
       let r = rows_left most_lines own in
       let one = region_under i j g r v ls a first h.most_givens_are h.most_rows_are h.one in
-      let two = region_under m n (givens_left g first.lines) (rows_left r first.lines) v b d second (h.givens ∙ ap (λ (k : ℕ). givens_left k first.lines) h.most_givens_are) (h.rows ∙ ap (λ (k : ℕ). rows_left k first.lines) h.most_rows_are) h.two in
+      let two = region_under m n (givens_left g first.lines) (rows_left r first.lines) v b d second
+      (h.givens ∙ ap (λ (k : ℕ). givens_left k first.lines) h.most_givens_are)
+      (h.rows ∙ ap (λ (k : ℕ). rows_left k first.lines) h.most_rows_are) h.two in
       then_gives _ _ ls a first one ∙ then_gives _ _ a b tt h.word ∙ then_gives _ _ b d second two
 
   -- at a fault in the `try` lines
@@ -83,9 +89,11 @@ module _ (own : OwnLinesView) (v : NamesView) (ls a b d : List Letter) (first se
 
     -- at a fault after them
     pub contain_stops : (e : Stop) (rest : List Letter) → StopsAs e rest (read (contain_line own first) after) → StopsAs e rest (read (containment own v) ls)
-    contain_stops e rest k = subst (StopsAs e rest) (sym up_to_contain) (then_stops (contain_line own first) (λ u. Give (Contain first second tries)) e after rest k)
+    contain_stops e rest k = subst (StopsAs e rest) (sym up_to_contain) (then_stops (contain_line own first)
+        (λ u. Give (Contain first second tries)) e after rest k)
 
     -- two regions and the sets to be tried
-    pub contain_gives : (rest : List Letter) → read (contain_line own first) after ≡ Ok (tt, rest) → read (containment own v) ls ≡ Ok (Contain first second tries, rest)
+    pub contain_gives : (rest : List Letter) → read (contain_line own first) after ≡ Ok (tt, rest)
+        → read (containment own v) ls ≡ Ok (Contain first second tries, rest)
     unfolding read
     contain_gives rest k = up_to_contain ∙ then_gives (contain_line own first) (λ u. Give (Contain first second tries)) after rest tt k

@@ -24,7 +24,8 @@ set_past [] i set le = refl
 set_past (s ∷ sets) zero set le = absurd (omega arith)
 set_past (s ∷ sets) (suc i) set le = ap (λ (t : Sets). s ∷ t) (set_past sets i set (omega arith))
 
-pub whole_step : (sets : Sets) (i : ℕ) (d : Option ℕ) → i < length sets → is_some (slice_index_or sets i d) ≡ true → list_all is_some (drop i sets) ≡ list_all is_some (drop (suc i) sets)
+pub whole_step : (sets : Sets) (i : ℕ) (d : Option ℕ) → i < length sets → is_some (slice_index_or sets i d) ≡ true
+    → list_all is_some (drop i sets) ≡ list_all is_some (drop (suc i) sets)
 whole_step [] i d lt e = absurd (omega arith)
 whole_step (None ∷ sets) zero d lt e = absurd cc
 whole_step (Some s ∷ sets) zero d lt e = refl

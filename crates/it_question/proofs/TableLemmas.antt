@@ -5,10 +5,10 @@ use Rattle.std.specs.List.{AllZip}
 use Rattle.std.proofs.lemmas.Slice.Zip.{length-zip}
 use Rattle.std.proofs.lemmas.List.Elements.{All-weaker}
 use Rattle.it_space.specs.declared.spaces.Space.{Space}
-use Rattle.it_space.specs.declared.problems.Kind.{Kind}
-use Rattle.it_space.specs.declared.problems.Origin.{Origin}
-use Rattle.it_space.specs.declared.problems.Constraint.{Constraint}
-use Rattle.it_space.specs.Problems.{IsProblem}
+use Rattle.it_problems.specs.declared.problems.Kind.{Kind}
+use Rattle.it_problems.specs.declared.problems.Origin.{Origin}
+use Rattle.it_problems.specs.declared.problems.Constraint.{Constraint}
+use Rattle.it_problems.specs.Problems.{IsProblem}
 use Rattle.it_space.specs.Rows.{Terms, IsOver}
 use Rattle.it_space.specs.Spaces.{IsSpace, size_of}
 use Rattle.std.proofs.Math.Nat.{mul-le-mul, pow-le-pow_right}
@@ -43,20 +43,24 @@ abbrev constraint : Terms → Kind → Origin → Constraint
 constraint row kind origin = record { row = row; kind = kind; origin = origin }
 
 -- constraints that state demands are those that are made of them
-pub stated_are : (s : Space) (places : List Origin) (ds : List Demand) (cs : List Constraint) → AreStated s places ds cs → cs ≡ map (constraint_of s) (zip places ds)
+pub stated_are : (s : Space) (places : List Origin) (ds : List Demand) (cs : List Constraint) → AreStated s places ds cs
+    → cs ≡ map (constraint_of s) (zip places ds)
 stated_are s places ds cs h = pairs_are (zip places ds) cs (zip-both ComesFrom (States s) places ds cs h.placed h.stated)
   where
-    pairs_are : (ps : List (Origin × Demand)) (cs : List Constraint) → AllZip (λ (p : Origin × Demand) (c : Constraint). ComesFrom p.0 c × States s p.1 c) ps cs → cs ≡ map (constraint_of s) ps
+    pairs_are : (ps : List (Origin × Demand)) (cs : List Constraint)
+        → AllZip (λ (p : Origin × Demand) (c : Constraint). ComesFrom p.0 c × States s p.1 c) ps cs → cs ≡ map (constraint_of s) ps
     pairs_are [] [] a = refl
     pairs_are [] (c ∷ cs) a = absurd a
     pairs_are (p ∷ ps) [] a = absurd a
     pairs_are (p ∷ ps) (c ∷ cs) a =
         let row = row_is_terms_of_form s p.1.form c.row a.0.1.row in
-        let one : c ≡ constraint_of s p = ap₂ (λ (x : Terms) (y : Kind). constraint x y c.origin) row a.0.1.kind ∙ ap (constraint (terms_of_form (size_of s) p.1.form) p.1.kind) a.0.0 in
+        let one : c ≡ constraint_of s p = ap₂ (λ (x : Terms) (y : Kind). constraint x y c.origin) row a.0.1.kind
+        ∙ ap (constraint (terms_of_form (size_of s) p.1.form) p.1.kind) a.0.0 in
         ap₂ (λ (x : Constraint) (xs : List Constraint). x ∷ xs) one (pairs_are ps cs a.1)
 
 -- they are a problem
-pub stated_problem : (s : Space) (places : List Origin) (ds : List Demand) (cs : List Constraint) → IsSpace s → length ds ≤ 2 ^ 20 → AreStated s places ds cs → IsProblem (record { space = s; constraints = cs })
+pub stated_problem : (s : Space) (places : List Origin) (ds : List Demand) (cs : List Constraint) → IsSpace s → length ds ≤ 2 ^ 20
+    → AreStated s places ds cs → IsProblem (record { space = s; constraints = cs })
 stated_problem s places ds cs k few h = record {
   space = k;
   rows = zip-right (States s) (λ c. IsOver (size_of s) c.row) (λ d c t. t.row.coordinates) ds cs h.stated;
@@ -65,15 +69,23 @@ stated_problem s places ds cs k few h = record {
 
 -- lines have few demands
 pub lines-few : (n : ℕ) (own : OwnLinesView) → All (IsGivenOf n) own.givens → length (line_demands n own) ≤ 14 * length own.givens + length own.rows
-lines-few n own a = omega (arith, length-append (flat_map (demands n) own.givens) (map (demand_of n) own.rows), givens-few n own.givens a, length-map own.rows (demand_of n))
+lines-few n own a = omega (
+  arith,
+  length-append (flat_map (demands n) own.givens)
+      (map (demand_of n) own.rows),
+  givens-few n own.givens a,
+  length-map own.rows (demand_of n),
+)
 
 -- the flag by the size of the problem with the constraints that were made
-pub flag_by_size : (v : NamesView) (own : OwnLinesView) (cs : List Constraint) (large : Bool) → AreStated (space_of v) (line_origins (length v.variables) own) (line_demands (length v.variables) own) cs
+pub flag_by_size : (v : NamesView) (own : OwnLinesView) (cs : List Constraint) (large : Bool)
+    → AreStated (space_of v) (line_origins (length v.variables) own) (line_demands (length v.variables) own) cs
     → large ≡ nat_lt most_entries (table_size (record { space = space_of v; constraints = cs })) → size_flag v own ≡ flag_if_large large
 unfolding size_flag
 flag_by_size v own cs large h e =
     let same = stated_are (space_of v) (line_origins (length v.variables) own) (line_demands (length v.variables) own) cs h in
-    ap (λ (ds : List Constraint). flag_if_large (nat_lt most_entries (table_size (record { space = space_of v; constraints = ds })))) (sym same) ∙ ap flag_if_large (sym e)
+    ap (λ (ds : List Constraint). flag_if_large (nat_lt most_entries (table_size (record { space = space_of v; constraints = ds }))))
+    (sym same) ∙ ap flag_if_large (sym e)
 
 -- ---- a question's lines under the names of its region
 
@@ -81,27 +93,44 @@ region_wider : (v : NamesView) (r : RegionView) → IsRegionOf v r → length v.
 region_wider v r a = omega (arith, ap length a.variables, length-append v.variables a.own)
 
 pub region_space : (v : NamesView) (r : RegionView) → IsSpace (space_of v) → IsRegionOf v r → IsSpace (space_of r.names)
-region_space v r k a = record { some = omega (arith, k.some, region_wider v r a); few = a.few_variables; few_rates = omega (arith, k.few_rates, ap length a.rates) }
+region_space v r k a = record {
+  some = omega (arith, k.some, region_wider v r a);
+  few = a.few_variables;
+  few_rates
+      = omega (arith, k.few_rates, ap length a.rates);
+}
 
-pub region_givens : (v : NamesView) (r : RegionView) (gs : List GivenView) → IsRegionOf v r → All (IsGivenOf (length v.variables)) gs → All (IsGivenOf (length r.names.variables)) gs
-region_givens v r gs a h = All-weaker (IsGivenOf (length v.variables)) (IsGivenOf (length r.names.variables)) (λ c d. wider_given (length v.variables) (length r.names.variables) (region_wider v r a) c d) gs h
+pub region_givens : (v : NamesView) (r : RegionView) (gs : List GivenView) → IsRegionOf v r → All (IsGivenOf (length v.variables)) gs
+    → All (IsGivenOf (length r.names.variables)) gs
+region_givens v r gs a h = All-weaker (IsGivenOf (length v.variables)) (IsGivenOf (length r.names.variables))
+    (λ c d. wider_given (length v.variables) (length r.names.variables) (region_wider v r a) c d) gs h
 
-pub region_rows : (v : NamesView) (r : RegionView) (rs : List RelationView) → IsRegionOf v r → All (IsRelationOf (length v.variables) (length v.rates)) rs → All (IsRelationOf (length r.names.variables) (length r.names.rates)) rs
+pub region_rows : (v : NamesView) (r : RegionView) (rs : List RelationView) → IsRegionOf v r
+    → All (IsRelationOf (length v.variables) (length v.rates)) rs → All (IsRelationOf (length r.names.variables) (length r.names.rates)) rs
 region_rows v r rs a h = All-weaker (IsRelationOf (length v.variables) (length v.rates)) (IsRelationOf (length r.names.variables) (length r.names.rates))
-    (λ x d. subst (λ (m : ℕ). IsRelationOf (length r.names.variables) m x) (sym (ap length a.rates)) (wider_relation (length v.variables) (length r.names.variables) (length v.rates) (region_wider v r a) x d)) rs h
+    (λ x d. subst (λ (m : ℕ). IsRelationOf (length r.names.variables) m x) (sym (ap length a.rates))
+    (wider_relation (length v.variables) (length r.names.variables) (length v.rates) (region_wider v r a) x d)) rs h
 
 -- the constraints of lines within the limits are a problem
-pub lines_problem : (s : Space) (own : OwnLinesView) (cs : List Constraint) → IsSpace s → All (IsGivenOf s.variables) own.givens → length own.givens ≤ 128 → length own.rows ≤ 128 → AreStated s (line_origins s.variables own) (line_demands s.variables own) cs → IsProblem (record { space = s; constraints = cs })
-lines_problem s own cs k givens g r h = stated_problem s (line_origins s.variables own) (line_demands s.variables own) cs k (omega (arith, lines-few s.variables own givens, g, r)) h
+pub lines_problem : (s : Space) (own : OwnLinesView) (cs : List Constraint) → IsSpace s → All (IsGivenOf s.variables) own.givens
+    → length own.givens ≤ 128 → length own.rows ≤ 128 → AreStated s (line_origins s.variables own) (line_demands s.variables own) cs
+    → IsProblem (record { space = s; constraints = cs })
+lines_problem s own cs k givens g r h = stated_problem s (line_origins s.variables own) (line_demands s.variables own) cs k
+    (omega (arith, lines-few s.variables own givens, g, r)) h
 
 -- and give the flag
-pub space_flag : (s : Space) (v : NamesView) (own : OwnLinesView) (cs : List Constraint) (large : Bool) → s ≡ space_of v → AreStated s (line_origins s.variables own) (line_demands s.variables own) cs
+pub space_flag : (s : Space) (v : NamesView) (own : OwnLinesView) (cs : List Constraint) (large : Bool) → s ≡ space_of v
+    → AreStated s (line_origins s.variables own) (line_demands s.variables own) cs
     → large ≡ nat_lt most_entries (table_size (record { space = s; constraints = cs })) → size_flag v own ≡ flag_if_large large
-space_flag s v own cs large e h k = flag_by_size v own cs large (subst (λ (t : Space). AreStated t (line_origins t.variables own) (line_demands t.variables own) cs) e h) (subst (λ (t : Space). large ≡ nat_lt most_entries (table_size (record { space = t; constraints = cs }))) e k)
+space_flag s v own cs large e h k = flag_by_size v own cs large (subst
+    (λ (t : Space). AreStated t (line_origins t.variables own) (line_demands t.variables own) cs) e h)
+    (subst (λ (t : Space). large ≡ nat_lt most_entries (table_size (record { space = t; constraints = cs }))) e k)
 
 -- the constraints of the givens alone
-pub givens_stated : (s : Space) (slice items : List Given) (cs : List Constraint) → slice ≡ items → AreStated s (given_origins s.variables 1 (map given_view slice)) (flat_map (demands s.variables) (map given_view slice)) cs
-    → AreStated s (line_origins s.variables (record { givens = map given_view items; rows = [] })) (line_demands s.variables (record { givens = map given_view items; rows = [] })) cs
+pub givens_stated : (s : Space) (slice items : List Given) (cs : List Constraint) → slice ≡ items
+    → AreStated s (given_origins s.variables 1 (map given_view slice)) (flat_map (demands s.variables) (map given_view slice)) cs
+    → AreStated s (line_origins s.variables (record { givens = map given_view items; rows = [] }))
+    (line_demands s.variables (record { givens = map given_view items; rows = [] })) cs
 givens_stated s slice items cs e h = subst₂ (λ (places : List Origin) (ds : List Demand). AreStated s places ds cs)
     (sym (append-nil (given_origins s.variables 1 (map given_view items)))) (sym (append-nil (flat_map (demands s.variables) (map given_view items))))
     (subst (λ (gs : List Given). AreStated s (given_origins s.variables 1 (map given_view gs)) (flat_map (demands s.variables) (map given_view gs)) cs) e h)
@@ -120,14 +149,26 @@ elementals-few n h =
     omega (arith, length-elementals n, both, h)
 
 -- at most nine variables, with lines within the limits, have a table that isn't too large
-pub few_variables : (v : NamesView) (own : OwnLinesView) → length v.variables ≤ 9 → length v.rates ≤ 16 → All (IsGivenOf (length v.variables)) own.givens → length own.givens ≤ 64 → length own.rows ≤ 64 → size_flag v own ≡ None
+pub few_variables : (v : NamesView) (own : OwnLinesView) → length v.variables ≤ 9 → length v.rates ≤ 16
+    → All (IsGivenOf (length v.variables)) own.givens → length own.givens ≤ 64 → length own.rows ≤ 64 → size_flag v own ≡ None
 unfolding size_flag table_size
 few_variables v own few rates a givens lines =
     let n = length v.variables in
     let q = problem_of_lines v own in
     let ds = zip (line_origins n own) (line_demands n own) in
     let rows : table_rows q ≤ 527 = rows-few n 9 (length v.rates) (dependences_of q) few rates in
-    let columns : table_columns q ≤ 7064 = omega (arith, elementals-few n few, columns-few q.constraints, length-map ds (constraint_of (space_of v)), length-zip (line_origins n own) (line_demands n own), lines-few n own a, givens, lines, rows) in
+    let columns : table_columns q ≤ 7064 = omega (
+      arith,
+      elementals-few n few,
+      columns-few q.constraints,
+      length-map ds
+          (constraint_of (space_of v)),
+      length-zip (line_origins n own) (line_demands n own),
+      lines-few n own a,
+      givens,
+      lines,
+      rows,
+    ) in
     let size : table_rows q * table_columns q ≤ 527 * 7064 = mul-le-mul rows columns in
     let small : nat_lt most_entries (table_rows q * table_columns q) ≡ false = grind (arith, nat_tests) in
     rw small refl

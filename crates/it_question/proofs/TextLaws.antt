@@ -27,15 +27,21 @@ first_alone q lines h =
     let spelled : (Word (codes "vars"), None) ∷ (without_flags h.said ++ the_end) ≡ without_flags (letters_of_lines t.again) =
     sym (cleaned_append (Word (codes "vars") ∷ h.said) (file_end ∷ [])) ∙ ap without_flags (ap (λ (ls : List Letter). ls ++ file_end ∷ []) (sym h.first) ∙ sym t.same) in
     let says = subst (λ (m : FlaggedLetters). Spells file (q ∷ []) m []) spelled (alone q (without_flags h.said) h.says) in
-    subst (λ (text : List ℕ). IsFile (first_of q lines).text (record { body = q; text = text } ∷ [])) (ap (λ (i : ℕ). text_of_lines (texts_of (take i t.again))) (sym h.long) ∙ t.text) (says_file file with_texts (first_of q lines).text t.again (q ∷ []) t.cut says)
+    subst (λ (text : List ℕ). IsFile (first_of q lines).text (record { body = q; text = text } ∷ []))
+    (ap (λ (i : ℕ). text_of_lines (texts_of (take i t.again))) (sym h.long) ∙ t.text)
+    (says_file file with_texts (first_of q lines).text t.again (q ∷ []) t.cut says)
 
-one_question_file : (qs : List BodyView) (lines : List LineView) (prefix rs : List QuestionView) (q : QuestionView) → AreAt lines qs → with_texts lines qs ≡ prefix ++ q ∷ rs → IsFile q.text (q ∷ [])
+one_question_file : (qs : List BodyView) (lines : List LineView) (prefix rs : List QuestionView) (q : QuestionView) → AreAt lines qs
+    → with_texts lines qs ≡ prefix ++ q ∷ rs → IsFile q.text (q ∷ [])
 unfolding first_of
 one_question_file [] lines [] rs q a h = absurd cc
 one_question_file [] lines (f ∷ prefix) rs q a h = absurd cc
-one_question_file (b ∷ qs) lines [] rs q a h = let first : first_of b lines ≡ q = cc in subst (λ (y : QuestionView). IsFile y.text (y ∷ [])) first (first_alone b lines a.0)
-one_question_file (b ∷ qs) lines (f ∷ prefix) rs q a h = let tails : with_texts (drop (question_line_count b) lines) qs ≡ prefix ++ q ∷ rs = cc in one_question_file qs (drop (question_line_count b) lines) prefix rs q a.1 tails
+one_question_file (b ∷ qs) lines [] rs q a h = let first : first_of b lines ≡ q = cc
+    in subst (λ (y : QuestionView). IsFile y.text (y ∷ [])) first (first_alone b lines a.0)
+one_question_file (b ∷ qs) lines (f ∷ prefix) rs q a h = let tails : with_texts (drop (question_line_count b) lines) qs
+    ≡ prefix ++ q ∷ rs = cc in one_question_file qs (drop (question_line_count b) lines) prefix rs q a.1 tails
 
 pub text_reads_back : TextReadsBack
 text_reads_back bytes qs rs q prefix asked e =
-    one_question_file asked.tree.0 asked.lines prefix rs q (questions_at asked.lines asked.tree.0 (lines_sound 1 (split_lines bytes) asked.lines asked.cut) (said file with_texts bytes qs asked)) (asked.says ∙ e)
+    one_question_file asked.tree.0 asked.lines prefix rs q (questions_at asked.lines asked.tree.0
+    (lines_sound 1 (split_lines bytes) asked.lines asked.cut) (said file with_texts bytes qs asked)) (asked.says ∙ e)

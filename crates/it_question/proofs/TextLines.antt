@@ -30,7 +30,12 @@ read_again n (l ∷ lines) h =
     let letters : line_letters a.line ≡ line_letters l = a.letters ∙ sym (whole_letters l h.0) in
     record {
       again = a.line ∷ more.again;
-      cut = subst (λ (split : List (List ℕ)). AreLines n split (a.line ∷ more.again)) (sym (plain_first (without_trailing (without_leading l.text)) (text_of_lines (texts_of lines)) plain)) (inr (a.line, more.again, refl, a.is, a.filled, more.cut));
-      same = ap (λ (q : List Letter). q ++ letters_of_lines more.again) letters ∙ ap (λ (q : List Letter). line_letters l ++ q) more.same ∙ sym (append_assoc (line_letters l) (letters_of_lines lines) (file_end ∷ []));
-      text = ap (λ (t : List ℕ). without_trailing (without_leading t) ++ 10 ∷ text_of_lines (texts_of (take (length lines) more.again))) a.text ∙ ap (λ (t : List ℕ). t ++ 10 ∷ text_of_lines (texts_of (take (length lines) more.again))) (trimmed_once l.text) ∙ ap (λ (t : List ℕ). without_trailing (without_leading l.text) ++ 10 ∷ t) more.text;
+      cut = subst (λ (split : List (List ℕ)). AreLines n split (a.line ∷ more.again))
+          (sym (plain_first (without_trailing (without_leading l.text)) (text_of_lines (texts_of lines)) plain))
+          (inr (a.line, more.again, refl, a.is, a.filled, more.cut));
+      same = ap (λ (q : List Letter). q ++ letters_of_lines more.again) letters ∙ ap (λ (q : List Letter). line_letters l ++ q) more.same
+          ∙ sym (append_assoc (line_letters l) (letters_of_lines lines) (file_end ∷ []));
+      text = ap (λ (t : List ℕ). without_trailing (without_leading t) ++ 10 ∷ text_of_lines (texts_of (take (length lines) more.again)))
+          a.text ∙ ap (λ (t : List ℕ). t ++ 10 ∷ text_of_lines (texts_of (take (length lines) more.again))) (trimmed_once l.text)
+          ∙ ap (λ (t : List ℕ). without_trailing (without_leading l.text) ++ 10 ∷ t) more.text;
     }

@@ -49,7 +49,8 @@ number_prefix b bytes e = by_run (run_there is_ascii_digit (b ∷ bytes))
       | inr h ↦ inr (codes.Number, (e, (r.0, (r.1, rw v.1 h))))
     ]
 
-other_prefix : (b : ℕ) (bytes : List ℕ) → is_ascii_alphabetic b ≡ false → is_ascii_digit b ≡ false → is_space b ≡ false → (o : Option Symbol) → symbol_of (b ∷ bytes) ≡ o → Prefix (b ∷ bytes)
+other_prefix : (b : ℕ) (bytes : List ℕ) → is_ascii_alphabetic b ≡ false → is_ascii_digit b ≡ false → is_space b ≡ false
+    → (o : Option Symbol) → symbol_of (b ∷ bytes) ≡ o → Prefix (b ∷ bytes)
 other_prefix b bytes l d s (Some x) e = inl (kinds.Symbol x, length (symbol_text x), (e, refl))
 other_prefix b bytes l d s None e = inr (codes.Byte, (l, d, s, e))
 
@@ -82,7 +83,8 @@ wrong_there at bytes g c run wrong = (
   },
 )
 
-token_there : (at : ℕ) (bytes : List ℕ) (g : ℕ) (k : TokenKind) (n : ℕ) → IsLongestRun is_space bytes g → IsTokenPrefix k n (drop g bytes) → AreThere (at + g + n) (drop n (drop g bytes)) → AreThere at bytes
+token_there : (at : ℕ) (bytes : List ℕ) (g : ℕ) (k : TokenKind) (n : ℕ) → IsLongestRun is_space bytes g → IsTokenPrefix k n (drop g bytes)
+    → AreThere (at + g + n) (drop n (drop g bytes)) → AreThere at bytes
 token_there at bytes g k n run shape more =
     let t : Token = record { kind = k; start = at + g; end = at + g + n } in
     (t ∷ more.0, more.1, (drop n (drop g bytes), cut_made at g n bytes t run shape refl refl, more.2))
@@ -95,7 +97,8 @@ tokens_step at bytes more = by_run (run_there is_space bytes)
     by_list g run (b ∷ body) e s = elim (prefix_there b body s) [
       | inl f ↦
           let shape : IsTokenPrefix f.0 f.1 (drop g bytes) = subst (λ (t : List ℕ). IsTokenPrefix f.0 f.1 t) (sym e) f.2 in
-          token_there at bytes g f.0 f.1 run shape (more (at + g + f.1) (drop f.1 (drop g bytes)) (omega (arith, length-drop g bytes, length-drop f.1 (drop g bytes), ap length e, shape_some f.0 f.1 (drop g bytes) shape)))
+          token_there at bytes g f.0 f.1 run shape (more (at + g + f.1) (drop f.1 (drop g bytes))
+          (omega (arith, length-drop g bytes, length-drop f.1 (drop g bytes), ap length e, shape_some f.0 f.1 (drop g bytes) shape)))
       | inr f ↦ wrong_there at bytes g f.0 run (subst (λ (t : List ℕ). IsWrong f.0 t) (sym e) f.1)
     ]
 

@@ -95,20 +95,25 @@ letter_by kinds.Word text = Word text
 letter_by (kinds.Number n) text = Number n
 letter_by (kinds.Symbol s) text = Sym s
 
-letter_is : (k : TokenKind) (line : List ℕ) (start end : ℕ) (text : List ℕ) → take (end - start) (drop start line) ≡ text → letter_of line start end k ≡ letter_by k text
+letter_is : (k : TokenKind) (line : List ℕ) (start end : ℕ) (text : List ℕ) → take (end - start) (drop start line) ≡ text
+    → letter_of line start end k ≡ letter_by k text
 unfolding letter_by
 letter_is kinds.Word line start end text e = ap Word e
 letter_is (kinds.Number n) line start end text e = refl
 letter_is (kinds.Symbol s) line start end text e = refl
 
 -- the letter of a token that is cut off what stands after `prefix`
-cut_letter : (line prefix : List ℕ) (at : ℕ) (bytes : List ℕ) (t : Token) (rest : List ℕ) → line ≡ prefix ++ bytes → length prefix ≡ at → (c : Cut at bytes t rest) → letter_of line t.start t.end t.kind ≡ letter_by t.kind c.text
+cut_letter : (line prefix : List ℕ) (at : ℕ) (bytes : List ℕ) (t : Token) (rest : List ℕ) → line ≡ prefix ++ bytes → length prefix ≡ at
+    → (c : Cut at bytes t rest) → letter_of line t.start t.end t.kind ≡ letter_by t.kind c.text
 cut_letter line prefix at bytes t rest e n c =
-    let whole : line ≡ (prefix ++ c.gap) ++ (c.text ++ rest) = e ∙ ap (λ (b : List ℕ). prefix ++ b) c.whole ∙ sym (append_assoc prefix c.gap (c.text ++ rest)) in
+    let whole : line ≡ (prefix ++ c.gap) ++ (c.text ++ rest) = e ∙ ap (λ (b : List ℕ). prefix ++ b) c.whole
+    ∙ sym (append_assoc prefix c.gap (c.text ++ rest)) in
     let start : length (prefix ++ c.gap) ≡ t.start = omega (arith, length-append prefix c.gap, n, c.start) in
     let len : length c.text ≡ t.end - t.start = omega (arith, c.end) in
     letter_is t.kind line t.start t.end c.text
-    (ap (λ (b : List ℕ). take (t.end - t.start) (drop t.start b)) whole ∙ ap (take (t.end - t.start)) (drop_at (prefix ++ c.gap) (c.text ++ rest) t.start start) ∙ take_at c.text rest (t.end - t.start) len)
+    (ap (λ (b : List ℕ). take (t.end - t.start) (drop t.start b)) whole
+    ∙ ap (take (t.end - t.start)) (drop_at (prefix ++ c.gap) (c.text ++ rest) t.start start)
+    ∙ take_at c.text rest (t.end - t.start) len)
 
 -- ---- other places
 
@@ -119,15 +124,19 @@ record Moved (at : ℕ) (bytes : List ℕ) (line : List ℕ) (ts : List Token) :
   same : (text prefix : List ℕ) → text ≡ prefix ++ bytes → length prefix ≡ at → letters_until text tokens End ≡ letters_until line ts End
   filled : IsFilled ts None → IsFilled tokens None
 
-cut_trimmed : (at to : ℕ) (bytes : List ℕ) (t : Token) (rest : List ℕ) (c : Cut at bytes t rest) → Cut to (without_trailing bytes) (record { kind = t.kind; start = to + length c.gap; end = to + length c.gap + length c.text }) (without_trailing rest)
+cut_trimmed : (at to : ℕ) (bytes : List ℕ) (t : Token) (rest : List ℕ) (c : Cut at bytes t rest)
+    → Cut to (without_trailing bytes) (record { kind = t.kind; start = to + length c.gap; end = to + length c.gap + length c.text })
+    (without_trailing rest)
 cut_trimmed at to bytes t rest c =
     let some = text_bytes t.kind c.text c.spelled in
     let kept : without_trailing (c.text ++ rest) ≡ c.text ++ without_trailing rest = solid_kept c.text rest (text_solid t.kind c.text c.spelled) in
-    let first : without_trailing (c.text ++ rest) ≡ some.0 ∷ (some.1 ++ without_trailing rest) = kept ∙ ap (λ (b : List ℕ). b ++ without_trailing rest) some.2 in
+    let first : without_trailing (c.text ++ rest) ≡ some.0 ∷ (some.1 ++ without_trailing rest) = kept
+    ∙ ap (λ (b : List ℕ). b ++ without_trailing rest) some.2 in
     record {
       gap = c.gap;
       text = c.text;
-      whole = ap without_trailing c.whole ∙ some_kept c.gap (c.text ++ rest) some.0 (some.1 ++ without_trailing rest) first ∙ ap (λ (b : List ℕ). c.gap ++ b) kept;
+      whole = ap without_trailing c.whole ∙ some_kept c.gap (c.text ++ rest) some.0 (some.1 ++ without_trailing rest) first
+          ∙ ap (λ (b : List ℕ). c.gap ++ b) kept;
       blank = c.blank;
       spelled = c.spelled;
       ends = ends_trimmed t.kind rest c.ends;
@@ -135,9 +144,16 @@ cut_trimmed at to bytes t rest c =
       end = refl;
     }
 
-move_tokens : (line prefix bytes : List ℕ) (at to : ℕ) (ts : List Token) → line ≡ prefix ++ bytes → length prefix ≡ at → SpellsUntil at bytes ts None → Moved to (without_trailing bytes) line ts
+move_tokens : (line prefix bytes : List ℕ) (at to : ℕ) (ts : List Token) → line ≡ prefix ++ bytes → length prefix ≡ at
+    → SpellsUntil at bytes ts None → Moved to (without_trailing bytes) line ts
 unfolding cut_trimmed
-move_tokens line prefix bytes at to [] e n h = record { tokens = []; spelled = subst (AreAll is_space) (sym (trailing_blank bytes h)) tt; same = λ text prefix whole len. refl; filled = λ f. f }
+move_tokens line prefix bytes at to [] e n h = record {
+  tokens = [];
+  spelled = subst (AreAll is_space)
+      (sym (trailing_blank bytes h)) tt;
+  same = λ text prefix whole len. refl;
+  filled = λ f. f;
+}
 move_tokens line prefix bytes at to (t ∷ ts) e n h =
     let rest = h.0 in
     let c = h.1 in
@@ -148,13 +164,18 @@ move_tokens line prefix bytes at to (t ∷ ts) e n h =
     λ prefix bytes rest e. ap (λ (b : List ℕ). prefix ++ b) (e ∙ sym (append_assoc c.gap c.text rest)) ∙ sym (append_assoc prefix (c.gap ++ c.text) rest) in
     let len : (prefix : List ℕ) → length (prefix ++ (c.gap ++ c.text)) ≡ length prefix + (length c.gap + length c.text) =
     λ prefix. length-append prefix (c.gap ++ c.text) ∙ ap (λ (i : ℕ). length prefix + i) (length-append c.gap c.text) in
-    let more : Moved end (without_trailing rest) line ts = move_tokens line (prefix ++ (c.gap ++ c.text)) rest t.end end ts (e ∙ whole prefix bytes rest c.whole) (omega (arith, len prefix, n, c.start, c.end)) h.2 in
+    let more : Moved end (without_trailing rest) line ts = move_tokens line (prefix ++ (c.gap ++ c.text)) rest t.end end ts
+    (e ∙ whole prefix bytes rest c.whole) (omega (arith, len prefix, n, c.start, c.end)) h.2 in
     record {
       tokens = record { kind = t.kind; start = start; end = end } ∷ more.tokens;
       spelled = (without_trailing rest, cut, more.spelled);
       same = λ text before is long.
-          ap (λ (l : Letter). l ∷ letters_until text more.tokens End) (cut_letter text before to (without_trailing bytes) (record { kind = t.kind; start = start; end = end }) (without_trailing rest) is long cut ∙ sym (cut_letter line prefix at bytes t rest e n c))
-          ∙ ap (λ (ls : List Letter). letter_of line t.start t.end t.kind ∷ ls) (more.same text (before ++ (c.gap ++ c.text)) (is ∙ whole before (without_trailing bytes) (without_trailing rest) cut.whole) (omega (arith, len before, long)));
+          ap (λ (l : Letter). l ∷ letters_until text more.tokens End) (cut_letter text before to (without_trailing bytes)
+          (record { kind = t.kind; start = start; end = end }) (without_trailing rest) is long cut
+          ∙ sym (cut_letter line prefix at bytes t rest e n c))
+          ∙ ap (λ (ls : List Letter). letter_of line t.start t.end t.kind ∷ ls)
+          (more.same text (before ++ (c.gap ++ c.text)) (is ∙ whole before (without_trailing bytes) (without_trailing rest) cut.whole)
+          (omega (arith, len before, long)));
       filled = λ f. tt;
     }
 
@@ -183,7 +204,17 @@ from_first text (t ∷ ts) h f =
     let solid : AreSolid (some.0 ∷ some.1) = subst AreSolid some.2 (text_solid t.kind c.text c.spelled) in
     let stops : Stops is_space (c.text ++ h.0) = subst (λ (b : List ℕ). Stops is_space (b ++ h.0)) (sym some.2) solid.0 in
     let after : without_leading text ≡ c.text ++ h.0 = ap without_leading c.whole ∙ leading_after c.gap (c.text ++ h.0) c.blank stops in
-    let cut : Cut (length c.gap) (without_leading text) t h.0 = record { gap = []; text = c.text; whole = after; blank = tt; spelled = c.spelled; ends = c.ends; start = omega (arith, c.start); end = c.end } in
+    let cut : Cut (length c.gap) (without_leading text) t h.0 = record {
+      gap = [];
+      text = c.text;
+      whole = after;
+      blank = tt;
+      spelled
+          = c.spelled;
+      ends = c.ends;
+      start = omega (arith, c.start);
+      end = c.end;
+    } in
     move_tokens text c.gap (without_leading text) (length c.gap) 0 (t ∷ ts) (c.whole ∙ ap (λ (b : List ℕ). c.gap ++ b) (sym after)) refl (h.0, cut, h.2)
 
 pub reads_again : (n : ℕ) (l : LineView) → IsWhole l → ReadsAgain n l
@@ -191,7 +222,12 @@ reads_again n l h =
     let m = from_first l.text l.tokens h.spelled h.filled in
     record {
       line = record { number = n; text = without_trailing (without_leading l.text); tokens = m.tokens; misspelling = None };
-      is = record { number = refl; text = sym (plain_same (without_trailing (without_leading l.text)) (spelled_plain 0 (without_trailing (without_leading l.text)) m.tokens m.spelled)); spelled = m.spelled };
+      is = record {
+        number = refl;
+        text = sym (plain_same (without_trailing (without_leading l.text))
+            (spelled_plain 0 (without_trailing (without_leading l.text)) m.tokens m.spelled));
+        spelled = m.spelled;
+      };
       spelled = m.spelled;
       filled = m.filled h.filled;
       text = refl;

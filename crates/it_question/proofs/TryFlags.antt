@@ -28,4 +28,5 @@ pub no_more_tries : (auxiliaries : ℕ) (ts : List (List ℕ)) → ¬ (auxiliari
 no_more_tries auxiliaries ts h le = let e : most_lines - length ts ≡ 0 = omega (arith, le) in rw (some_auxiliary auxiliaries h, e) refl
 
 pub try_allowed : (auxiliaries : ℕ) (ts : List (List ℕ)) → ¬ (auxiliaries ≡ 0) → ¬ (64 ≤ length ts) → flag_of_try auxiliaries ts ≡ None
-try_allowed auxiliaries ts h le = ap (λ (b : Bool). if b then Some Word else limit_flag (most_lines - length ts)) (some_auxiliary auxiliaries h) ∙ no_limit (most_lines - length ts) (λ e. le (omega (arith, e)))
+try_allowed auxiliaries ts h le = ap (λ (b : Bool). if b then Some Word else limit_flag (most_lines - length ts))
+    (some_auxiliary auxiliaries h) ∙ no_limit (most_lines - length ts) (λ e. le (omega (arith, e)))

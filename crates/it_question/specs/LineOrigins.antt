@@ -1,6 +1,6 @@
 -- Where the demands of a question's lines come from.
 use Rattle.std.specs.Prelude.{ℕ, List, ◌++◌}
-use Rattle.it_space.specs.declared.problems.Origin.{Origin}
+use Rattle.it_problems.specs.declared.problems.Origin.{Origin}
 use Rattle.it_demand.specs.Origins.{given_origins, row_origins}
 use Rattle.it_question.specs.Questions.{OwnLinesView}
 

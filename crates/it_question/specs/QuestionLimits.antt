@@ -1,24 +1,20 @@
--- The most questions, names and lines.
-use Rattle.std.specs.Prelude.{ℕ}
-use Rattle.std.specs.Prelude.{◌-◌, min, length}
+-- The most bytes, questions, auxiliaries and lines. Of variables and rates it is the most of a space.
+use Rattle.std.specs.Prelude.{ℕ, ◌-◌, min, length}
+use Rattle.it_space.specs.Spaces.{most_variables}
 use Rattle.it_syntax.specs.NamesViews.{NamesView}
 use Rattle.it_question.specs.Questions.{OwnLinesView}
+
+-- the most bytes of a file
+abbrev pub most_file_bytes : ℕ
+most_file_bytes = 1048576
 
 -- the most questions of a file
 abbrev pub most_questions : ℕ
 most_questions = 1000
 
--- the most variables of a question, or of a region together with its auxiliaries
-abbrev pub most_variables : ℕ
-most_variables = 10
-
 -- the most auxiliaries of a region
 abbrev pub most_auxiliaries : ℕ
 most_auxiliaries = 4
-
--- the most rates of a question
-abbrev pub most_rates : ℕ
-most_rates = 16
 
 -- the most lines of a question of each kind: `given`, `row` and `try`
 abbrev pub most_lines : ℕ

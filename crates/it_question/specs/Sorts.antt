@@ -4,7 +4,7 @@ use Rattle.it_syntax.specs.NamesViews.{NamesView}
 use Rattle.it_question.specs.declared.sorts.NameSort.{NameSort}
 use Rattle.it_question.specs.declared.sorts.NameSort.TheVariants as sorts
 use Rattle.it_question.specs.NewNames.{NameSortView, Variable, Rate}
-use Rattle.it_question.specs.QuestionLimits.{most_rates, most_variables}
+use Rattle.it_space.specs.Spaces.{most_rates, most_variables}
 
 -- what contracts see of a sort of names
 abbrev pub name_sort_view : NameSort → NameSortView

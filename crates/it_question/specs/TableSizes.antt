@@ -2,9 +2,9 @@
 -- verb whose question's table is too large.
 use Rattle.std.specs.Prelude.{ℕ, ◌≤◌, nat_lt, length, map, zip, Option, Some, None, if◌then◌else◌}
 use Rattle.it_space.specs.declared.spaces.Space.{Space}
-use Rattle.it_space.specs.declared.problems.Constraint.{Constraint}
-use Rattle.it_space.specs.declared.problems.Origin.{Origin}
-use Rattle.it_space.specs.Problems.{ProblemView}
+use Rattle.it_problems.specs.declared.problems.Constraint.{Constraint}
+use Rattle.it_problems.specs.declared.problems.Origin.{Origin}
+use Rattle.it_problems.specs.Problems.{ProblemView}
 use Rattle.it_space.specs.Spaces.{size_of}
 use Rattle.it_closure.specs.Sizes.{table_size}
 use Rattle.it_forms.specs.declared.types.Code.{Code}

@@ -3,12 +3,12 @@ ghost use Rattle.std.specs.Prelude.{◌≡◌, ◌≤◌, ◌+◌, ◌-◌, leng
 ghost use Rattle.it_forms.specs.FormReading.{read};
 ghost use Rattle.it_question.specs.Cursors.{Parses, ParsesBy};
 ghost use Rattle.it_question.specs.Questions.{own_lines_view, verb_view, region_view};
-ghost use Rattle.it_space.specs.Spaces.{IsSpace};
+ghost use Rattle.it_space.specs.Spaces.{IsSpace, most_variables};
 ghost use Rattle.it_demand.specs.QuestionSpaces.{space_of};
 ghost use Rattle.it_question.specs.Limits.{AreLinesOver, IsRegionOf};
 ghost use Rattle.it_question.specs.QuestionForms as forms;
 ghost use Rattle.it_question.specs.NewNames.{Variable};
-ghost use Rattle.it_question.specs.QuestionLimits.{most_lines, most_variables};
+ghost use Rattle.it_question.specs.QuestionLimits.{most_lines};
 ghost use Rattle.it_question.specs.ReaderSteps.{contain_line, most_of_region};
 
 use crate::cursor::Cursor;

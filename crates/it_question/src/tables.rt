@@ -1,6 +1,6 @@
 //! The constraints of a question's lines, and whether the table of the problem that they pose is too large.
 ghost use Rattle.std.specs.Prelude.{◌≡◌, ◌+◌, ◌≤◌, nat_lt, length, All, IfOk, IfErr};
-ghost use Rattle.it_space.specs.Problems.{IsProblem};
+ghost use Rattle.it_problems.specs.Problems.{IsProblem};
 ghost use Rattle.it_space.specs.Spaces.{IsSpace};
 ghost use Rattle.it_closure.specs.Sizes.{table_size};
 ghost use Rattle.it_syntax.specs.declared.rest.Stop.TheVariants.{Memory};
@@ -19,7 +19,8 @@ ghost use Rattle.it_question.specs.TableSizes.{most_entries, size_flag};
 use crate::types::{OwnLines, Region};
 use it_closure::size;
 use it_demand::{given_constraints, row_constraints};
-use it_space::{Constraint, Problem, Space};
+use it_problems::{Constraint, Problem};
+use it_space::Space;
 use it_syntax::Names;
 use it_syntax::rest::Stop;
 use std::alloc::{AllocError, Global};

@@ -8,7 +8,8 @@ use crate::rows::InverseRow;
 use crate::running::{End, State};
 use it_closure::Dependences;
 use it_elemental::{Elemental, count, parts};
-use it_space::{Constraint, Kind, Problem, Row, VarSet};
+use it_problems::{Constraint, Kind, Problem};
+use it_space::{Row, VarSet};
 use std::alloc::{AllocError, Global};
 
 /// The cost of the column of a constraint, and the number of which the costs of inequalities are multiples, both up to a few bits.

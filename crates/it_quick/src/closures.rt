@@ -6,15 +6,17 @@
 //! set has the value of its closure, and the rows have the same values there. So a variable that no line names, a time-sharing
 //! variable, and variables that only occur together add no columns.
 ghost use Rattle.std.specs.Prelude.{◌≤◌};
+ghost use Rattle.it_space.specs.Spaces.{most_variables};
 
 use crate::numbers::at;
 use it_closure::Dependences;
-use it_space::{Problem, Row, VarSet};
+use it_problems::Problem;
+use it_space::{Row, VarSet};
 use std::alloc::{AllocError, Global};
 
 /// The set of the first `n` variables.
 fn first_variables(n: u8) -> VarSet
-    requires { n ≤ 10 }
+    requires { n ≤ most_variables }
 {
     VarSet::from_number((1u16 << n) - 1)
 }

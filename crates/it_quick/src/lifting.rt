@@ -4,6 +4,7 @@
 //! The excess that is left at a set is then moved to its closure by the dependences.
 ghost use Rattle.std.specs.Prelude.{◌≡◌, ◌<◌, ◌≤◌, ◌^◌, bit_and};
 ghost use Rattle.std.specs.Bool.{OnTrue};
+ghost use Rattle.it_space.specs.Spaces.{most_variables};
 
 use crate::closed::ClosedProgram;
 use crate::closures::{Closures, with, without};
@@ -15,13 +16,14 @@ use it_elemental::{
     Elemental, count, expand_conditional, expand_mutual, generator_count, parts, row,
 };
 use it_fraction::Wide;
-use it_space::{Certificate, Problem, Row, RowFault, VarSet, with_product};
+use it_problems::Problem;
+use it_space::{Certificate, Row, RowFault, VarSet, with_product};
 use it_vectors::{common_divisor, short_product};
 use std::alloc::{AllocError, Global};
 
 /// Whether `set` is a set of the first `n` variables.
 fn is_below(n: u8, set: VarSet) -> bool
-    requires { n ≤ 10 }
+    requires { n ≤ most_variables }
     ensures { OnTrue result (set < 2 ^ n) }
 {
     set.number() < 1u16 << n
@@ -37,7 +39,7 @@ fn are_apart(a: VarSet, b: VarSet) -> bool
 /// The numbers of the inequalities that sum to I(a; b | c), if the sets are disjoint; none otherwise.
 fn mutual(alloc: Global, n: u8, a: VarSet, b: VarSet, c: VarSet) -> Result<Vec<u32>, AllocError>
     requires some { 1 ≤ n }
-    requires few { n ≤ 10 }
+    requires few { n ≤ most_variables }
 {
     if is_below(n, a) && is_below(n, b) && is_below(n, c) {
         if are_apart(a, b) && are_apart(a, c) && are_apart(b, c) {
@@ -50,7 +52,7 @@ fn mutual(alloc: Global, n: u8, a: VarSet, b: VarSet, c: VarSet) -> Result<Vec<u
 /// The numbers of the inequalities that sum to H(a | k), if the sets are disjoint; none otherwise.
 fn conditional(alloc: Global, n: u8, a: VarSet, k: VarSet) -> Result<Vec<u32>, AllocError>
     requires some { 1 ≤ n }
-    requires few { n ≤ 10 }
+    requires few { n ≤ most_variables }
 {
     if is_below(n, a) && is_below(n, k) && are_apart(a, k) {
         return expand_conditional(alloc, n, a, k);
@@ -112,7 +114,7 @@ fn add_rise(
     amount: i128,
 ) -> Result<(), RowFault>
     requires some { 1 ≤ n }
-    requires few { n ≤ 10 }
+    requires few { n ≤ most_variables }
 {
     let indexes = conditional(alloc, n, to.minus(from), from)?;
     weights.add_each(indexes.as_slice(), amount)?;
@@ -130,7 +132,7 @@ fn add_pair(
     amount: i128,
 ) -> Result<(), RowFault>
     requires some { 1 ≤ n }
-    requires few { n ≤ 10 }
+    requires few { n ≤ most_variables }
 {
     let both = a.meet(b);
     let indexes = mutual(alloc, n, a.minus(b), b.minus(a), both)?;
@@ -148,7 +150,7 @@ fn add_inequality(
     amount: i128,
 ) -> Result<(), RowFault>
     requires some { 1 ≤ n }
-    requires few { n ≤ 10 }
+    requires few { n ≤ most_variables }
 {
     match elemental {
         Elemental::Conditional { of } => {
@@ -180,7 +182,7 @@ fn add_column(
     amount: i128,
 ) -> Result<(), RowFault>
     requires some { 1 ≤ n }
-    requires few { n ≤ 10 }
+    requires few { n ≤ most_variables }
 {
     match closed.program.inequalities.get(column) {
         Some(inequality) => {
@@ -208,7 +210,7 @@ fn add_turn(
     amount: i128,
 ) -> Result<(), RowFault>
     requires some { 1 ≤ n }
-    requires few { n ≤ 10 }
+    requires few { n ≤ most_variables }
 {
     add_pair(alloc, weights, n, by.to, set, by.from, amount)?;
     let sign = if by.negated { 1 } else { -1 };
@@ -226,7 +228,7 @@ fn add_way(
     amount: i128,
 ) -> Result<(), RowFault>
     requires some { 1 ≤ n }
-    requires few { n ≤ 10 }
+    requires few { n ≤ most_variables }
 {
     let mut all = set;
     // each round adds a variable

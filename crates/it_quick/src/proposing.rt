@@ -12,7 +12,8 @@ use crate::numbers::number_at;
 use crate::places::Places;
 use crate::running::{ColumnWeight, End};
 use it_closure::Dependences;
-use it_space::{Certificate, Point, Problem, Row, RowFault, Space};
+use it_problems::Problem;
+use it_space::{Certificate, Point, Row, RowFault, Space};
 use std::alloc::{AllocError, Global};
 
 /// A proposal about a target. It may be wrong.

@@ -1,7 +1,7 @@
 -- The problem that all lines of a question pose, and where it is met.
 use Rattle.std.proofs.Common.{◌≡◌, ◌≤◌, ℕ, ℤ, List, length, Some, refl, sym, subst, arith}
 use Rattle.it_space.specs.declared.spaces.Space.{Space}
-use Rattle.it_space.specs.Problems.{ProblemView}
+use Rattle.it_problems.specs.Problems.{ProblemView}
 use Rattle.it_polymatroid.specs.Polymatroid.{IsPolymatroid}
 use Rattle.it_question.specs.Limits.{AreRatesOf, IsQuestion, IsVerbOver}
 use Rattle.it_question.specs.Questions.{BodyView, VerbView, Prove, Eliminate, Contain}
@@ -22,7 +22,14 @@ all_lines_question q k = record {
   few = k.few;
   few_rates = k.few_rates;
   lines = k.lines;
-  verb = record { few = omega arith; left = λ i d h. absurd (omega (arith, h)); right = λ i d h. absurd (omega (arith, h)); some_multiple = omega arith; small_multiple = omega arith };
+  verb = record {
+    few = omega arith;
+    left = λ i d h. absurd (omega (arith, h));
+    right = λ i d h. absurd
+        (omega (arith, h));
+    some_multiple = omega arith;
+    small_multiple = omega arith;
+  };
 }
 
 -- the rates that a question eliminates are among its own, and at least one
@@ -48,7 +55,9 @@ some_rates q k some = by_verb q.verb refl some
     by_verb (Contain first second tries) e l = absurd (omega (arith, l))
 
 -- constraints that state what all lines demand are the problem that these pose
-pub posed_by_lines : (q : BodyView) (p : ProblemView) → IsQuestion q → p.space ≡ space_of q.names → AreStated p.space (line_origins p.space.variables q.lines) (line_demands p.space.variables q.lines) p.constraints → IsProblemOf (under_all_lines q) p
+pub posed_by_lines : (q : BodyView) (p : ProblemView) → IsQuestion q → p.space ≡ space_of q.names
+    → AreStated p.space (line_origins p.space.variables q.lines) (line_demands p.space.variables q.lines) p.constraints
+    → IsProblemOf (under_all_lines q) p
 posed_by_lines q p k same stated =
     let own : AreStated p.space (question_origins (under_all_lines q)) (question_demands (under_all_lines q)) p.constraints =
     subst (λ (s : Space). AreStated p.space (line_origins s.variables q.lines) (line_demands s.variables q.lines) p.constraints) same stated in
@@ -63,11 +72,13 @@ module _ (q : BodyView) (p : ProblemView) (posed : IsProblemOf (under_all_lines 
   pub meets_true : (x : ℕ → ℤ) → MeetsProblem p x → AreTrueTogether (under_all_lines q) x
   meets_true x m = (
     at_question (λ s. IsPolymatroid s.variables x) m.0,
-    at_question (λ s. AreTrueAt s.variables x q.lines) ((question_met (under_all_lines q) p.space p.constraints posed.space posed.constraints x m.0.empty).0 m.1),
+    at_question (λ s. AreTrueAt s.variables x q.lines)
+        ((question_met (under_all_lines q) p.space p.constraints posed.space posed.constraints x m.0.empty).0 m.1),
   )
 
   pub true_meets : (x : ℕ → ℤ) → AreTrueTogether (under_all_lines q) x → MeetsProblem p x
   true_meets x t = (
     subst (λ (s : Space). IsPolymatroid s.variables x) (sym posed.space) t.0,
-    (question_met (under_all_lines q) p.space p.constraints posed.space posed.constraints x t.0.empty).1 (subst (λ (s : Space). AreTrueAt s.variables x q.lines) (sym posed.space) t.1),
+    (question_met (under_all_lines q) p.space p.constraints posed.space posed.constraints x t.0.empty).1
+        (subst (λ (s : Space). AreTrueAt s.variables x q.lines) (sym posed.space) t.1),
   )

@@ -20,7 +20,8 @@ pub hull_is_exact : HullIsExact
 hull_is_exact q p gone rows rays posed hull hold attained =
     let kept = kept_rates q gone in
     let projection = hull_is_projection p kept rows rays hull hold
-    (All-weaker (IsTrueRay q) (λ (values : List ℤ). IsAttained kept (MeetsProblem p) (point_of values)) (λ values r. ray_attained values r) rays attained) in record {
+    (All-weaker (IsTrueRay q) (λ (values : List ℤ). IsAttained kept (MeetsProblem p) (point_of values))
+    (λ values r. ray_attained values r) rays attained) in record {
       over = hull.over;
       exact = λ x. (
         λ h. attained_same kept (MeetsProblem p) (AreTrueTogether (under_all_lines q)) x (meets_true q p posed) ((projection x).0 h),
@@ -31,4 +32,11 @@ hull_is_exact q p gone rows rays posed hull hold attained =
     }
   where
     ray_attained : (values : List ℤ) → IsTrueRay q values → IsAttained (kept_rates q gone) (MeetsProblem p) (point_of values)
-    ray_attained values r = record { factor = 1; some = omega arith; point = point_of values; same = λ c m. omega (arith, ints); holds = true_meets q p posed (point_of values) r.lines_true }
+    ray_attained values r = record {
+      factor = 1;
+      some = omega arith;
+      point = point_of values;
+      same = λ c m. omega (arith, ints);
+      holds
+          = true_meets q p posed (point_of values) r.lines_true;
+    }

@@ -5,9 +5,9 @@ ghost use Rattle.it_question.specs.Questions.{question_body, verb_view};
 ghost use Rattle.it_canon.specs.QuestionDemands.{IsProblemOf};
 ghost use Rattle.it_rates.specs.Asked.{gone_rates, under_all_lines};
 
+use it_problems::Problem;
 use it_question::line_constraints;
 use it_question::types::{Question, Verb};
-use it_space::Problem;
 use std::alloc::{AllocError, Global};
 
 /// The rates that a verb eliminates; none where it asks for something else.

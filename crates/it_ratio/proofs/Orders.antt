@@ -37,8 +37,10 @@ none_at_zero a b e f z one some h = no_sum (a *ℤ e) (b *ℤ f) (ap (λ y. a *�
 gap : (x y : ℤ) → x ≤ℤ y → pos 0 ≤ℤ (y -ℤ x)
 gap x y h = omega (arith, ints, h)
 
-smaller_sum : (num den a b e f : ℤ) → pos 0 ≤ℤ (b *ℤ (num *ℤ e -ℤ den *ℤ f)) → pos 0 ≤ℤ ((num *ℤ b -ℤ a *ℤ den) *ℤ neg_ℤ e) → pos 0 ≤ℤ (den *ℤ (a *ℤ e -ℤ b *ℤ f))
-smaller_sum num den a b e f h k = subst (λ (x : ℤ). pos 0 ≤ℤ x) (sym (times_difference den (a *ℤ e) (b *ℤ f) ∙ ap₂ (λ x y. x -ℤ y) (first_out den a e) (first_out den b f)))
+smaller_sum : (num den a b e f : ℤ) → pos 0 ≤ℤ (b *ℤ (num *ℤ e -ℤ den *ℤ f)) → pos 0 ≤ℤ ((num *ℤ b -ℤ a *ℤ den) *ℤ neg_ℤ e)
+    → pos 0 ≤ℤ (den *ℤ (a *ℤ e -ℤ b *ℤ f))
+smaller_sum num den a b e f h k = subst (λ (x : ℤ). pos 0 ≤ℤ x) (sym
+    (times_difference den (a *ℤ e) (b *ℤ f) ∙ ap₂ (λ x y. x -ℤ y) (first_out den a e) (first_out den b f)))
     (both_at_least (a *ℤ (den *ℤ e)) (num *ℤ (b *ℤ e)) (b *ℤ (den *ℤ f))
     (subst (λ (x : ℤ). pos 0 ≤ℤ x) (times_difference b (num *ℤ e) (den *ℤ f) ∙ ap (λ x. x -ℤ b *ℤ (den *ℤ f)) (first_out b num e)) h)
     (subst (λ (x : ℤ). pos 0 ≤ℤ x) (difference_times (num *ℤ b) (a *ℤ den) e ∙ ap₂ (λ x y. x -ℤ y) (mul_assoc a den e) (mul_assoc num b e)) k))
@@ -56,7 +58,8 @@ smaller_sum num den a b e f h k = subst (λ (x : ℤ). pos 0 ≤ℤ x) (sym (tim
     both_at_least x y z h k = omega (arith, ints, h, k)
 
 -- num e - den f and -e at least 0: each smaller factor a / b holds there
-pub all_smaller : (num den a b e f : ℤ) → pos 1 ≤ℤ den → pos 1 ≤ℤ b → (a *ℤ den) ≤ℤ (num *ℤ b) → pos 0 ≤ℤ (num *ℤ e -ℤ den *ℤ f) → pos 0 ≤ℤ neg_ℤ e → pos 0 ≤ℤ (a *ℤ e -ℤ b *ℤ f)
+pub all_smaller : (num den a b e f : ℤ) → pos 1 ≤ℤ den → pos 1 ≤ℤ b → (a *ℤ den) ≤ℤ (num *ℤ b) → pos 0 ≤ℤ (num *ℤ e -ℤ den *ℤ f)
+    → pos 0 ≤ℤ neg_ℤ e → pos 0 ≤ℤ (a *ℤ e -ℤ b *ℤ f)
 all_smaller num den a b e f from_one one smaller holds most =
     least_by_multiple den (a *ℤ e -ℤ b *ℤ f) (above den from_one)
     (smaller_sum num den a b e f (product_least b (num *ℤ e -ℤ den *ℤ f) (least b one) holds)

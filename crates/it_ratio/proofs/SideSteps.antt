@@ -28,20 +28,27 @@ pub record IsUnderWay (size : ℕ) (num den : ℤ) (left right : Terms) (c : ℕ
   pub fits : (d : ℕ) → 1 ≤ d → d < c → NumberFits num den left right d
 
 -- two products that fit, and their difference: a number, as its parts are formed
-pub number_ok : {E : Type 0} (r : Result ℤ E) (num den : ℤ) (left right : Terms) (c : ℕ) (above below : ℤ) → IsWithin (num *ℤ coefficient left c) → above ≡ num *ℤ coefficient left c
+pub number_ok : {E : Type 0} (r : Result ℤ E) (num den : ℤ) (left right : Terms) (c : ℕ) (above below : ℤ)
+    → IsWithin (num *ℤ coefficient left c) → above ≡ num *ℤ coefficient left c
     → IsWithin (den *ℤ coefficient right c) → below ≡ den *ℤ coefficient right c → OkIff r (IsWithin (above -ℤ below)) (above -ℤ below)
     → OkIff r (NumberFits num den left right c) (side_number num den left right c)
-number_ok r num den left right c above below f e g d k = OkIff-same r (IsWithin (above -ℤ below)) (NumberFits num den left right c) (above -ℤ below) (side_number num den left right c)
-    ((λ w. record { left_times = f; right_times = g; difference = subst₂ (λ (m n : ℤ). IsWithin (m -ℤ n)) e d w }), λ w. subst₂ (λ (m n : ℤ). IsWithin (m -ℤ n)) (sym e) (sym d) w.difference)
+number_ok r num den left right c above below f e g d k = OkIff-same r (IsWithin (above -ℤ below)) (NumberFits num den left right c)
+    (above -ℤ below) (side_number num den left right c) (
+      (λ w. record { left_times = f; right_times = g; difference = subst₂ (λ (m n : ℤ). IsWithin (m -ℤ n)) e d w }),
+      λ w. subst₂
+          (λ (m n : ℤ). IsWithin (m -ℤ n)) (sym e) (sym d) w.difference,
+    )
     (ap₂ (λ m n. m -ℤ n) e d) k
 
 -- over all coordinates
 pub row_over : (size : ℕ) (num den : ℤ) (left right : Terms) → IsOver size (side_row size num den left right)
 unfolding side_row
-row_over size num den left right = terms_up_to size 1 (map (side_number num den left right) (span 1 size)) (omega arith) (omega (arith, length-map (span 1 size) (side_number num den left right), length-span 1 size))
+row_over size num den left right = terms_up_to size 1 (map (side_number num den left right) (span 1 size)) (omega arith)
+    (omega (arith, length-map (span 1 size) (side_number num den left right), length-span 1 size))
 
 -- its coefficients
-pub number_at : (size : ℕ) (num den : ℤ) (left right : Terms) (c : ℕ) → 1 ≤ c → c ≤ size → coefficient (side_row size num den left right) c ≡ side_number num den left right c
+pub number_at : (size : ℕ) (num den : ℤ) (left right : Terms) (c : ℕ) → 1 ≤ c → c ≤ size
+    → coefficient (side_row size num den left right) c ≡ side_number num den left right c
 unfolding side_row
 number_at size num den left right c h l =
     ap (coefficient (terms_from 1 (map (side_number num den left right) (span 1 size)))) (sym (from_one c h))
@@ -54,11 +61,18 @@ number_at size num den left right c h l =
 
 module _ (size : ℕ) (num den : ℤ) (left right : Terms) where
   decides_formed : (c : ℕ) → Decides (is_formed num den left right c) (NumberFits num den left right c)
-  decides_formed c = (λ e. let f = parts.0 e in record { left_times = f.0; right_times = f.1.0; difference = f.1.1 }, λ f. parts.1 (f.left_times, (f.right_times, f.difference)))
+  decides_formed c = (
+    λ e. let f = parts.0 e in record { left_times = f.0; right_times = f.1.0; difference = f.1.1 },
+    λ f. parts.1
+        (f.left_times, (f.right_times, f.difference)),
+  )
     where
-      parts : Decides (is_formed num den left right c) (IsWithin (num *ℤ coefficient left c) × (IsWithin (den *ℤ coefficient right c) × IsWithin (side_number num den left right c)))
-      parts = Decides-and (is_within (num *ℤ coefficient left c)) (is_within (den *ℤ coefficient right c) && is_within (side_number num den left right c)) (decides_within (num *ℤ coefficient left c))
-          (Decides-and (is_within (den *ℤ coefficient right c)) (is_within (side_number num den left right c)) (decides_within (den *ℤ coefficient right c)) (decides_within (side_number num den left right c)))
+      parts : Decides (is_formed num den left right c) (IsWithin (num *ℤ coefficient left c)
+          × (IsWithin (den *ℤ coefficient right c) × IsWithin (side_number num den left right c)))
+      parts = Decides-and (is_within (num *ℤ coefficient left c)) (is_within (den *ℤ coefficient right c)
+          && is_within (side_number num den left right c)) (decides_within (num *ℤ coefficient left c))
+          (Decides-and (is_within (den *ℤ coefficient right c)) (is_within (side_number num den left right c))
+          (decides_within (den *ℤ coefficient right c)) (decides_within (side_number num den left right c)))
 
   pub row_start : IsUnderWay size num den left right 1 []
   unfolding side_row unformed
@@ -82,7 +96,8 @@ module _ (size : ℕ) (num den : ℤ) (left right : Terms) where
     wide_from : cond (not (is_formed num den left right c)) (Some c) (find (λ d. not (is_formed num den left right d)) rest) ≡ unformed size num den left right
     wide_from = ap (λ n. find (λ d. not (is_formed num den left right d)) (span c n)) one_more ∙ a.wide
 
-    pub row_more : (new : Terms) → new ≡ old ++ single_term c (side_number num den left right c) → NumberFits num den left right c → IsUnderWay size num den left right (c + 1) new
+    pub row_more : (new : Terms) → new ≡ old ++ single_term c (side_number num den left right c) → NumberFits num den left right c
+        → IsUnderWay size num den left right (c + 1) new
     row_more new e f = record {
       same = ap (λ ts. ts ++ terms_from (c + 1) (map (side_number num den left right) rest)) e
           ∙ append_assoc old (single_term c (side_number num den left right c)) (terms_from (c + 1) (map (side_number num den left right) rest))
@@ -100,10 +115,12 @@ module _ (size : ℕ) (num den : ℤ) (left right : Terms) where
         by_order d (inr m) k l = subst (NumberFits num den left right) (same_number d m l) f
 
     wide_here : ¬ (NumberFits num den left right c) → unformed size num den left right ≡ Some c
-    wide_here n = sym wide_from ∙ ap (λ b. cond b (Some c) (find (λ d. not (is_formed num den left right d)) rest)) ((Decides-not (is_formed num den left right c) (decides_formed c)).1 n)
+    wide_here n = sym wide_from ∙ ap (λ b. cond b (Some c) (find (λ d. not (is_formed num den left right d)) rest))
+        ((Decides-not (is_formed num den left right c) (decides_formed c)).1 n)
 
     -- if a number isn't appended, allocation failed or it is the first wide one
-    pub row_stops : (r : Result Terms RowStop) (stop : RowStop) → IsErrAnd r (λ e. e ≡ stop) → ((k : ℕ) → stop ≡ stops.Wide k → (k ≡ c) × ¬ (NumberFits num den left right c)) → RowForms size num den left right r
+    pub row_stops : (r : Result Terms RowStop) (stop : RowStop) → IsErrAnd r (λ e. e ≡ stop)
+        → ((k : ℕ) → stop ≡ stops.Wide k → (k ≡ c) × ¬ (NumberFits num den left right c)) → RowForms size num den left right r
     row_stops (Ok row) stop is why = absurd is
     row_stops (Err stops.Memory) stop is why = tt
     row_stops (Err (stops.Wide k)) stop is why =
@@ -130,7 +147,8 @@ module _ (size : ℕ) (num den : ℤ) (left right : Terms) where
     unfolding side_row
     canonical = ascends_lower 0 1 (terms_from 1 (map (side_number num den left right) (span 1 size))) (omega arith)
         (terms_ascend 1 (map (side_number num den left right) (span 1 size)) (all_of IsWithin (map (side_number num den left right) (span 1 size))
-        (every-map IsWithin (side_number num den left right) (span 1 size) (every-span (λ d. IsWithin (side_number num den left right d)) 1 size (λ d k l. within_of d (a.fits d k (omega arith)))))))
+        (every-map IsWithin (side_number num den left right) (span 1 size)
+        (every-span (λ d. IsWithin (side_number num den left right d)) 1 size (λ d k l. within_of d (a.fits d k (omega arith)))))))
       where
         within_of : (d : ℕ) → NumberFits num den left right d → IsWithin (side_number num den left right d)
         within_of d f = f.difference

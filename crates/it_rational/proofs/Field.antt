@@ -28,16 +28,19 @@ least_or_negation (negsuc n) = inr (omega (arith, ints))
 
 -- a numerator of 0 is the number 0
 pub null_from : (q : Rational) → q.num ≡ pos 0 → q ≡ Q.integer (pos 0)
-null_from q e = same_across q (Q.integer (pos 0)) (ap (λ z. z *ℤ pos (Q.integer (pos 0)).den) e ∙ zero-*ℤ (pos (Q.integer (pos 0)).den) ∙ sym (zero-*ℤ (pos q.den)) ∙ ap (λ z. z *ℤ pos q.den) (sym whole_zero))
+null_from q e = same_across q (Q.integer (pos 0)) (ap (λ z. z *ℤ pos (Q.integer (pos 0)).den) e ∙ zero-*ℤ (pos (Q.integer (pos 0)).den)
+    ∙ sym (zero-*ℤ (pos q.den)) ∙ ap (λ z. z *ℤ pos q.den) (sym whole_zero))
   where
     whole_zero : (Q.integer (pos 0)).num ≡ pos 0
-    whole_zero = let n : (Q.integer (pos 0)).num *ℤ pos 1 ≡ pos 0 *ℤ pos (Q.integer (pos 0)).den = quotient_names (pos 0) 1 (omega arith) in omega (arith, ints, n)
+    whole_zero = let n : (Q.integer (pos 0)).num *ℤ pos 1 ≡ pos 0 *ℤ pos (Q.integer (pos 0)).den = quotient_names (pos 0) 1 (omega arith)
+        in omega (arith, ints, n)
 
 pub least_of : (q : Rational) → is_at_least_zero q ≡ true → IsLeast q
 least_of q h = least_by_sign q.num h
 
 pub rational_strict : (q : Rational) → is_at_least_zero q ≡ true → is_at_least_zero (Q.minus q) ≡ true → q ≡ Q.integer (pos 0)
-rational_strict q h k = null_from q (for_each q.num (Q.minus q).num q.den (Q.minus q).den q.positive (Q.minus q).positive (quotient_names (neg_ℤ q.num) q.den q.positive) (least_by_sign q.num h) (least_by_sign (Q.minus q).num k))
+rational_strict q h k = null_from q (for_each q.num (Q.minus q).num q.den (Q.minus q).den q.positive (Q.minus q).positive
+    (quotient_names (neg_ℤ q.num) q.den q.positive) (least_by_sign q.num h) (least_by_sign (Q.minus q).num k))
   where
     for_each : (a b : ℤ) (d e : ℕ) → 0 < d → 0 < e → b *ℤ pos d ≡ neg_ℤ a *ℤ pos e → pos 0 ≤ℤ a → pos 0 ≤ℤ b → a ≡ pos 0
     for_each (pos zero) b d e hd he q h k = refl
@@ -52,7 +55,8 @@ pub rational_apart : Q.integer (pos 1) ≢ Q.integer (pos 0)
 rational_apart e =
     let a : (Q.integer (pos 1)).num *ℤ pos 1 ≡ pos 1 *ℤ pos (Q.integer (pos 1)).den = quotient_names (pos 1) 1 (omega arith) in
     let b : (Q.integer (pos 0)).num *ℤ pos 1 ≡ pos 0 *ℤ pos (Q.integer (pos 0)).den = quotient_names (pos 0) 1 (omega arith) in
-    parts_differ (Q.integer (pos 1)).num (Q.integer (pos 0)).num (Q.integer (pos 1)).den (Q.integer (pos 0)).den (Q.integer (pos 1)).positive a b (ap (λ q. q.num) e)
+    parts_differ (Q.integer (pos 1)).num (Q.integer (pos 0)).num (Q.integer (pos 1)).den (Q.integer (pos 0)).den
+    (Q.integer (pos 1)).positive a b (ap (λ q. q.num) e)
   where
     parts_differ : (m n : ℤ) (d e : ℕ) → 0 < d → m *ℤ pos 1 ≡ pos 1 *ℤ pos d → n *ℤ pos 1 ≡ pos 0 *ℤ pos e → m ≡ n → ⊥
     parts_differ m n d e h p q r = omega (arith, ints)

@@ -37,7 +37,8 @@ rational_of n d p l = record { num = n; den = d; positive = p; lowest = l }
 gcd_prop : (a b g : ℕ) → IsProp (IsGcd a b g)
 gcd_prop a b g = hlevel ∣_prop
 
-same_made : (n m : ℤ) (d k : ℕ) → n ≡ m → d ≡ k → (p : 0 < d) (l : IsGcd (unsigned_abs n) d 1) (r : 0 < k) (s : IsGcd (unsigned_abs m) k 1) → rational_of n d p l ≡ rational_of m k r s
+same_made : (n m : ℤ) (d k : ℕ) → n ≡ m → d ≡ k → (p : 0 < d) (l : IsGcd (unsigned_abs n) d 1) (r : 0 < k) (s : IsGcd (unsigned_abs m) k 1)
+    → rational_of n d p l ≡ rational_of m k r s
 same_made n m d k e f p l =
     let P : ℤ → ℕ → Type 0 = λ m k. (r : 0 < k) (s : IsGcd (unsigned_abs m) k 1) → rational_of n d p l ≡ rational_of m k r s in
     subst (λ (k : ℕ). P m k) f (subst (λ (m : ℤ). P m d) e (λ r s. ap₂ (rational_of n d) (le_prop p r) (gcd_prop (unsigned_abs n) d 1 l s)))
@@ -51,7 +52,8 @@ abs_cross a b x y e = sym (unsigned_abs-mul a (pos x)) ∙ ap unsigned_abs e ∙
 -- two rationals that are equal across are one
 pub same_across : (a b : Rational) → a.num *ℤ pos b.den ≡ b.num *ℤ pos a.den → a ≡ b
 same_across a b e =
-    let d : a.den ≡ b.den = lowest_unique (unsigned_abs a.num) a.den (unsigned_abs b.num) b.den a.positive b.positive a.lowest b.lowest (abs_cross a.num b.num b.den a.den e) in
+    let d : a.den ≡ b.den = lowest_unique (unsigned_abs a.num) a.den (unsigned_abs b.num) b.den a.positive b.positive a.lowest b.lowest
+    (abs_cross a.num b.num b.den a.den e) in
     same_parts a b (cancel_factor a.num b.num b.den b.positive (e ∙ ap (λ n. b.num *ℤ pos n) d)) d
 
 -- the same value by two names
@@ -114,7 +116,8 @@ times_names a b n m d e hd he f g =
 pub quotient_is : (N n : ℤ) (D d : ℕ) → 0 < d → (hD : 0 < D) (is : IsGcd (unsigned_abs N) D 1) → N *ℤ pos d ≡ n *ℤ pos D → quotient n d ≡ rational_of N D hD is
 quotient_is N n D d hd hD is e = same_across (quotient n d) (rational_of N D hD is) (names_of (quotient n d) n N d D hd hD (quotient_names n d hd) (sym e))
 
-pub quotient_parts : (N n : ℤ) (D d : ℕ) → 0 < d → (hD : 0 < D) (is : IsGcd (unsigned_abs N) D 1) → N *ℤ pos d ≡ n *ℤ pos D → ((quotient n d).num ≡ N) × ((quotient n d).den ≡ D)
+pub quotient_parts : (N n : ℤ) (D d : ℕ) → 0 < d → (hD : 0 < D) (is : IsGcd (unsigned_abs N) D 1) → N *ℤ pos d ≡ n *ℤ pos D
+    → ((quotient n d).num ≡ N) × ((quotient n d).den ≡ D)
 quotient_parts N n D d hd hD is e = (ap (λ q. q.num) (quotient_is N n D d hd hD is e), ap (λ q. q.den) (quotient_is N n D d hd hD is e))
 
 -- parts in lowest terms are those of their quotient

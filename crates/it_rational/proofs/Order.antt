@@ -35,11 +35,15 @@ times-inverse a n = by_sign a.num refl
   where
     by_sign : (m : ℤ) → a.num ≡ m → Q.times a (Q.signed_quotient (pos a.den) m) ≡ Q.integer (pos 1)
     by_sign (pos zero) e = absurd (n e)
-    by_sign (pos (suc m)) e = same_value (Q.times a (quotient (pos a.den) (suc m))) (Q.integer (pos 1)) (a.num *ℤ pos a.den) (pos 1) (a.den * suc m) 1 (mul-pos a.positive (omega arith)) (omega arith)
-        (times_names a (quotient (pos a.den) (suc m)) a.num (pos a.den) a.den (suc m) a.positive (omega arith) refl (quotient_names (pos a.den) (suc m) (omega arith)))
+    by_sign (pos (suc m)) e = same_value (Q.times a (quotient (pos a.den) (suc m))) (Q.integer (pos 1)) (a.num *ℤ pos a.den) (pos 1)
+        (a.den * suc m) 1 (mul-pos a.positive (omega arith)) (omega arith)
+        (times_names a (quotient (pos a.den) (suc m)) a.num (pos a.den) a.den (suc m) a.positive (omega arith) refl
+        (quotient_names (pos a.den) (suc m) (omega arith)))
         (quotient_names (pos 1) 1 (omega arith)) (ap (λ x. (x *ℤ pos a.den) *ℤ pos 1) e ∙ omega (arith, ints))
-    by_sign (negsuc m) e = same_value (Q.times a (quotient (neg_ℤ (pos a.den)) (suc m))) (Q.integer (pos 1)) (a.num *ℤ neg_ℤ (pos a.den)) (pos 1) (a.den * suc m) 1 (mul-pos a.positive (omega arith)) (omega arith)
-        (times_names a (quotient (neg_ℤ (pos a.den)) (suc m)) a.num (neg_ℤ (pos a.den)) a.den (suc m) a.positive (omega arith) refl (quotient_names (neg_ℤ (pos a.den)) (suc m) (omega arith)))
+    by_sign (negsuc m) e = same_value (Q.times a (quotient (neg_ℤ (pos a.den)) (suc m))) (Q.integer (pos 1)) (a.num *ℤ neg_ℤ (pos a.den))
+        (pos 1) (a.den * suc m) 1 (mul-pos a.positive (omega arith)) (omega arith)
+        (times_names a (quotient (neg_ℤ (pos a.den)) (suc m)) a.num (neg_ℤ (pos a.den)) a.den (suc m) a.positive (omega arith) refl
+        (quotient_names (neg_ℤ (pos a.den)) (suc m) (omega arith)))
         (quotient_names (pos 1) 1 (omega arith)) (ap (λ x. (x *ℤ neg_ℤ (pos a.den)) *ℤ pos 1) e ∙ signs_cancel a.den m)
       where
         signs_cancel : (d m : ℕ) → (negsuc m *ℤ neg_ℤ (pos d)) *ℤ pos 1 ≡ pos 1 *ℤ pos (d * suc m)

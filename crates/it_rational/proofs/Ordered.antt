@@ -20,7 +20,8 @@ module _ {A : Type 0} (F : OrderedField A) where
     where
       by_cases : (IsAtLeastZero F F.ring.unit) ⊎ (IsAtLeastZero F (F.ring.neg F.ring.unit)) → IsAtLeastZero F F.ring.unit
       by_cases (inl h) = h
-      by_cases (inr h) = subst (IsAtLeastZero F) (ring F.ring [] (times (minus one) (minus one)) one refl) (F.order.mul-least (F.ring.neg F.ring.unit) (F.ring.neg F.ring.unit) h h)
+      by_cases (inr h) = subst (IsAtLeastZero F) (ring F.ring [] (times (minus one) (minus one)) one refl)
+          (F.order.mul-least (F.ring.neg F.ring.unit) (F.ring.neg F.ring.unit) h h)
 
   -- what is below 0 has a negation of at least 0
   pub below-neg : (a : A) → IsBelowZero F a → IsAtLeastZero F (F.ring.neg a)
@@ -67,7 +68,8 @@ module _ {A : Type 0} (F : OrderedField A) where
       by_cases : (IsAtLeastZero F (F.order.inv a)) ⊎ (IsAtLeastZero F (F.ring.neg (F.order.inv a))) → IsAtLeastZero F (F.order.inv a)
       by_cases (inl k) = k
       by_cases (inr k) = absurd (F.order.apart (F.order.strict F.ring.unit unit-least
-          (subst (IsAtLeastZero F) (ring F.ring (a ∷ F.order.inv a ∷ []) (times (v 0) (minus (v 1))) (minus (times (v 0) (v 1))) refl ∙ ap F.ring.neg (inv-above a h))
+          (subst (IsAtLeastZero F) (ring F.ring (a ∷ F.order.inv a ∷ []) (times (v 0) (minus (v 1))) (minus (times (v 0) (v 1))) refl
+          ∙ ap F.ring.neg (inv-above a h))
           (F.order.mul-least a (F.ring.neg (F.order.inv a)) (above-least a h) k))))
 
   -- a sum of what is at least 0 and what is above 0

@@ -19,7 +19,8 @@ module _ (a b c : Rational) where
       let bc = plus_names b c b.num c.num b.den c.den b.positive c.positive refl refl in
       let abd : 0 < a.den * b.den = mul-pos a.positive b.positive in
       let bcd : 0 < b.den * c.den = mul-pos b.positive c.positive in
-      same_value (Q.plus (Q.plus a b) c) (Q.plus a (Q.plus b c)) _ _ ((a.den * b.den) * c.den) (a.den * (b.den * c.den)) (mul-pos abd c.positive) (mul-pos a.positive bcd)
+      same_value (Q.plus (Q.plus a b) c) (Q.plus a (Q.plus b c)) _ _ ((a.den * b.den) * c.den) (a.den * (b.den * c.den))
+      (mul-pos abd c.positive) (mul-pos a.positive bcd)
       (plus_names (Q.plus a b) c (a.num *ℤ pos b.den +ℤ b.num *ℤ pos a.den) c.num (a.den * b.den) c.den abd c.positive ab refl)
       (plus_names a (Q.plus b c) a.num (b.num *ℤ pos c.den +ℤ c.num *ℤ pos b.den) a.den (b.den * c.den) a.positive bcd refl bc)
       (ring ring_ℤ ρ
@@ -33,7 +34,8 @@ module _ (a b c : Rational) where
       let bc = times_names b c b.num c.num b.den c.den b.positive c.positive refl refl in
       let abd : 0 < a.den * b.den = mul-pos a.positive b.positive in
       let bcd : 0 < b.den * c.den = mul-pos b.positive c.positive in
-      same_value (Q.times (Q.times a b) c) (Q.times a (Q.times b c)) _ _ ((a.den * b.den) * c.den) (a.den * (b.den * c.den)) (mul-pos abd c.positive) (mul-pos a.positive bcd)
+      same_value (Q.times (Q.times a b) c) (Q.times a (Q.times b c)) _ _ ((a.den * b.den) * c.den) (a.den * (b.den * c.den))
+      (mul-pos abd c.positive) (mul-pos a.positive bcd)
       (times_names (Q.times a b) c (a.num *ℤ b.num) c.num (a.den * b.den) c.den abd c.positive ab refl)
       (times_names a (Q.times b c) a.num (b.num *ℤ c.num) a.den (b.den * c.den) a.positive bcd refl bc)
       (ring ring_ℤ ρ
@@ -49,7 +51,8 @@ module _ (a b c : Rational) where
       let abd : 0 < a.den * b.den = mul-pos a.positive b.positive in
       let acd : 0 < a.den * c.den = mul-pos a.positive c.positive in
       let bcd : 0 < b.den * c.den = mul-pos b.positive c.positive in
-      same_value (Q.times a (Q.plus b c)) (Q.plus (Q.times a b) (Q.times a c)) _ _ (a.den * (b.den * c.den)) ((a.den * b.den) * (a.den * c.den)) (mul-pos a.positive bcd) (mul-pos abd acd)
+      same_value (Q.times a (Q.plus b c)) (Q.plus (Q.times a b) (Q.times a c)) _ _ (a.den * (b.den * c.den))
+      ((a.den * b.den) * (a.den * c.den)) (mul-pos a.positive bcd) (mul-pos abd acd)
       (times_names a (Q.plus b c) a.num (b.num *ℤ pos c.den +ℤ c.num *ℤ pos b.den) a.den (b.den * c.den) a.positive bcd refl bc)
       (plus_names (Q.times a b) (Q.times a c) (a.num *ℤ b.num) (a.num *ℤ c.num) (a.den * b.den) (a.den * c.den) abd acd ab ac)
       (ring ring_ℤ ρ

@@ -20,7 +20,8 @@ minus_below q h = by_cases (cases_Bool (is_at_least_zero (Q.minus q)))
   where
     by_cases : (is_at_least_zero (Q.minus q) ≡ true) ⊎ (is_at_least_zero (Q.minus q) ≡ false) → is_at_least_zero (Q.minus q) ≡ false
     by_cases (inr k) = k
-    by_cases (inl k) = absurd (not_least q.num (Q.minus q).num q.den (Q.minus q).den q.positive (Q.minus q).positive (quotient_names (neg_ℤ q.num) q.den q.positive) h (least_by_sign (Q.minus q).num k))
+    by_cases (inl k) = absurd (not_least q.num (Q.minus q).num q.den (Q.minus q).den q.positive (Q.minus q).positive
+        (quotient_names (neg_ℤ q.num) q.den q.positive) h (least_by_sign (Q.minus q).num k))
       where
         not_least : (n m : ℤ) (d e : ℕ) → 0 < d → 0 < e → m *ℤ pos d ≡ neg_ℤ n *ℤ pos e → pos 0 <ℤ n → pos 0 ≤ℤ m → ⊥
         not_least n m d e hd he q h k =
@@ -34,12 +35,14 @@ minus_least q h = sign_of_least (Q.minus q).num (quotient_least (neg_ℤ q.num) 
     by_sign (pos (suc n)) h = absurd (h (omega (arith, ints)))
     by_sign (negsuc n) h = omega (arith, ints)
 
-difference : (a b : Rational) → (Q.plus a (Q.minus b)).num *ℤ pos (a.den * b.den) ≡ (a.num *ℤ pos b.den +ℤ neg_ℤ b.num *ℤ pos a.den) *ℤ pos (Q.plus a (Q.minus b)).den
+difference : (a b : Rational) → (Q.plus a (Q.minus b)).num *ℤ pos (a.den * b.den)
+    ≡ (a.num *ℤ pos b.den +ℤ neg_ℤ b.num *ℤ pos a.den) *ℤ pos (Q.plus a (Q.minus b)).den
 difference a b = plus_names a (Q.minus b) a.num (neg_ℤ b.num) a.den b.den a.positive b.positive refl (quotient_names (neg_ℤ b.num) b.den b.positive)
 
 pub difference_least : (a b : Rational) → (b.num *ℤ pos a.den) ≤ℤ (a.num *ℤ pos b.den) → is_at_least_zero (Q.plus a (Q.minus b)) ≡ true
 difference_least a b h = sign_of_least (Q.plus a (Q.minus b)).num
-    (sign_kept (Q.plus a (Q.minus b)).num (a.num *ℤ pos b.den +ℤ neg_ℤ b.num *ℤ pos a.den) (a.den * b.den) (Q.plus a (Q.minus b)).den (mul-pos a.positive b.positive) (Q.plus a (Q.minus b)).positive
+    (sign_kept (Q.plus a (Q.minus b)).num (a.num *ℤ pos b.den +ℤ neg_ℤ b.num *ℤ pos a.den) (a.den * b.den) (Q.plus a (Q.minus b)).den
+    (mul-pos a.positive b.positive) (Q.plus a (Q.minus b)).positive
     (difference a b) (difference_at_least (a.num *ℤ pos b.den) b.num (pos a.den) h))
   where
     difference_at_least : (x b d : ℤ) → (b *ℤ d) ≤ℤ x → pos 0 ≤ℤ (x +ℤ neg_ℤ b *ℤ d)
@@ -51,24 +54,32 @@ difference_below a b h = by_cases (cases_Bool (is_at_least_zero (Q.plus a (Q.min
     no_difference : (x b d : ℤ) → x <ℤ (b *ℤ d) → pos 0 ≤ℤ (x +ℤ neg_ℤ b *ℤ d) → ⊥
     no_difference x b d h k = omega (arith, zring)
 
-    by_cases : (is_at_least_zero (Q.plus a (Q.minus b)) ≡ true) ⊎ (is_at_least_zero (Q.plus a (Q.minus b)) ≡ false) → is_at_least_zero (Q.plus a (Q.minus b)) ≡ false
+    by_cases : (is_at_least_zero (Q.plus a (Q.minus b)) ≡ true) ⊎ (is_at_least_zero (Q.plus a (Q.minus b)) ≡ false)
+        → is_at_least_zero (Q.plus a (Q.minus b)) ≡ false
     by_cases (inr k) = k
     by_cases (inl k) = absurd (no_difference (a.num *ℤ pos b.den) b.num (pos a.den) h
-        (sign_kept (a.num *ℤ pos b.den +ℤ neg_ℤ b.num *ℤ pos a.den) (Q.plus a (Q.minus b)).num (Q.plus a (Q.minus b)).den (a.den * b.den) (Q.plus a (Q.minus b)).positive (mul-pos a.positive b.positive)
+        (sign_kept (a.num *ℤ pos b.den +ℤ neg_ℤ b.num *ℤ pos a.den) (Q.plus a (Q.minus b)).num (Q.plus a (Q.minus b)).den (a.den * b.den)
+        (Q.plus a (Q.minus b)).positive (mul-pos a.positive b.positive)
         (sym (difference a b)) (least_by_sign (Q.plus a (Q.minus b)).num k)))
 
 pub cmp_less : (a b : Rational) → rational_cmp a b ≡ Less → is_at_least_zero (Q.plus a (Q.minus b)) ≡ false
-cmp_less a b e = difference_below a b (subst (λ (r : Ordering). MatchOrdering r ((a.num *ℤ pos b.den) <ℤ (b.num *ℤ pos a.den)) (a.num *ℤ pos b.den ≡ b.num *ℤ pos a.den) ((b.num *ℤ pos a.den) <ℤ (a.num *ℤ pos b.den))) e (int_ranks (a.num *ℤ pos b.den) (b.num *ℤ pos a.den)))
+cmp_less a b e = difference_below a b (subst (λ (r : Ordering). MatchOrdering r ((a.num *ℤ pos b.den) <ℤ (b.num *ℤ pos a.den))
+    (a.num *ℤ pos b.den ≡ b.num *ℤ pos a.den) ((b.num *ℤ pos a.den) <ℤ (a.num *ℤ pos b.den))) e
+    (int_ranks (a.num *ℤ pos b.den) (b.num *ℤ pos a.den)))
 
-pub cmp_greater : (a b : Rational) → rational_cmp a b ≡ Greater → (is_at_least_zero (Q.plus a (Q.minus b)) ≡ true) × (is_at_least_zero (Q.plus b (Q.minus a)) ≡ false)
+pub cmp_greater : (a b : Rational) → rational_cmp a b ≡ Greater → (is_at_least_zero (Q.plus a (Q.minus b)) ≡ true)
+    × (is_at_least_zero (Q.plus b (Q.minus a)) ≡ false)
 cmp_greater a b e =
-    let l : (b.num *ℤ pos a.den) <ℤ (a.num *ℤ pos b.den) = subst (λ (r : Ordering). MatchOrdering r ((a.num *ℤ pos b.den) <ℤ (b.num *ℤ pos a.den)) (a.num *ℤ pos b.den ≡ b.num *ℤ pos a.den) ((b.num *ℤ pos a.den) <ℤ (a.num *ℤ pos b.den))) e (int_ranks (a.num *ℤ pos b.den) (b.num *ℤ pos a.den)) in
+    let l : (b.num *ℤ pos a.den) <ℤ (a.num *ℤ pos b.den) = subst (λ (r : Ordering). MatchOrdering r
+    ((a.num *ℤ pos b.den) <ℤ (b.num *ℤ pos a.den)) (a.num *ℤ pos b.den ≡ b.num *ℤ pos a.den)
+    ((b.num *ℤ pos a.den) <ℤ (a.num *ℤ pos b.den))) e (int_ranks (a.num *ℤ pos b.den) (b.num *ℤ pos a.den)) in
     (difference_least a b (less_is_at_most (b.num *ℤ pos a.den) (a.num *ℤ pos b.den) l), difference_below b a l)
   where
     less_is_at_most : (x y : ℤ) → x <ℤ y → x ≤ℤ y
     less_is_at_most x y h = omega (arith, ints)
 
-pub cmp_equal : (a b : Rational) → rational_cmp a b ≡ Equal → (is_at_least_zero (Q.plus a (Q.minus b)) ≡ true) × (is_at_least_zero (Q.plus b (Q.minus a)) ≡ true)
+pub cmp_equal : (a b : Rational) → rational_cmp a b ≡ Equal → (is_at_least_zero (Q.plus a (Q.minus b)) ≡ true)
+    × (is_at_least_zero (Q.plus b (Q.minus a)) ≡ true)
 cmp_equal a b e = let q : a ≡ b = equal_by_comparison a b e in (
   subst (λ (x : Rational). is_at_least_zero (Q.plus x (Q.minus b)) ≡ true) (sym q) (difference_least b b (at_most_itself (b.num *ℤ pos b.den))),
   subst (λ (x : Rational). is_at_least_zero (Q.plus b (Q.minus x)) ≡ true) (sym q) (difference_least b b (at_most_itself (b.num *ℤ pos b.den))),

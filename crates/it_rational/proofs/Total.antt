@@ -41,7 +41,8 @@ chain xn xd yn yd zn zd hx hy hz p q =
     ring ring_ℤ (xn ∷ xd ∷ yn ∷ yd ∷ zn ∷ zd ∷ [])
     (plus (times (v 5) (plus (times (v 2) (v 1)) (minus (times (v 0) (v 3))))) (times (v 1) (plus (times (v 4) (v 3)) (minus (times (v 2) (v 5))))))
     (times (v 3) (plus (times (v 4) (v 1)) (minus (times (v 0) (v 5))))) refl in
-    less_by_difference (xn *ℤ zd) (zn *ℤ xd) (uncancel_above yd (zn *ℤ xd -ℤ xn *ℤ zd) hy (subst (λ (s : ℤ). pos 0 <ℤ s) law (sum_above (zd *ℤ (yn *ℤ xd -ℤ xn *ℤ yd)) (xd *ℤ (zn *ℤ yd -ℤ yn *ℤ zd)) one two)))
+    less_by_difference (xn *ℤ zd) (zn *ℤ xd) (uncancel_above yd (zn *ℤ xd -ℤ xn *ℤ zd) hy
+    (subst (λ (s : ℤ). pos 0 <ℤ s) law (sum_above (zd *ℤ (yn *ℤ xd -ℤ xn *ℤ yd)) (xd *ℤ (zn *ℤ yd -ℤ yn *ℤ zd)) one two)))
   where
     sum_above : (s t : ℤ) → pos 0 <ℤ s → pos 0 <ℤ t → pos 0 <ℤ (s +ℤ t)
     sum_above s t h k = omega (arith, ints)
@@ -67,20 +68,23 @@ rational_total = record {
 -- over one denominator the numerators decide
 pub rational_cmp-same_den : (x y : Rational) → x.den ≡ y.den → int_cmp x.num y.num ≡ rational_cmp x y
 rational_cmp-same_den x y e = int_cmp_is (x.num *ℤ pos y.den) (y.num *ℤ pos x.den) (int_cmp x.num y.num)
-    (subst (λ (d : ℕ). MatchOrdering (int_cmp x.num y.num) ((x.num *ℤ pos y.den) <ℤ (y.num *ℤ pos d)) (x.num *ℤ pos y.den ≡ y.num *ℤ pos d) ((y.num *ℤ pos d) <ℤ (x.num *ℤ pos y.den))) (sym e)
+    (subst (λ (d : ℕ). MatchOrdering (int_cmp x.num y.num) ((x.num *ℤ pos y.den) <ℤ (y.num *ℤ pos d)) (x.num *ℤ pos y.den ≡ y.num *ℤ pos d)
+    ((y.num *ℤ pos d) <ℤ (x.num *ℤ pos y.den))) (sym e)
     (by_ordering x.num y.num (pos y.den) (above_zero y.den y.positive) (int_cmp x.num y.num) (int_ranks x.num y.num)))
   where
     product_rises : (a b d : ℤ) → pos 0 <ℤ d → a <ℤ b → (a *ℤ d) <ℤ (b *ℤ d)
     product_rises a b d h k = let p = product_above d (b -ℤ a) h (omega (arith, ints, k)) in omega (arith, zring, p)
 
-    by_ordering : (a b d : ℤ) → pos 0 <ℤ d → (r : Ordering) → MatchOrdering r (a <ℤ b) (a ≡ b) (b <ℤ a) → MatchOrdering r ((a *ℤ d) <ℤ (b *ℤ d)) (a *ℤ d ≡ b *ℤ d) ((b *ℤ d) <ℤ (a *ℤ d))
+    by_ordering : (a b d : ℤ) → pos 0 <ℤ d → (r : Ordering) → MatchOrdering r (a <ℤ b) (a ≡ b) (b <ℤ a)
+        → MatchOrdering r ((a *ℤ d) <ℤ (b *ℤ d)) (a *ℤ d ≡ b *ℤ d) ((b *ℤ d) <ℤ (a *ℤ d))
     by_ordering a b d h Less k = product_rises a b d h k
     by_ordering a b d h Equal k = ap (λ (z : ℤ). z *ℤ d) k
     by_ordering a b d h Greater k = product_rises b a d h k
 
 -- a test for equal numbers agrees with the order
 pub is_eq-rational_cmp : (b : Bool) (x y : Rational) → (b ≡ true → x ≡ y) → (b ≡ false → x ≢ y) → b ≡ is_eq (rational_cmp x y)
-is_eq-rational_cmp true x y f g = sym (ap (λ (q : Rational). is_eq (rational_cmp x q)) (sym (f refl)) ∙ ap is_eq (sym (int_cmp_is (x.num *ℤ pos x.den) (x.num *ℤ pos x.den) Equal refl)))
+is_eq-rational_cmp true x y f g = sym (ap (λ (q : Rational). is_eq (rational_cmp x q)) (sym (f refl))
+    ∙ ap is_eq (sym (int_cmp_is (x.num *ℤ pos x.den) (x.num *ℤ pos x.den) Equal refl)))
 is_eq-rational_cmp false x y f g = by_order (rational_cmp x y) refl
   where
     by_order : (r : Ordering) → rational_cmp x y ≡ r → false ≡ is_eq r

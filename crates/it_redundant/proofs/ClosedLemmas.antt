@@ -2,9 +2,9 @@
 -- the givens serves the problem with the rows.
 use Rattle.std.proofs.Common.{◌≡◌, ℕ, zero, suc, ◌+◌, ◌≤◌, List, [], ◌∷◌, ◌++◌, length, map, take, refl, sym, ap, subst, ◌∙◌, arith, append_assoc, length-append}
 use Rattle.std.proofs.lemmas.List.{map-append, get_or_append_left}
-use Rattle.it_space.specs.declared.problems.Constraint.{Constraint}
-use Rattle.it_space.specs.declared.problems.Kind.TheVariants.{Inequality}
-use Rattle.it_space.specs.Problems.{ProblemView}
+use Rattle.it_problems.specs.declared.problems.Constraint.{Constraint}
+use Rattle.it_problems.specs.declared.problems.Kind.TheVariants.{Inequality}
+use Rattle.it_problems.specs.Problems.{ProblemView}
 use Rattle.it_space.specs.Rows.{Terms}
 use Rattle.it_polymatroid.specs.Elementals.{elementals}
 use Rattle.it_elemental.specs.Generators.{Generator, of_elemental, of_constraint, generator_list, generators}
@@ -39,17 +39,20 @@ take_front gs hs zero h = refl
 take_front [] hs (suc i) h = absurd (omega arith)
 take_front (g ∷ gs) hs (suc i) h = ap (λ xs. g ∷ xs) (take_front gs hs i (omega arith))
 
-columns_after : (n : ℕ) (ds : List Dependence) (gs hs : List Generator) (i : ℕ) (rows : List Terms) → i ≤ length gs → AreColumns n ds gs i rows → AreColumns n ds (gs ++ hs) i rows
+columns_after : (n : ℕ) (ds : List Dependence) (gs hs : List Generator) (i : ℕ) (rows : List Terms) → i ≤ length gs
+    → AreColumns n ds gs i rows → AreColumns n ds (gs ++ hs) i rows
 columns_after n ds gs hs i rows h a = record {
   same = subst (λ xs. SameRows rows (columns (map (collapsed_generator n ds) xs))) (sym (take_front gs hs i h)) a.same;
-  fits = λ j l. subst (λ (g : Generator). CollapseFits n ds g.row) (sym (get_or_append_left gs hs (record { kind = Inequality; row = [] }) j (omega arith))) (a.fits j l);
+  fits = λ j l. subst (λ (g : Generator). CollapseFits n ds g.row) (sym
+      (get_or_append_left gs hs (record { kind = Inequality; row = [] }) j (omega arith))) (a.fits j l);
 }
 
 pub closed_after : (givens : ProblemView) (rows : List Terms) (c : ClosedProblem) → IsClosedProblem givens c → IsClosedProblem (with_rows givens rows) c
 closed_after givens rows c h =
     let n = givens.space.variables in
     let read : dependences_of (with_rows givens rows) ≡ dependences_of givens = read_after n (length (elementals n)) givens.constraints rows in
-    let all : generators (with_rows givens rows) ≡ generators givens ++ map of_constraint (row_constraints 1 rows) = generators_after n givens.constraints (row_constraints 1 rows) in
+    let all : generators (with_rows givens rows) ≡ generators givens ++ map of_constraint (row_constraints 1 rows) = generators_after n
+    givens.constraints (row_constraints 1 rows) in
     record {
       space = h.space;
       list = h.list ∙ sym read;

@@ -5,10 +5,10 @@ use Rattle.std.proofs.lemmas.Nat.{pow_pos, or_lt, and_le_l}
 use Rattle.std.proofs.lemmas.List.Elements.{All-nil, All-cons, All-head, All-tail}
 use Rattle.it_number.proofs.Integers.{zring, sum_of_multiples}
 use Rattle.it_number.proofs.SignLemmas.{product_least}
-use Rattle.it_space.specs.declared.problems.Constraint.{Constraint}
-use Rattle.it_space.specs.declared.problems.Kind.{Kind}
-use Rattle.it_space.specs.declared.problems.Kind.TheVariants.{Inequality, Equation}
-use Rattle.it_space.specs.Problems.{ProblemView, Meets, IsMet, AreMet}
+use Rattle.it_problems.specs.declared.problems.Constraint.{Constraint}
+use Rattle.it_problems.specs.declared.problems.Kind.{Kind}
+use Rattle.it_problems.specs.declared.problems.Kind.TheVariants.{Inequality, Equation}
+use Rattle.it_problems.specs.Problems.{ProblemView, Meets, IsMet, AreMet}
 use Rattle.it_space.specs.Rows.{Terms, IsOver, value}
 use Rattle.it_space.proofs.SetLemmas.{inside_below}
 use Rattle.it_polymatroid.specs.Polymatroid.{IsPolymatroid}
@@ -48,7 +48,8 @@ module _ (n k : ℕ) (p q : ℕ → ℤ) (same : (c : ℕ) → c < 2 ^ n → q c
   value_multiple [] u = omega (arith, ints)
   value_multiple (t ∷ ts) u =
       let own : (1 ≤ t.0) × (t.0 ≤ 2 ^ n - 1) = All-head (λ (t : ℕ × ℤ). (1 ≤ t.0) × (t.0 ≤ 2 ^ n - 1)) t ts u in
-      sum_of_multiples (pos k) t.1 (p t.0) (q t.0) (value ts p) (value ts q) (same t.0 (omega (arith, own.0, own.1, pow_pos n))) (value_multiple ts (All-tail (λ (t : ℕ × ℤ). (1 ≤ t.0) × (t.0 ≤ 2 ^ n - 1)) t ts u))
+      sum_of_multiples (pos k) t.1 (p t.0) (q t.0) (value ts p) (value ts q) (same t.0 (omega (arith, own.0, own.1, pow_pos n)))
+      (value_multiple ts (All-tail (λ (t : ℕ × ℤ). (1 ≤ t.0) × (t.0 ≤ 2 ^ n - 1)) t ts u))
 
   met_multiple : (kind : Kind) (x y : ℤ) → y ≡ pos k *ℤ x → Meets kind x → Meets kind y
   met_multiple Inequality x y e h = subst (λ z. pos 0 ≤ℤ z) (sym e) (product_least (pos k) x (omega (arith, ints)) h)
@@ -57,8 +58,14 @@ module _ (n k : ℕ) (p q : ℕ → ℤ) (same : (c : ℕ) → c < 2 ^ n → q c
   are_met_multiple : (cs : List Constraint) → All (λ c. IsOver (2 ^ n - 1) c.row) cs → AreMet p cs → AreMet q cs
   are_met_multiple [] u h = All-nil (IsMet q)
   are_met_multiple (c ∷ cs) u h = All-cons (IsMet q) c cs
-      (met_multiple c.kind (value c.row p) (value c.row q) (value_multiple c.row (All-head (λ (c : Constraint). IsOver (2 ^ n - 1) c.row) c cs u)) (All-head (IsMet p) c cs h))
+      (met_multiple c.kind (value c.row p) (value c.row q) (value_multiple c.row
+      (All-head (λ (c : Constraint). IsOver (2 ^ n - 1) c.row) c cs u)) (All-head (IsMet p) c cs h))
       (are_met_multiple cs (All-tail (λ (c : Constraint). IsOver (2 ^ n - 1) c.row) c cs u) (All-tail (IsMet p) c cs h))
 
-pub multiple_meets : (givens : ProblemView) (k : ℕ) (p q : ℕ → ℤ) → SpeakOfSets givens → ((c : ℕ) → c < 2 ^ givens.space.variables → q c ≡ pos k *ℤ p c) → MeetsGivens givens p → MeetsGivens givens q
-multiple_meets givens k p q sets same m = (polymatroid_multiple givens.space.variables k p q same m.0, are_met_multiple givens.space.variables k p q same givens.constraints sets m.1)
+pub multiple_meets : (givens : ProblemView) (k : ℕ) (p q : ℕ → ℤ) → SpeakOfSets givens
+    → ((c : ℕ) → c < 2 ^ givens.space.variables → q c ≡ pos k *ℤ p c) → MeetsGivens givens p → MeetsGivens givens q
+multiple_meets givens k p q sets same m = (
+  polymatroid_multiple givens.space.variables k p q same m.0,
+  are_met_multiple
+      givens.space.variables k p q same givens.constraints sets m.1,
+)

@@ -46,7 +46,8 @@ part_no_longer : (xs ys : List Terms) → HasNoDoubles xs → IsPart xs ys → l
 part_no_longer [] ys d p = omega arith
 part_no_longer (x ∷ xs) ys d p =
     let here : Member x ys = p x (inl refl) in
-    let rest = part_no_longer xs (rest_without x ys here) d.1 (λ z k. others_stay x z ys here (λ e. d.0 (subst (λ (w : Terms). Member w xs) e k)) (p z (inr k))) in
+    let rest = part_no_longer xs (rest_without x ys here) d.1 (λ z k. others_stay x z ys here
+    (λ e. d.0 (subst (λ (w : Terms). Member w xs) e k)) (p z (inr k))) in
     omega (arith, rest, one_fewer x ys here)
 
 -- ---- a row after others
@@ -151,7 +152,8 @@ record IsLowestOf (rows : List Terms) (x : Terms) : Type 0 where
 source-with_rows : (before rows : List Terms) (x : Terms) → Member x (with_lowest_rows before rows) → Member x before ⊎ IsLowestOf rows x
 source-with_rows before [] x m = inl m
 source-with_rows before (row ∷ rows) x m = ⊎_elim
-    (λ k. ⊎_elim (λ h. inl h) (λ e. inr (record { source = row; member = inl refl; is = e.0; some = λ z. e.1 (sym e.0 ∙ z) })) (source-with_row before (lowest_terms row) x k))
+    (λ k. ⊎_elim (λ h. inl h) (λ e. inr (record { source = row; member = inl refl; is = e.0; some = λ z. e.1 (sym e.0 ∙ z) }))
+    (source-with_row before (lowest_terms row) x k))
     (λ s. inr (record { source = s.source; member = inr s.member; is = s.is; some = s.some }))
     (source-with_rows (with_row before (lowest_terms row)) rows x m)
 

@@ -1,7 +1,7 @@
 -- Causes of plain elimination, which goes on past a cause: its lists are over numbers without bounds.
 use Rattle.std.specs.Prelude.{◌≡◌, ℕ, ◌+◌, ◌^◌, ◌<◌, List, ◌∷◌, ◌++◌, length, map}
 use Rattle.it_space.specs.Answers.{CertificateView}
-use Rattle.it_space.specs.Problems.{ProblemView}
+use Rattle.it_problems.specs.Problems.{ProblemView}
 use Rattle.it_space.specs.Rows.{Terms}
 use Rattle.it_eliminate.specs.Elimination.{PairsFit, ordered_rows, next_list, list_after}
 use Rattle.it_prove.specs.declared.types.Effort.{Effort}

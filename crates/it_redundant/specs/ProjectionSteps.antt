@@ -1,6 +1,6 @@
 -- One rate of reduced elimination. No public clause cites this module.
 use Rattle.std.specs.Prelude.{◌≡◌, ℕ, ◌^◌, List, [], ◌∷◌, All}
-use Rattle.it_space.specs.Problems.{ProblemView}
+use Rattle.it_problems.specs.Problems.{ProblemView}
 use Rattle.it_space.specs.Rows.{Terms, IsOver}
 use Rattle.it_eliminate.specs.Elimination.{EliminatedView, EliminationEnds, ordered_rows}
 use Rattle.it_prove.specs.declared.types.Effort.{Effort}

@@ -2,9 +2,9 @@
 use Rattle.std.specs.Prelude.{◌≡◌, ◌≤◌, ℤ, List, [], ◌∷◌, ◌++◌, length, map}
 use Rattle.it_space.specs.declared.answers.Cause.{Cause}
 use Rattle.it_space.specs.Answers.{CertificateView, certificate_view}
-use Rattle.it_space.specs.declared.problems.System.{System}
-use Rattle.it_space.specs.Problems.{ProblemView, IsProblem, IsSystem}
-use Rattle.it_space.specs.Rows.{Terms}
+use Rattle.it_problems.specs.declared.problems.System.{System}
+use Rattle.it_problems.specs.Problems.{ProblemView, IsProblem, IsSystem}
+use Rattle.it_space.specs.Rows.{Terms, most_system_rows}
 use Rattle.it_eliminate.specs.RowLines.{with_rows}
 use Rattle.it_prove.specs.ProofViews.{ProofView, Yes, No, Undecided, EndsWith}
 use Rattle.it_prove.specs.declared.types.Effort.{Effort}
@@ -17,7 +17,7 @@ pub record IsSystemUnder (q : ProblemView) (s : System) : Type 0 where
   pub system : IsSystem s
   pub givens : IsProblem q
   pub space : s.space ≡ q.space
-  pub few_givens : length q.constraints ≤ 65535
+  pub few_givens : length q.constraints ≤ most_system_rows
 
 -- why a row is kept: it is violated at a point at which the others hold, or the run about it has no end within its bounds
 pub data NeedView : Type 0 where

@@ -1,8 +1,8 @@
 -- Laws of reduction.
 use Rattle.std.specs.Prelude.{◌≡◌, ◌↔◌, ℕ, ◌+◌, ◌-◌, ◌^◌, ◌≤◌, ℤ, neg_ℤ, pos, ◌≤ℤ◌, List, [], ◌++◌, ◌∷◌, length, map, All, Contains, false}
 use Rattle.it_space.specs.Answers.{CertificateView}
-use Rattle.it_space.specs.Problems.{ProblemView, AreMet, IsProblem}
-use Rattle.it_space.specs.Rows.{Terms, IsOver, point_of, value}
+use Rattle.it_problems.specs.Problems.{ProblemView, AreMet, IsProblem}
+use Rattle.it_space.specs.Rows.{Terms, IsOver, point_of, value, most_system_rows}
 use Rattle.it_space.specs.Spaces.{size_of}
 use Rattle.it_polymatroid.specs.Polymatroid.{IsPolymatroid}
 use Rattle.it_eliminate.specs.Elimination.{EliminatedView, EliminationEnds, ordered_rows}
@@ -86,5 +86,5 @@ HaveSameRows end other = ⊥
 -- reduced eliminations with two efforts, in both of which all rows are settled, end with the same rows
 abbrev pub SettledRegionsAgree : Type 0
 SettledRegionsAgree = (givens : ProblemView) (effort other : Effort) (most : ℕ) (rows : List Terms) (rates : List ℕ) (end other_end : ProjectedView)
-    → IsProblem givens → length givens.constraints ≤ 65535 → most ≤ 65535 → All (IsOver (size_of givens.space)) rows
+    → IsProblem givens → length givens.constraints ≤ most_system_rows → most ≤ most_system_rows → All (IsOver (size_of givens.space)) rows
     → SettledEnds givens effort most rows [] [] rates end → SettledEnds givens other most rows [] [] rates other_end → HaveSameRows end other_end

@@ -1,9 +1,11 @@
 //! The problem under which a row is judged, from one row to the next: the givens, and all other rows that are still in the list.
 ghost use Rattle.std.specs.Prelude.{◌≡◌, ◌++◌, ◌+◌, ◌<◌, ◌≤◌, drop, length, take, OnErr, OnOk};
 ghost use Rattle.it_redundant.specs.ReductionSteps.{IsInserted, IsRemoved, numbered};
+ghost use Rattle.it_space.specs.Rows.{most_system_rows};
 
 use it_eliminate::row_constraint;
-use it_space::{Constraint, Origin, Row};
+use it_problems::{Constraint, Origin};
+use it_space::Row;
 use std::alloc::{AllocError, Global};
 
 /// Numbers the constraints from `place` on as `row` lines, from number `line` on.
@@ -38,7 +40,7 @@ pub fn insert_row(
     row: &Row,
 ) -> Result<(), AllocError>
     requires place { place ≤ length constraints.old.items }
-    requires few { line + length constraints.old.items ≤ 65535 + place }
+    requires few { line + length constraints.old.items ≤ most_system_rows + place }
     ensures put { OnOk result (IsInserted place line row.now constraints.old.items constraints.new.items) }
     ensures stays { OnErr result (constraints.new.items ≡ constraints.old.items) }
 {

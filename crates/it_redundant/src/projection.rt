@@ -5,12 +5,14 @@ ghost use Rattle.it_redundant.specs.ProjectionSteps.{HasRowsUpTo, IsAfterRate, I
 ghost use Rattle.it_redundant.specs.Reduction.{IsSystemUnder};
 ghost use Rattle.it_redundant.specs.ReducedElimination.{ReducedEnds, projected_view};
 ghost use Rattle.it_redundant.specs.Theorems.{RegionIsReduced, SpeakOfSets};
+ghost use Rattle.it_space.specs.Rows.{most_system_rows};
 
 use crate::reduction::reduce;
 use crate::types::{Projected, Reduced};
 use it_eliminate::{Eliminated, step};
+use it_problems::{Problem, System};
 use it_prove::Effort;
-use it_space::{Problem, Space, System};
+use it_space::Space;
 use std::alloc::{AllocError, Global};
 
 /// Eliminates `rates` from `system`, in the order of their list, and reduces the list of rows after each rate. A rate's step may leave
@@ -27,7 +29,7 @@ pub fn project(
     requires rates { All (λ r. r < system.now.space.rates) rates.now }
     requires some { 1 ≤ length rates.now }
     requires sets { SpeakOfSets givens.now }
-    requires few_rows { rows ≤ 65535 }
+    requires few_rows { rows ≤ most_system_rows }
     ensures ends { IfOk result (λ e. ReducedEnds givens.now effort rows system.now.rows.items [] [] rates.now (projected_view e)) }
     ensures region { IfOk result (λ e. RegionIsReduced givens.now rates.now system.now.rows.items (projected_view e)) }
 {
@@ -48,7 +50,7 @@ fn reduced_elimination(
     requires system { IsSystemUnder givens.now system.now }
     requires rates { All (λ r. r < system.now.space.rates) rates.now }
     requires some { 1 ≤ length rates.now }
-    requires few_rows { rows ≤ 65535 }
+    requires few_rows { rows ≤ most_system_rows }
     ensures { IfOk result (λ e. ReducedEnds givens.now effort rows system.now.rows.items [] [] rates.now (projected_view e)) }
 {
     let mut end = after_rate(alloc, system, rates[0], givens, rows, effort)?;
@@ -69,8 +71,8 @@ fn next_end(
 ) -> Result<Projected, AllocError>
     requires end { HasRowsUpTo (size_of givens.now.space) (projected_view end) }
     requires rate { rate < givens.now.space.rates }
-    requires few_rows { rows ≤ 65535 }
-    requires few_givens { length givens.now.constraints ≤ 65535 }
+    requires few_rows { rows ≤ most_system_rows }
+    requires few_givens { length givens.now.constraints ≤ most_system_rows }
     ensures next { IfOk result (λ e. IsNext givens.now effort rows rate (projected_view end) (projected_view e)) }
     ensures rows { IfOk result (λ e. HasRowsUpTo (size_of givens.now.space) (projected_view e)) }
 {
@@ -108,7 +110,7 @@ fn after_rate(
 ) -> Result<Projected, AllocError>
     requires system { IsSystemUnder givens.now system.now }
     requires rate { rate < system.now.space.rates }
-    requires few_rows { rows ≤ 65535 }
+    requires few_rows { rows ≤ most_system_rows }
     ensures after { IfOk result (λ e. IsAfterRate givens.now effort rows system.now.rows.items rate (projected_view e)) }
     ensures rows { IfOk result (λ e. HasRowsUpTo (size_of givens.now.space) (projected_view e)) }
 {

@@ -1,7 +1,7 @@
 //! Reduction of a list of rows.
 ghost use Rattle.std.specs.Prelude.{◌≡◌, [], ◌∷◌, ◌++◌, ◌+◌, ◌<◌, ◌≤◌, length, map, OnOk, IfOk};
 ghost use Rattle.it_space.specs.Answers.{certificate_view};
-ghost use Rattle.it_space.specs.Rows.{IsOver};
+ghost use Rattle.it_space.specs.Rows.{IsOver, most_system_rows};
 ghost use Rattle.it_space.specs.Spaces.{size_of};
 ghost use Rattle.it_prove.specs.ClosedProblems.{IsClosedProblem};
 ghost use Rattle.it_prove.specs.ProofViews.{proof_view};
@@ -13,8 +13,9 @@ ghost use Rattle.it_redundant.specs.Theorems.{AreNeeded, HoldAlike};
 use crate::others::{insert_row, remove_row};
 use crate::types::{Need, Reduced};
 use it_eliminate::problem_with;
+use it_problems::{Problem, System};
 use it_prove::{ClosedProblem, Effort, Proof};
-use it_space::{Certificate, Problem, Row, System};
+use it_space::{Certificate, Row};
 use std::alloc::{AllocError, Global};
 
 /// Reduces the rows of `system`: visits them in order, each as the target of a run under the givens and all other rows that are still
@@ -26,7 +27,7 @@ pub fn reduce(
     effort: Effort,
 ) -> Result<Reduced, AllocError>
     requires system { IsSystemUnder givens.now system.now }
-    requires few_rows { length system.now.rows.items ≤ 65535 }
+    requires few_rows { length system.now.rows.items ≤ most_system_rows }
     ensures reduces { IfOk result (λ r. Reduces givens.now effort [] system.now.rows.items (kept_view r) (dropped_view r)) }
     ensures alike { IfOk result (λ r. HoldAlike givens.now system.now.rows.items (kept_rows (kept_view r))) }
     ensures needed { IfOk result (λ r. AreNeeded givens.now (kept_view r)) }
@@ -44,8 +45,8 @@ fn reduced_rows(
     effort: Effort,
 ) -> Result<Reduced, AllocError>
     requires rows { AreRowsUpTo (size_of givens.now.space) rows.now }
-    requires few_rows { length rows.now ≤ 65535 }
-    requires few_givens { length givens.now.constraints ≤ 65535 }
+    requires few_rows { length rows.now ≤ most_system_rows }
+    requires few_givens { length givens.now.constraints ≤ most_system_rows }
     ensures { IfOk result (λ r. Reduces givens.now effort [] rows.now (kept_view r) (dropped_view r)) }
 {
     let mut closed = ClosedProblem::read(alloc, givens, effort)?;
@@ -81,7 +82,7 @@ fn visit(
     after: &[Row],
     effort: Effort,
 ) -> Result<(), AllocError>
-    requires few_givens { length givens.now.constraints ≤ 65535 }
+    requires few_givens { length givens.now.constraints ≤ most_system_rows }
     requires few { length reduced.old.kept.items + length after.now < 65535 }
     requires row { IsOver (size_of givens.now.space) row.now }
     requires kept { AreRowsUpTo (size_of givens.now.space) (map (λ k. k.0) reduced.old.kept.items) }

@@ -4,7 +4,7 @@ use Rattle.std.specs.List.{AllByRecursion as Every}
 use Rattle.std.proofs.lemmas.Bool.{cases_lt}
 use Rattle.std.proofs.lemmas.List.Elements.{All-weaker}
 use Rattle.std.proofs.lemmas.Nat.{pow_pos}
-use Rattle.it_space.specs.declared.problems.Constraint.{Constraint}
+use Rattle.it_problems.specs.declared.problems.Constraint.{Constraint}
 use Rattle.it_space.specs.declared.spaces.Space.{Space}
 use Rattle.it_space.specs.Rows.{IsOver, row_mass}
 use Rattle.it_space.specs.Spaces.{size_of}
@@ -33,7 +33,12 @@ use Rattle.it_region.proofs.PullingLemmas.{coordinate_of_set, coordinate_above_s
 module _ (s : Space) (bound : ℕ) (within : bound < 2 ^ 127) where
   row_of_form : (form : Form) → IsFormUpTo (size_of s) bound form → IsPulledRow s form (terms_of_form (size_of s) form)
   row_of_form form x =
-      let is : IsPulledRow s form (row s bound within form x) = record { same = row_same s bound within form x; coordinates = row_coordinates s bound within form x; canonical = row_is_canonical s bound within form x } in
+      let is : IsPulledRow s form (row s bound within form x) = record {
+        same = row_same s bound within form x;
+        coordinates
+            = row_coordinates s bound within form x;
+        canonical = row_is_canonical s bound within form x;
+      } in
       subst (IsPulledRow s form) (told_by_form (size_of s) form (row s bound within form x) is.canonical is.coordinates is.same) is
 
   rows_of_forms : (fs : List Form) → Every (IsFormUpTo (size_of s) bound) fs → ArePulledRows s fs (map (terms_of_form (size_of s)) fs)
@@ -50,21 +55,26 @@ pulled_within n m rates sets a c below = by_cases (cases_lt c (2 ^ m))
 
 -- ---- of a candidate that fits a pair
 
-pub pair_rows_there : (p : Pair) (c : Candidate) → IsPair p → FitsPair p c → ArePulledRows p.first.space (pair_obligations p c) (map (terms_of_form (size_of p.first.space)) (pair_obligations p c))
+pub pair_rows_there : (p : Pair) (c : Candidate) → IsPair p → FitsPair p c
+    → ArePulledRows p.first.space (pair_obligations p c) (map (terms_of_form (size_of p.first.space)) (pair_obligations p c))
 pair_rows_there p c k f =
     let sets = sets_within p.first.space.variables p.common (take c.count c.parts) k.common_first f.within in
     let within : (i : ℕ) → i ≤ size_of p.space → candidate_coordinate p c i ≤ size_of p.first.space =
     λ i l. let h = pulled_within p.first.space.variables p.space.variables p.space.rates (candidate_sets p c) sets i l in omega (arith, h, k.rates) in
     let small : All (λ (d : Constraint). row_mass d.row ≤ 2 ^ 127 - 1) p.own.items =
-    All-weaker (λ (d : Constraint). row_mass d.row < 2 ^ 127) (λ (d : Constraint). row_mass d.row ≤ 2 ^ 127 - 1) (λ d l. omega (arith, l)) p.own.items k.small in
+    All-weaker (λ (d : Constraint). row_mass d.row < 2 ^ 127) (λ (d : Constraint). row_mass d.row ≤ 2 ^ 127 - 1)
+    (λ d l. omega (arith, l)) p.own.items k.small in
     rows_of_forms p.first.space (2 ^ 127 - 1) (lit< tt) (pair_obligations p c)
     (constraints_up_to (size_of p.space) (size_of p.first.space) (2 ^ 127 - 1) (candidate_coordinate p c) within p.own.items
-    (every_of (λ (d : Constraint). IsOver (size_of p.space) d.row) p.own.items k.rows) (every_of (λ (d : Constraint). row_mass d.row ≤ 2 ^ 127 - 1) p.own.items small))
+    (every_of (λ (d : Constraint). IsOver (size_of p.space) d.row) p.own.items k.rows)
+    (every_of (λ (d : Constraint). row_mass d.row ≤ 2 ^ 127 - 1) p.own.items small))
 
 -- ---- of parts that fit a question
 
-module _ (q : BodyView) (k : IsQuestion q) (small : QuestionHasSmallNumbers q) (first second : RegionView) (tries : List (List ℕ)) (about : q.verb ≡ Contain first second tries) where
-  pub obligation_rows_there : (parts : List ℕ) → IsSubstitution first second parts → ArePulledRows (space_of (problem_names q)) (obligations q first second parts) (map (terms_in q) (obligations q first second parts))
+module _ (q : BodyView) (k : IsQuestion q) (small : QuestionHasSmallNumbers q) (first second : RegionView) (tries : List (List ℕ))
+    (about : q.verb ≡ Contain first second tries) where
+  pub obligation_rows_there : (parts : List ℕ) → IsSubstitution first second parts
+      → ArePulledRows (space_of (problem_names q)) (obligations q first second parts) (map (terms_in q) (obligations q first second parts))
   obligation_rows_there parts h =
       let over : IsVerbOver q.names (Contain first second tries) = subst (IsVerbOver q.names) about k.verb in
       let counts : VerbHasSmallNumbers (Contain first second tries) = subst VerbHasSmallNumbers about small.1 in
@@ -73,12 +83,15 @@ module _ (q : BodyView) (k : IsQuestion q) (small : QuestionHasSmallNumbers q) (
       let n = length first.names.variables in
       let m = length second.names.variables in
       let rates = length second.names.rates in
-      let forms = lines_up_to m rates second.lines (every_of (IsGivenOf m) second.lines.givens r.lines.givens) (every_of (IsRelationOf m rates) second.lines.rows r.lines.rows) counts.1 in
+      let forms = lines_up_to m rates second.lines (every_of (IsGivenOf m) second.lines.givens r.lines.givens)
+      (every_of (IsRelationOf m rates) second.lines.rows r.lines.rows) counts.1 in
       let sets = sets_within n (length q.names.variables) parts (omega (arith, ap length l.variables, length-append q.names.variables l.own)) h.within in
       let f : ℕ → ℕ = pulled_coordinate n m (substituted_sets (length q.names.variables) parts) in
       let within : (c : ℕ) → c ≤ 2 ^ m - 1 + rates → f c ≤ size_of (space_of first.names) =
-      λ c e. let p = pulled_within n m rates (substituted_sets (length q.names.variables) parts) sets c e in omega (arith, p, ap length l.rates, ap length r.rates) in
+      λ c e. let p = pulled_within n m rates (substituted_sets (length q.names.variables) parts) sets c e
+      in omega (arith, p, ap length l.rates, ap length r.rates) in
       let fs : List Form = obligations q first second parts in
       let same : space_of first.names ≡ space_of (problem_names q) = sym (ap (λ v. space_of (names_under q.names v)) about) in
       subst (λ (s : Space). ArePulledRows s fs (map (terms_of_form (size_of s)) fs)) same
-      (rows_of_forms (space_of first.names) (2 ^ 106) (lit< tt) fs (obligations_up_to (2 ^ m - 1 + rates) (size_of (space_of first.names)) (2 ^ 106) f within (line_demands m second.lines) forms))
+      (rows_of_forms (space_of first.names) (2 ^ 106) (lit< tt) fs (obligations_up_to (2 ^ m - 1 + rates) (size_of (space_of first.names))
+      (2 ^ 106) f within (line_demands m second.lines) forms))

@@ -2,9 +2,9 @@
 use Rattle.std.proofs.Common.{◌≡◌, ℕ, ◌+◌, ◌≤◌, ℤ, ◌+ℤ◌, ◌*ℤ◌, unsigned_abs, List, [], ◌∷◌, refl, ap, ◌∙◌, arith}
 use Rattle.std.specs.List.{AllByRecursion as Every}
 use Rattle.it_demand.specs.Targets.{inequalities_of}
-use Rattle.it_space.specs.declared.problems.Constraint.{Constraint}
-use Rattle.it_space.specs.declared.problems.Kind.{Kind}
-use Rattle.it_space.specs.declared.problems.Kind.TheVariants.{Inequality, Equation}
+use Rattle.it_problems.specs.declared.problems.Constraint.{Constraint}
+use Rattle.it_problems.specs.declared.problems.Kind.{Kind}
+use Rattle.it_problems.specs.declared.problems.Kind.TheVariants.{Inequality, Equation}
 use Rattle.it_space.specs.Rows.{Terms, IsOver, value, row_mass}
 use Rattle.it_space.proofs.EveryLemmas.{every_of, every-append}
 use Rattle.it_polymatroid.specs.Certificates.{Form}
@@ -19,7 +19,13 @@ moved_terms f (t ∷ ts) = (f t.0, t.1) ∷ moved_terms f ts
 
 -- a row as a form
 form_of_row : (n a : ℕ) (row : Terms) → IsOver n row → row_mass row ≤ a → IsFormUpTo n a (value row)
-form_of_row n a row up small = record { terms = row; same = λ p. refl; coordinates = each_below row (every_of (λ (t : ℕ × ℤ). (1 ≤ t.0) × (t.0 ≤ n)) row up); small = small }
+form_of_row n a row up small = record {
+  terms = row;
+  same = λ p. refl;
+  coordinates = each_below row
+      (every_of (λ (t : ℕ × ℤ). (1 ≤ t.0) × (t.0 ≤ n)) row up);
+  small = small;
+}
   where
     each_below : (ts : Terms) → Every (λ (t : ℕ × ℤ). (1 ≤ t.0) × (t.0 ≤ n)) ts → Every (λ (t : ℕ × ℤ). t.0 ≤ n) ts
     each_below [] e = tt
@@ -58,7 +64,8 @@ module _ (n m a : ℕ) (f : ℕ → ℕ) (within : (c : ℕ) → c ≤ n → f c
       (demanded_up_to d.kind (pulled_form f d.form) (form_moved d.form h.0)) (obligations_up_to ds h.1)
 
   -- and those that constraints give
-  pub constraints_up_to : (cs : List Constraint) → Every (λ (c : Constraint). IsOver n c.row) cs → Every (λ (c : Constraint). row_mass c.row ≤ a) cs → Every (IsFormUpTo m a) (constraint_obligations f cs)
+  pub constraints_up_to : (cs : List Constraint) → Every (λ (c : Constraint). IsOver n c.row) cs
+      → Every (λ (c : Constraint). row_mass c.row ≤ a) cs → Every (IsFormUpTo m a) (constraint_obligations f cs)
   constraints_up_to [] up small = tt
   constraints_up_to (c ∷ cs) up small = every-append (IsFormUpTo m a) (inequalities_of c.kind (pulled_form f (value c.row))) (constraint_obligations f cs)
       (demanded_up_to c.kind (pulled_form f (value c.row)) (form_moved (value c.row) (form_of_row n a c.row up.0 small.0))) (constraints_up_to cs up.1 small.1)

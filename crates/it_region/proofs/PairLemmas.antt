@@ -4,8 +4,8 @@ use Rattle.std.specs.List.{list_all}
 use Rattle.std.proofs.lemmas.List.Elements.{All-head, All-tail, All-weaker}
 use Rattle.std.proofs.lemmas.List.Sums.{AllPass-from_list_all, list_all-from_AllPass}
 use Rattle.it_space.specs.declared.spaces.Space.{Space}
-use Rattle.it_space.specs.declared.problems.Constraint.{Constraint}
-use Rattle.it_space.specs.Problems.{IsProblem}
+use Rattle.it_problems.specs.declared.problems.Constraint.{Constraint}
+use Rattle.it_problems.specs.Problems.{IsProblem}
 use Rattle.it_space.specs.Rows.{Terms, IsOver, row_mass}
 use Rattle.it_space.specs.Spaces.{size_of}
 use Rattle.it_question.specs.Limits.{IsQuestion, IsVerbOver, IsRegionOf}
@@ -20,7 +20,7 @@ use Rattle.it_question.specs.LineDemands.{line_demands}
 use Rattle.it_question.specs.ProblemLines.{names_under}
 use Rattle.it_question.specs.LineOrigins.{origins_from}
 use Rattle.it_canon.specs.QuestionDemands.{IsProblemOf}
-use Rattle.it_space.specs.declared.problems.Origin.{Origin}
+use Rattle.it_problems.specs.declared.problems.Origin.{Origin}
 use Rattle.it_region.specs.Pairs.{IsPair, IsPairOf, PairsBy, Pairs, FitsPair, candidate_sets, own_origins}
 use Rattle.it_region.specs.PairSteps.{AreSetsFor}
 use Rattle.it_region.specs.declared.types.Candidate.{Candidate}
@@ -38,16 +38,19 @@ mass_within (t ∷ ts) a =
 small_mass : (ts : Terms) → IsSmall ts → row_mass ts < 2 ^ 127
 small_mass ts k = let m = mass_within ts k.each in let few = k.few in omega (arith, m, few)
 
-pub stated_small : (s : Space) (places : List Origin) (ds : List Demand) (cs : List Constraint) → AreStated s places ds cs → All (λ c. row_mass c.row < 2 ^ 127) cs
+pub stated_small : (s : Space) (places : List Origin) (ds : List Demand) (cs : List Constraint) → AreStated s places ds cs
+    → All (λ c. row_mass c.row < 2 ^ 127) cs
 stated_small s places ds cs a = zip-right (States s) (λ c. row_mass c.row < 2 ^ 127) (λ d c t. small_mass c.row t.row.small) ds cs a.stated
 
-pub stated_rows : (s : Space) (places : List Origin) (ds : List Demand) (cs : List Constraint) → AreStated s places ds cs → All (λ c. IsOver (size_of s) c.row) cs
+pub stated_rows : (s : Space) (places : List Origin) (ds : List Demand) (cs : List Constraint) → AreStated s places ds cs
+    → All (λ c. IsOver (size_of s) c.row) cs
 stated_rows s places ds cs a = zip-right (States s) (λ c. IsOver (size_of s) c.row) (λ d c t. t.row.coordinates) ds cs a.stated
 
 pub region_wider : (q : BodyView) (r : RegionView) → IsRegionOf q.names r → length r.names.variables ≡ length q.names.variables + r.auxiliaries
 region_wider q r k = omega (arith, ap length k.variables, length-append q.names.variables k.own, k.counted)
 
-pair_limits : (q : BodyView) (a b : RegionView) (p : Pair) → IsQuestion q → IsRegionOf q.names a → IsRegionOf q.names b → IsProblem p.first → IsPairOf q a b p → IsPair p
+pair_limits : (q : BodyView) (a b : RegionView) (p : Pair) → IsQuestion q → IsRegionOf q.names a → IsRegionOf q.names b → IsProblem p.first
+    → IsPairOf q a b p → IsPair p
 pair_limits q a b p k l r problem o =
     let front : p.first.space ≡ space_of a.names = o.first_space in
     let n : p.first.space.variables ≡ length a.names.variables = ap (λ (s : Space). s.variables) front in
@@ -80,8 +83,10 @@ limits_of q (Ok p) k a b = limits_by q q.verb p k k.verb b a
 -- what the variables stand for
 pub sets_for : (p : Pair) (c : Candidate) (sets : List ℕ) → sets ≡ candidate_sets p c → IsPair p → FitsPair p c → AreSetsFor p sets
 sets_for p c sets e k f = record {
-  complete = ap length e ∙ length-sets p.common (take c.count c.parts) ∙ ap (λ n. p.common + n) (length-take-le c.count c.parts (omega (arith, f.complete, f.count, k.few_parts)) ∙ f.count) ∙ k.variables;
-  within = subst (All (λ s. s < 2 ^ p.first.space.variables)) (sym e) (sets_within p.first.space.variables p.common (take c.count c.parts) k.common_first f.within);
+  complete = ap length e ∙ length-sets p.common (take c.count c.parts)
+      ∙ ap (λ n. p.common + n) (length-take-le c.count c.parts (omega (arith, f.complete, f.count, k.few_parts)) ∙ f.count) ∙ k.variables;
+  within = subst (All (λ s. s < 2 ^ p.first.space.variables)) (sym e) (sets_within p.first.space.variables p.common
+      (take c.count c.parts) k.common_first f.within);
 }
 
 -- ---- parts
@@ -93,19 +98,24 @@ all_below k xs = (
 )
 
 -- the pair of a verb's two regions
-pub pair_of_verb : (q : BodyView) (first second : RegionView) (tries : List (List ℕ)) (p : Pair) → q.verb ≡ Contain first second tries → Pairs q p → IsPairOf q first second p
+pub pair_of_verb : (q : BodyView) (first second : RegionView) (tries : List (List ℕ)) (p : Pair) → q.verb ≡ Contain first second tries
+    → Pairs q p → IsPairOf q first second p
 pair_of_verb q first second tries p is h = subst (λ (m : VerbView). PairsBy q m p) is h
 
 -- what problem and second region's own constraints make a pair of a question's regions
-pub pair_by : (q : BodyView) (a b : RegionView) (tries : List (List ℕ)) (p : Pair) (given row : ℕ) → q.verb ≡ Contain a b tries → IsProblemOf q p.first → p.space ≡ space_of b.names
-    → given ≡ 1 + length q.lines.givens → row ≡ 1 + length q.lines.rows → AreStated p.space (origins_from p.space.variables given row b.lines) (line_demands p.space.variables b.lines) p.own.items
+pub pair_by : (q : BodyView) (a b : RegionView) (tries : List (List ℕ)) (p : Pair) (given row : ℕ) → q.verb ≡ Contain a b tries
+    → IsProblemOf q p.first → p.space ≡ space_of b.names
+    → given ≡ 1 + length q.lines.givens → row ≡ 1 + length q.lines.rows
+    → AreStated p.space (origins_from p.space.variables given row b.lines) (line_demands p.space.variables b.lines) p.own.items
     → p.common ≡ length q.names.variables → p.parts ≡ b.auxiliaries → Pairs q p
 pair_by q a b tries p given row is posed second e f own common parts = subst (λ (v : VerbView). PairsBy q v p) (sym is) (record {
   first_space = posed.space ∙ ap (λ (v : VerbView). space_of (names_under q.names v)) is;
   first = posed.constraints;
   second_space = second;
-  own = subst₂ (λ (g r : ℕ). AreStated p.space (origins_from (length b.names.variables) g r b.lines) (line_demands (length b.names.variables) b.lines) p.own.items) e f
-      (subst (λ (n : ℕ). AreStated p.space (origins_from n given row b.lines) (line_demands n b.lines) p.own.items) (ap (λ (s : Space). s.variables) second) own);
+  own = subst₂ (λ (g r : ℕ). AreStated p.space (origins_from (length b.names.variables) g r b.lines)
+      (line_demands (length b.names.variables) b.lines) p.own.items) e f
+      (subst (λ (n : ℕ). AreStated p.space (origins_from n given row b.lines) (line_demands n b.lines) p.own.items)
+      (ap (λ (s : Space). s.variables) second) own);
   common = common;
   parts = parts;
 })

@@ -45,7 +45,8 @@ union_bit i s j t u et eu (inl below) =
     let b : u ≡ 0 = eu ∙ ap (λ z. cond z 0 (bit_at s j)) (lt-ltb j (i + 1) (omega arith)) in
     ap₂ max a b ∙ ap (λ z. cond z 0 (bit_at s j)) (sym (lt-ltb j i below))
 union_bit i s j t u et eu (inr (inl same)) =
-    let a : t ≡ bit_at s j = et ∙ ap (λ k. bit_at (cond (eqb (bit_at s i) 1) (2 ^ i) 0) k) same ∙ term_same s i (eqb (bit_at s i) 1) refl ∙ ap (bit_at s) (sym same) in
+    let a : t ≡ bit_at s j = et ∙ ap (λ k. bit_at (cond (eqb (bit_at s i) 1) (2 ^ i) 0) k) same ∙ term_same s i (eqb (bit_at s i) 1) refl
+    ∙ ap (bit_at s) (sym same) in
     let b : u ≡ 0 = eu ∙ ap (λ z. cond z 0 (bit_at s j)) (lt-ltb j (i + 1) (omega arith)) in
     let c : max t u ≡ bit_at s j = omega (arith, a, b) in
     c ∙ ap (λ z. cond z 0 (bit_at s j)) (sym (le-ltb j i (omega arith)))
@@ -75,7 +76,8 @@ union_bits (suc k) i parts s j lt =
 
 pub common_stay : (common : ℕ) (parts : List ℕ) (s : ℕ) → s < 2 ^ common → union_of_images (substituted_sets common parts) s ≡ s
 common_stay common parts s lt = same_from_bits (union_of_images (substituted_sets common parts) s) s (λ j.
-    union_bits common 0 parts s j (let e : 0 + common ≡ common = omega arith in subst (λ n. s < 2 ^ n) (sym e) lt) ∙ ap (λ z. cond z 0 (bit_at s j)) (le-ltb j 0 (omega arith)))
+    union_bits common 0 parts s j (let e : 0 + common ≡ common = omega arith in subst (λ n. s < 2 ^ n) (sym e) lt)
+    ∙ ap (λ z. cond z 0 (bit_at s j)) (le-ltb j 0 (omega arith)))
 
 -- ---- the list of what the variables stand for
 
@@ -104,17 +106,20 @@ unfolding pulled_coordinate
 coordinate_above_sets n m sets c le = ap (λ b. cond b (union_of_images sets c) (2 ^ n + (c - 2 ^ m))) (le-ltb c (2 ^ m) le)
 
 pub coordinate_of_rate : (n m : ℕ) (sets : List ℕ) (r : ℕ) → pulled_coordinate n m sets (2 ^ m + r) ≡ 2 ^ n + r
-coordinate_of_rate n m sets r = let le : 2 ^ m ≤ 2 ^ m + r = omega arith in let e : 2 ^ n + ((2 ^ m + r) - 2 ^ m) ≡ 2 ^ n + r = omega arith in coordinate_above_sets n m sets (2 ^ m + r) le ∙ e
+coordinate_of_rate n m sets r = let le : 2 ^ m ≤ 2 ^ m + r = omega arith in let e : 2 ^ n + ((2 ^ m + r) - 2 ^ m) ≡ 2 ^ n + r = omega arith
+    in coordinate_above_sets n m sets (2 ^ m + r) le ∙ e
 
 pub image_up_to : (s : Space) (sets : List ℕ) (c : ℕ) → All (λ x. x < 2 ^ s.variables) sets → union_of_images sets c ≤ size_of s
 image_up_to s sets c a = omega (arith, union_below s.variables 0 sets c a)
 
 -- ---- loops that list them
 
-pub singles-more : (old new : List ℕ) (i count : ℕ) → i < count → new ≡ old ++ 2 ^ i ∷ [] → old ++ singles i (count - i) ≡ singles 0 count → new ++ singles (i + 1) (count - (i + 1)) ≡ singles 0 count
+pub singles-more : (old new : List ℕ) (i count : ℕ) → i < count → new ≡ old ++ 2 ^ i ∷ [] → old ++ singles i (count - i) ≡ singles 0 count
+    → new ++ singles (i + 1) (count - (i + 1)) ≡ singles 0 count
 singles-more old new i count l e h =
     let k : count - i ≡ suc (count - (i + 1)) = omega arith in
-    ap (λ (xs : List ℕ). xs ++ singles (i + 1) (count - (i + 1))) e ∙ append_assoc old (2 ^ i ∷ []) (singles (i + 1) (count - (i + 1))) ∙ ap (λ j. old ++ singles i j) (sym k) ∙ h
+    ap (λ (xs : List ℕ). xs ++ singles (i + 1) (count - (i + 1))) e ∙ append_assoc old (2 ^ i ∷ []) (singles (i + 1) (count - (i + 1)))
+    ∙ ap (λ j. old ++ singles i j) (sym k) ∙ h
 
 pub singles-end : (now : List ℕ) (i count : ℕ) → count ≤ i → now ++ singles i (count - i) ≡ singles 0 count → now ≡ singles 0 count
 singles-end now i count l h = let k : count - i ≡ 0 = omega arith in sym (append-nil now) ∙ ap (λ j. now ++ singles i j) (sym k) ∙ h

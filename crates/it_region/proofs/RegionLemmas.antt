@@ -55,7 +55,8 @@ pulled_point_is_in q a b tries parts k is s p inside owe =
     (all_met (pulled_coordinate n m sets) p (line_demands m b.lines) owe) in
     record {
       is_in = record {
-        polymatroid = pulled_polymatroid n m p image sets (sets_within n common parts few s.within) (λ t l. ap p (coordinate_of_set n m sets t l)) inside.polymatroid;
+        polymatroid = pulled_polymatroid n m p image sets (sets_within n common parts few s.within)
+            (λ t l. ap p (coordinate_of_set n m sets t l)) inside.polymatroid;
         lines_hold = record {
           givens = All-append (IsTrueAt m image) q.lines.givens b.lines.givens
               (all_true common rates n m p image agree q.lines.givens k.lines.givens shared_givens.0)
@@ -69,5 +70,7 @@ pulled_point_is_in q a b tries parts k is s p inside owe =
     }
 
 pub obligations_contain : ObligationsContain
-obligations_contain q a b tries parts k is s owe p inside =
-    (pulled_map (length a.names.variables) (length b.names.variables) (substituted_sets (length q.names.variables) parts) p, pulled_point_is_in q a b tries parts k is s p inside (owe p inside))
+obligations_contain q a b tries parts k is s owe p inside = (
+  pulled_map (length a.names.variables) (length b.names.variables) (substituted_sets (length q.names.variables) parts) p,
+  pulled_point_is_in q a b tries parts k is s p inside (owe p inside),
+)

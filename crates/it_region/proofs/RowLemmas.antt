@@ -7,10 +7,10 @@ use Rattle.it_demand.specs.Targets.{inequalities_of}
 use Rattle.it_number.proofs.Integers.{zring}
 use Rattle.it_space.proofs.ListLemmas.{drop_item}
 use Rattle.it_space.specs.declared.spaces.Space.{Space}
-use Rattle.it_space.specs.declared.problems.Kind.{Kind}
-use Rattle.it_space.specs.declared.problems.Kind.TheVariants.{Inequality, Equation}
-use Rattle.it_space.specs.declared.problems.Constraint.{Constraint}
-use Rattle.it_space.specs.Problems.{Meets, IsMet, AreMet}
+use Rattle.it_problems.specs.declared.problems.Kind.{Kind}
+use Rattle.it_problems.specs.declared.problems.Kind.TheVariants.{Inequality, Equation}
+use Rattle.it_problems.specs.declared.problems.Constraint.{Constraint}
+use Rattle.it_problems.specs.Problems.{Meets, IsMet, AreMet}
 use Rattle.it_space.specs.Rows.{Terms, IsCanonical, IsOver, value, row_mass}
 use Rattle.it_space.specs.Spaces.{size_of}
 use Rattle.it_polymatroid.specs.Certificates.{Form}
@@ -31,7 +31,8 @@ pub record IsUnderWay (f : ℕ → ℕ) (turned : Bool) (whole : Terms) (size : 
   pub small : largest now + row_mass (drop i whole) ≤ row_mass whole
   pub sum : (p : ℕ → ℤ) → dense_form now p +ℤ signed_form f turned (drop i whole) p ≡ signed_form f turned whole p
 
-signed_form-cons : (f : ℕ → ℕ) (turned : Bool) (t : ℕ × ℤ) (ts : Terms) (p : ℕ → ℤ) → signed_form f turned (t ∷ ts) p ≡ signed_by turned t.1 *ℤ p (f t.0) +ℤ signed_form f turned ts p
+signed_form-cons : (f : ℕ → ℕ) (turned : Bool) (t : ℕ × ℤ) (ts : Terms) (p : ℕ → ℤ)
+    → signed_form f turned (t ∷ ts) p ≡ signed_by turned t.1 *ℤ p (f t.0) +ℤ signed_form f turned ts p
 signed_form-cons f true t ts p = negated_sum t.1 (p (f t.0)) (value ts (λ c. p (f c)))
   where
     negated_sum : (x y z : ℤ) → neg_ℤ (x *ℤ y +ℤ z) ≡ neg_ℤ x *ℤ y +ℤ neg_ℤ z
@@ -39,12 +40,15 @@ signed_form-cons f true t ts p = negated_sum t.1 (p (f t.0)) (value ts (λ c. p 
 signed_form-cons f false t ts p = refl
 
 pub goes_on : (f : ℕ → ℕ) (turned : Bool) (whole : Terms) (size : ℕ) (now new : List ℤ) (i : ℕ) (t : ℕ × ℤ) → i < length whole → t ≡ get_or whole i t
-    → IsFormAdded now new (unsigned_abs t.1) (λ p. signed_by turned t.1 *ℤ p (f t.0)) → IsUnderWay f turned whole size now i → IsUnderWay f turned whole size new (i + 1)
+    → IsFormAdded now new (unsigned_abs t.1) (λ p. signed_by turned t.1 *ℤ p (f t.0)) → IsUnderWay f turned whole size now i
+    → IsUnderWay f turned whole size new (i + 1)
 goes_on f turned whole size now new i t l is a u = record {
   complete = a.complete ∙ u.complete;
   small = omega (arith, a.small, u.small, ap row_mass (drop_item whole i t l is));
-  sum = λ p. sum_with_rest (dense_form new p) (dense_form now p) (signed_by turned t.1 *ℤ p (f t.0)) (signed_form f turned (drop (i + 1) whole) p) (signed_form f turned whole p) (a.sum p)
-      (ap (λ x. dense_form now p +ℤ x) (sym (ap (λ (ts : Terms). signed_form f turned ts p) (drop_item whole i t l is) ∙ signed_form-cons f turned t (drop (i + 1) whole) p)) ∙ u.sum p);
+  sum = λ p. sum_with_rest (dense_form new p) (dense_form now p) (signed_by turned t.1 *ℤ p (f t.0))
+      (signed_form f turned (drop (i + 1) whole) p) (signed_form f turned whole p) (a.sum p)
+      (ap (λ x. dense_form now p +ℤ x) (sym (ap (λ (ts : Terms). signed_form f turned ts p) (drop_item whole i t l is)
+      ∙ signed_form-cons f turned t (drop (i + 1) whole) p)) ∙ u.sum p);
 }
   where
     sum_with_rest : (new now x rest all : ℤ) → new ≡ now +ℤ x → now +ℤ (x +ℤ rest) ≡ all → new +ℤ rest ≡ all
@@ -54,8 +58,10 @@ signed_form-nil : (f : ℕ → ℕ) (turned : Bool) (p : ℕ → ℤ) → signed
 signed_form-nil f true p = refl
 signed_form-nil f false p = refl
 
-pub row_at_end : {E : Type 0} (s : Space) (f : ℕ → ℕ) (turned : Bool) (whole : Terms) (now : List ℤ) (i : ℕ) (row : Result Terms E) → length whole ≤ i → IsUnderWay f turned whole (size_of s) now i
-    → IfOk row (λ r. (p : ℕ → ℤ) → p 0 ≡ pos 0 → value r p ≡ dense_form now p) → IfOk row (IsOver (length now - 1)) → IfOk row IsCanonical → IfOk row (IsPulledRow s (signed_form f turned whole))
+pub row_at_end : {E : Type 0} (s : Space) (f : ℕ → ℕ) (turned : Bool) (whole : Terms) (now : List ℤ) (i : ℕ) (row : Result Terms E)
+    → length whole ≤ i → IsUnderWay f turned whole (size_of s) now i
+    → IfOk row (λ r. (p : ℕ → ℤ) → p 0 ≡ pos 0 → value r p ≡ dense_form now p) → IfOk row (IsOver (length now - 1)) → IfOk row IsCanonical
+    → IfOk row (IsPulledRow s (signed_form f turned whole))
 row_at_end s f turned whole now i (Err e) l u same up can = tt
 row_at_end s f turned whole now i (Ok row) l u same up can = record {
   same = λ p z. same p z ∙ omega (arith, ints, u.sum p, ap (λ (ts : Terms). signed_form f turned ts p) (drop_all i whole l) ∙ signed_form-nil f turned p);
@@ -73,16 +79,23 @@ abbrev pub IsFormAtLeastZero : (ℕ → ℤ) → Form → Type 0
 IsFormAtLeastZero p f = pos 0 ≤ℤ f p
 
 -- each row has the value of its form
-pub rows_same : (s : Space) (fs : List Form) (rows : List Terms) (p : ℕ → ℤ) → p 0 ≡ pos 0 → ArePulledRows s fs rows → AreAtLeastZero p rows ↔ All (IsFormAtLeastZero p) fs
+pub rows_same : (s : Space) (fs : List Form) (rows : List Terms) (p : ℕ → ℤ) → p 0 ≡ pos 0 → ArePulledRows s fs rows
+    → AreAtLeastZero p rows ↔ All (IsFormAtLeastZero p) fs
 rows_same s fs rows p z a = zip-same (IsPulledRow s) (IsFormAtLeastZero p) (λ (row : Terms). pos 0 ≤ℤ value row p)
     (λ f row r. (λ h. subst (λ (x : ℤ). pos 0 ≤ℤ x) (r.same p z) h, λ h. subst (λ (x : ℤ). pos 0 ≤ℤ x) (sym (r.same p z)) h)) fs rows a
 
 pub demanded_forms_met : (k : Kind) (form : Form) (p : ℕ → ℤ) → All (IsFormAtLeastZero p) (inequalities_of k form) ↔ Meets k (form p)
-demanded_forms_met Inequality form p = (λ a. All-head (IsFormAtLeastZero p) form [] a, λ h. All-cons (IsFormAtLeastZero p) form [] h (All-nil (IsFormAtLeastZero p)))
+demanded_forms_met Inequality form p = (
+  λ a. All-head (IsFormAtLeastZero p) form [] a,
+  λ h. All-cons (IsFormAtLeastZero p) form [] h
+      (All-nil (IsFormAtLeastZero p)),
+)
 demanded_forms_met Equation form p =
     let down : Form = λ q. neg_ℤ (form q) in (
-      λ a. let up = All-head (IsFormAtLeastZero p) form (down ∷ []) a in let low = All-head (IsFormAtLeastZero p) down [] (All-tail (IsFormAtLeastZero p) form (down ∷ []) a) in omega (arith, ints, up, low),
-      λ h. All-cons (IsFormAtLeastZero p) form (down ∷ []) (omega (arith, ints, h)) (All-cons (IsFormAtLeastZero p) down [] (omega (arith, ints, h)) (All-nil (IsFormAtLeastZero p))),
+      λ a. let up = All-head (IsFormAtLeastZero p) form (down ∷ []) a in let low = All-head (IsFormAtLeastZero p) down []
+          (All-tail (IsFormAtLeastZero p) form (down ∷ []) a) in omega (arith, ints, up, low),
+      λ h. All-cons (IsFormAtLeastZero p) form (down ∷ []) (omega (arith, ints, h))
+          (All-cons (IsFormAtLeastZero p) down [] (omega (arith, ints, h)) (All-nil (IsFormAtLeastZero p))),
     )
 
 forms_met : (f : ℕ → ℕ) (p : ℕ → ℤ) (cs : List Constraint) → All (IsFormAtLeastZero p) (constraint_obligations f cs) ↔ AreMet (λ c. p (f c)) cs
@@ -91,8 +104,10 @@ forms_met f p (c ∷ cs) =
     let first : List Form = inequalities_of c.kind (pulled_form f (value c.row)) in
     let one = demanded_forms_met c.kind (pulled_form f (value c.row)) p in
     let rest = forms_met f p cs in (
-      λ a. let each = All-parts (IsFormAtLeastZero p) first (constraint_obligations f cs) a in All-cons (IsMet (λ c. p (f c))) c cs (one.0 each.0) (rest.0 each.1),
-      λ h. All-append (IsFormAtLeastZero p) first (constraint_obligations f cs) (one.1 (All-head (IsMet (λ c. p (f c))) c cs h)) (rest.1 (All-tail (IsMet (λ c. p (f c))) c cs h)),
+      λ a. let each = All-parts (IsFormAtLeastZero p) first (constraint_obligations f cs) a
+          in All-cons (IsMet (λ c. p (f c))) c cs (one.0 each.0) (rest.0 each.1),
+      λ h. All-append (IsFormAtLeastZero p) first (constraint_obligations f cs) (one.1 (All-head (IsMet (λ c. p (f c))) c cs h))
+          (rest.1 (All-tail (IsMet (λ c. p (f c))) c cs h)),
     )
 
 pub obligations_met : (s : Space) (f : ℕ → ℕ) (cs : List Constraint) (rows : List Terms) → ArePulledRows s (constraint_obligations f cs) rows
@@ -106,11 +121,13 @@ pub obligations_up_to : (s : Space) (fs : List Form) (rows : List Terms) → Are
 obligations_up_to s fs rows a = zip-right (IsPulledRow s) (IsOver (size_of s)) (λ f row r. r.coordinates) fs rows a
 
 -- of a result whose rows are a vector's items
-pub met_of : {E : Type 0} (s : Space) (g f : ℕ → ℕ) (cs : List Constraint) (r : Result (Vec Terms Global) E) → g ≡ f → IfOk r (λ v. ArePulledRows s (constraint_obligations g cs) v.items)
+pub met_of : {E : Type 0} (s : Space) (g f : ℕ → ℕ) (cs : List Constraint) (r : Result (Vec Terms Global) E) → g ≡ f
+    → IfOk r (λ v. ArePulledRows s (constraint_obligations g cs) v.items)
     → IfOk r (λ v. (p : ℕ → ℤ) → p 0 ≡ pos 0 → AreAtLeastZero p v.items ↔ AreMet (λ c. p (f c)) cs)
 met_of s g f cs (Err e) is a = tt
 met_of s g f cs (Ok v) is a = obligations_met s f cs v.items (subst (λ (h : ℕ → ℕ). ArePulledRows s (constraint_obligations h cs) v.items) is a)
 
-pub up_to_of : {E : Type 0} (s : Space) (fs : List Form) (r : Result (Vec Terms Global) E) → IfOk r (λ v. ArePulledRows s fs v.items) → IfOk r (λ v. All (IsOver (size_of s)) v.items)
+pub up_to_of : {E : Type 0} (s : Space) (fs : List Form) (r : Result (Vec Terms Global) E) → IfOk r (λ v. ArePulledRows s fs v.items)
+    → IfOk r (λ v. All (IsOver (size_of s)) v.items)
 up_to_of s fs (Err e) a = tt
 up_to_of s fs (Ok v) a = obligations_up_to s fs v.items a

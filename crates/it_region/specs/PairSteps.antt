@@ -1,6 +1,6 @@
 -- Parts of `obligations`. No public clause cites this module: it serves the proofs of private functions.
 use Rattle.std.specs.Prelude.{◌≡◌, ℕ, ◌<◌, ◌^◌, List, length, All}
-use Rattle.it_space.specs.declared.problems.Constraint.{Constraint}
+use Rattle.it_problems.specs.declared.problems.Constraint.{Constraint}
 use Rattle.it_space.specs.Rows.{value}
 use Rattle.it_polymatroid.specs.Certificates.{Form}
 use Rattle.it_demand.specs.Targets.{inequalities_of}

@@ -1,6 +1,6 @@
 -- Pairs of regions, and the candidates that fit them.
 use Rattle.std.specs.Prelude.{◌≡◌, ℕ, ◌+◌, ◌<◌, ◌≤◌, ◌^◌, ℤ, List, take, length, All}
-use Rattle.it_space.specs.Problems.{IsProblem}
+use Rattle.it_problems.specs.Problems.{IsProblem}
 use Rattle.it_space.specs.Rows.{IsOver, row_mass}
 use Rattle.it_space.specs.Spaces.{IsSpace, size_of}
 use Rattle.it_polymatroid.specs.Certificates.{Form}
@@ -9,7 +9,7 @@ use Rattle.it_demand.specs.Origins.{AreStated}
 use Rattle.it_canon.specs.QuestionDemands.{question_demands, question_origins}
 use Rattle.it_question.specs.LineOrigins.{origins_from}
 use Rattle.it_question.specs.LineDemands.{line_demands}
-use Rattle.it_space.specs.declared.problems.Origin.{Origin}
+use Rattle.it_problems.specs.declared.problems.Origin.{Origin}
 use Rattle.it_demand.specs.QuestionSpaces.{space_of}
 use Rattle.it_region.specs.declared.types.Pair.{Pair}
 use Rattle.it_region.specs.declared.types.Candidate.{Candidate}

@@ -2,6 +2,7 @@
 ghost use Rattle.std.specs.Prelude.{◌↔◌, ◌<◌, ◌≤◌, ◌^◌, nat_lt, take, All, IsTrue, ◌≡◌};
 ghost use Rattle.std.specs.List.{list_all};
 ghost use Rattle.it_region.specs.Pairs.{IsPair, FitsPair};
+ghost use Rattle.it_space.specs.Spaces.{most_variables};
 
 use crate::types::{Candidate, Pair};
 use it_space::VarSet;
@@ -21,7 +22,7 @@ pub fn fits(pair: &Pair, candidate: &Candidate) -> bool
 /// Whether the first `count` parts of `candidate` are sets of `variables` variables.
 fn are_within(candidate: &Candidate, variables: u8) -> bool
     requires few { candidate.now.count ≤ 4 }
-    requires variables { variables ≤ 10 }
+    requires variables { variables ≤ most_variables }
     ensures { IsTrue result ↔ All (λ s. s < 2 ^ variables) (take candidate.now.count candidate.now.parts) }
 {
     are_below(&candidate.parts, candidate.count as usize, 1 << variables)

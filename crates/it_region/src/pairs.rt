@@ -1,6 +1,6 @@
 //! The two regions of a containment question.
 ghost use Rattle.std.specs.Prelude.{IfOk};
-ghost use Rattle.it_space.specs.Problems.{IsProblem};
+ghost use Rattle.it_problems.specs.Problems.{IsProblem};
 ghost use Rattle.it_question.specs.Limits.{IsQuestion};
 ghost use Rattle.it_question.specs.Questions.{question_body};
 ghost use Rattle.it_region.specs.Pairs.{IsPair, Pairs, IsContainment};

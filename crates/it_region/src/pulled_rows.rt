@@ -1,8 +1,8 @@
 //! The obligations of a candidate.
 ghost use Rattle.std.specs.Prelude.{◌≡◌, ◌+◌, ◌<◌, ◌≤◌, ◌^◌, ◌*ℤ◌, ◌↔◌, unsigned_abs, length, All, IfOk};
-ghost use Rattle.it_space.specs.Problems.{AreMet};
+ghost use Rattle.it_problems.specs.Problems.{AreMet};
 ghost use Rattle.it_space.specs.Rows.{IsOver, value, row_mass};
-ghost use Rattle.it_space.specs.Spaces.{size_of};
+ghost use Rattle.it_space.specs.Spaces.{size_of, most_variables};
 ghost use Rattle.it_demand.specs.SystemForms.{AreAtLeastZero, AtMaps};
 ghost use Rattle.it_demand.specs.Coefficients.{largest, signed_by, IsFormAdded};
 ghost use Rattle.it_region.specs.Obligations.{constraint_obligations, ArePulledRows, IsPulledRow};
@@ -13,7 +13,8 @@ ghost use Rattle.it_region.specs.Pairs.{FitsPair, IsPair, pair_obligations, cand
 use crate::types::{Candidate, Pair};
 use it_canon::Coefficients;
 use it_polymatroid::union_of_images;
-use it_space::{Constraint, Kind, Row, VarSet};
+use it_problems::{Constraint, Kind};
+use it_space::{Row, VarSet};
 use std::alloc::{AllocError, Global};
 
 /// The set that each variable of the second region stands for, in order.
@@ -35,7 +36,7 @@ fn candidate_sets(
 
 /// The sets of one variable each, for the first `count` variables.
 fn singles(alloc: Global, count: u8) -> Result<Vec<VarSet>, AllocError>
-    requires { count ≤ 10 }
+    requires { count ≤ most_variables }
     ensures { IfOk result (λ v. v.items ≡ singles 0 count) }
 {
     let mut sets = Vec::new(alloc);

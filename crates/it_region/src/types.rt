@@ -1,5 +1,6 @@
 //! Pairs of regions, and substitutions for them.
-use it_space::{Constraint, Problem, Space, VarSet};
+use it_problems::{Constraint, Problem};
+use it_space::{Space, VarSet};
 
 /// A set of the first region's variables for each of the first `count` auxiliaries, in order of declaration.
 #[derive(Clone, Copy, Debug, PartialEq, Eq)]

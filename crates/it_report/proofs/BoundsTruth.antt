@@ -3,7 +3,7 @@ use Rattle.std.proofs.Common.{◌≡◌, ℕ, ℤ, pos, ◌≤ℤ◌, List, [], 
 use Rattle.std.specs.List.{AllByRecursion as Every}
 use Rattle.it_space.specs.declared.spaces.Space.{Space}
 use Rattle.it_space.specs.Answers.{CertificateView}
-use Rattle.it_space.specs.Problems.{ProblemView, IsProblem}
+use Rattle.it_problems.specs.Problems.{ProblemView, IsProblem}
 use Rattle.it_space.specs.Rows.{Terms, IsOver, point_of, value}
 use Rattle.it_space.specs.Spaces.{size_of}
 use Rattle.it_space.proofs.EveryLemmas.{all_of, every_of}
@@ -43,7 +43,8 @@ use Rattle.it_report.proofs.VerdictLemmas.{both_valid}
 -- ---- valid rows and rays
 
 module _ (p : ProblemView) (k : IsProblem p) where
-  pub rows_hold : (rows : List Terms) (ws : List CertificateView) → Every (IsOver (size_of p.space)) rows → length ws ≡ length rows → proofs_verdict p rows ws ≡ Valid
+  pub rows_hold : (rows : List Terms) (ws : List CertificateView) → Every (IsOver (size_of p.space)) rows → length ws ≡ length rows
+      → proofs_verdict p rows ws ≡ Valid
       → Every (λ row. (x : ℕ → ℤ) → MeetsProblem p x → pos 0 ≤ℤ value row x) rows
   unfolding proofs_verdict
   rows_hold [] ws o l e = tt
@@ -68,18 +69,25 @@ module _ (q : BodyView) (b : BoundsView) (k : IsQuestion q) (fits : HasBoundsSha
   rays_true : (rays : List (List ℤ)) → Every (MeetsAt p) rays → Every (IsTrueRay q) rays
   rays_true [] m = tt
   rays_true (values ∷ rays) m = (
-    record { complete = at_question q p posed (λ s. length values ≡ size_of s) m.0.complete; lines_true = meets_true q p posed (point_of values) (m.0.polymatroid, m.0.met) },
+    record {
+      complete = at_question q p posed (λ s. length values ≡ size_of s) m.0.complete;
+      lines_true = meets_true q p posed
+          (point_of values) (m.0.polymatroid, m.0.met);
+    },
     rays_true rays m.1,
   )
 
-  pub exact_bounds : proofs_verdict p b.rows b.proofs ≡ Valid → rays_verdict p b.steps ≡ Valid → HullVerdictIs q b HullIsValid → AreExactBounds q (gone_rates q.verb) b.rows (rays_of b.steps)
+  pub exact_bounds : proofs_verdict p b.rows b.proofs ≡ Valid → rays_verdict p b.steps ≡ Valid → HullVerdictIs q b HullIsValid
+      → AreExactBounds q (gone_rates q.verb) b.rows (rays_of b.steps)
   exact_bounds rows rays hull =
       let gone = gone_rates q.verb in
       let over = every_of (IsOver (size_of p.space)) b.rows (to_problem (λ s. All (IsOver (size_of s)) b.rows) fits.rows) in
-      let complete = every_of (λ (s : StepView). length s.ray ≡ size_of p.space) b.steps (to_problem (λ s. All (λ (x : StepView). length x.ray ≡ size_of s) b.steps) fits.rays) in
+      let complete = every_of (λ (s : StepView). length s.ray ≡ size_of p.space) b.steps
+      (to_problem (λ s. All (λ (x : StepView). length x.ray ≡ size_of s) b.steps) fits.rays) in
       let is_hull : IsHull (kept_rates q gone) b.rows (rays_of b.steps) =
       let asked = asked_rates q fits.gone k fits.asked in
-      valid_rows (hull_frame most_rows q) (kept_rates q gone) b.steps b.rows hull.end HullIsValid (is_frame most_rows q k (omega arith) asked) (are_kept most_rows q k (omega arith) asked) hull.ends hull.verdict_is refl in
+      valid_rows (hull_frame most_rows q) (kept_rates q gone) b.steps b.rows hull.end HullIsValid
+      (is_frame most_rows q k (omega arith) asked) (are_kept most_rows q k (omega arith) asked) hull.ends hull.verdict_is refl in
       hull_is_exact q p gone b.rows (rays_of b.steps) posed is_hull
       (all_of (λ (row : Terms). (x : ℕ → ℤ) → MeetsProblem p x → pos 0 ≤ℤ value row x) b.rows (rows_hold p posed.limits b.rows b.proofs over fits.proofs rows))
       (all_of (IsTrueRay q) (rays_of b.steps) (rays_true (rays_of b.steps) (rays_met p posed.limits b.steps complete rays)))

@@ -5,7 +5,7 @@ use Rattle.std.proofs.lemmas.Bool.{true≢false}
 use Rattle.std.proofs.lemmas.Int.{ints}
 use Rattle.it_space.specs.declared.spaces.Space.{Space}
 use Rattle.it_space.specs.Answers.{CertificateView}
-use Rattle.it_space.specs.Problems.{ProblemView, AreMet}
+use Rattle.it_problems.specs.Problems.{ProblemView, AreMet}
 use Rattle.it_space.specs.Rows.{Terms, IsOver, one_at, point_of, value}
 use Rattle.it_space.specs.Spaces.{size_of}
 use Rattle.it_space.proofs.OptionLemmas.{some_same}
@@ -116,9 +116,11 @@ module _ (size : ℕ) (left right : Terms) (left_over : IsOver size left) (right
   value_is m z =
       (value_linear size row (row_over size num den left right)).sum m z
       ∙ dot_from_one (size + 1) (λ c. value row (one_at c)) (λ c. num *ℤ value left (one_at c) -ℤ den *ℤ value right (one_at c)) m z
-      (λ c h l. value-one_at row c ∙ number_at size num den left right c (omega (arith, h)) (omega (arith, l)) ∙ ap₂ (λ (x y : ℤ). num *ℤ x -ℤ den *ℤ y) (sym (value-one_at left c)) (sym (value-one_at right c)))
+      (λ c h l. value-one_at row c ∙ number_at size num den left right c (omega (arith, h)) (omega (arith, l))
+      ∙ ap₂ (λ (x y : ℤ). num *ℤ x -ℤ den *ℤ y) (sym (value-one_at left c)) (sym (value-one_at right c)))
       ∙ sym ((linear-sub (size + 1) (λ p. num *ℤ value left p) (λ p. den *ℤ value right p)
-      (linear-scale (size + 1) num (value left) (value_linear size left left_over)) (linear-scale (size + 1) den (value right) (value_linear size right right_over))).sum m z)
+      (linear-scale (size + 1) num (value left) (value_linear size left left_over))
+      (linear-scale (size + 1) den (value right) (value_linear size right right_over))).sum m z)
 
 -- ---- certificates and points
 
@@ -126,22 +128,26 @@ module _ (q : BodyView) (p : ProblemView) (is : IsProblemOf q p) where
   met_there : (m : ℕ → ℤ) → AreTrueTogether q m → IsPolymatroid p.space.variables m × AreMet m p.constraints
   met_there m h = (
     subst (λ (s : Space). IsPolymatroid s.variables m) (sym is.space) h.0,
-    (question_met q p.space p.constraints is.space is.constraints m h.0.empty).1 (subst (λ (s : Space). AreTrueAt s.variables m (problem_lines q)) (sym is.space) h.1),
+    (question_met q p.space p.constraints is.space is.constraints m h.0.empty).1
+        (subst (λ (s : Space). AreTrueAt s.variables m (problem_lines q)) (sym is.space) h.1),
   )
 
-  certified : (t : Terms) (w : CertificateView) → IsOver (size_of p.space) t → proof_verdict p t w ≡ Valid → (m : ℕ → ℤ) → AreTrueTogether q m → pos 0 ≤ℤ value t m
+  certified : (t : Terms) (w : CertificateView) → IsOver (size_of p.space) t → proof_verdict p t w ≡ Valid → (m : ℕ → ℤ)
+      → AreTrueTogether q m → pos 0 ≤ℤ value t m
   certified t w over e m h =
       let by : CertifiesRow p t w = ((valid_yes_is p t w is.limits over).0 e).0 in
       let there = met_there m h in
       yes_is_true p t w is.limits over by m there.0 there.1
 
   refuted : (t : Terms) (values : List ℤ) → IsOver (size_of p.space) t → length values ≡ size_of p.space
-      → no_verdict (length (elementals p.space.variables)) (generators p) t (point_of values) ≡ Valid → AreTrueTogether q (point_of values) × (value t (point_of values) ≤ℤ neg_ℤ (pos 1))
+      → no_verdict (length (elementals p.space.variables)) (generators p) t (point_of values) ≡ Valid
+      → AreTrueTogether q (point_of values) × (value t (point_of values) ≤ℤ neg_ℤ (pos 1))
   refuted t values over complete e =
       let by : RefutesRow p t values = ((valid_no_is p t values is.limits over complete).0 e).0 in (
         (
           subst (λ (s : Space). IsPolymatroid s.variables (point_of values)) is.space by.polymatroid,
-          subst (λ (s : Space). AreTrueAt s.variables (point_of values) (problem_lines q)) is.space ((question_met q p.space p.constraints is.space is.constraints (point_of values) refl).0 by.met),
+          subst (λ (s : Space). AreTrueAt s.variables (point_of values) (problem_lines q)) is.space
+              ((question_met q p.space p.constraints is.space is.constraints (point_of values) refl).0 by.met),
         ),
         by.violated,
       )
@@ -157,10 +163,12 @@ module _ (q : BodyView) (p : ProblemView) (is : IsProblemOf q p) where
     over num den = row_over size num den left right
 
     value_at : (num den : ℤ) (m : ℕ → ℤ) → m 0 ≡ pos 0 → value (row_for num den) m ≡ num *ℤ f m -ℤ den *ℤ g m
-    value_at num den m z = value_is size left right left_is.coordinates right_is.coordinates num den m z ∙ ap₂ (λ (x y : ℤ). num *ℤ x -ℤ den *ℤ y) (left_is.same m z) (right_is.same m z)
+    value_at num den m z = value_is size left right left_is.coordinates right_is.coordinates num den m z
+        ∙ ap₂ (λ (x y : ℤ). num *ℤ x -ℤ den *ℤ y) (left_is.same m z) (right_is.same m z)
 
     -- with a valid certificate of its row a combination of both sides is at least 0 wherever the lines are true
-    holds_by : (num den : ℤ) (w : CertificateView) → proof_verdict p (row_for num den) w ≡ Valid → (m : ℕ → ℤ) → AreTrueTogether q m → pos 0 ≤ℤ (num *ℤ f m -ℤ den *ℤ g m)
+    holds_by : (num den : ℤ) (w : CertificateView) → proof_verdict p (row_for num den) w ≡ Valid → (m : ℕ → ℤ) → AreTrueTogether q m
+        → pos 0 ≤ℤ (num *ℤ f m -ℤ den *ℤ g m)
     holds_by num den w e m h = subst (λ (x : ℤ). pos 0 ≤ℤ x) (value_at num den m h.0.empty) (certified (row_for num den) w (over num den) e m h)
 
     module _ (values : List ℤ) (complete : length values ≡ size) where
@@ -177,9 +185,11 @@ module _ (q : BodyView) (p : ProblemView) (is : IsProblemOf q p) where
       equal_by x y e = omega (arith, ints, e)
 
       -- the point is one of a least factor
-      tight : (num den : ℤ) → tight_verdict p (row_for (neg_ℤ (pos 1)) (pos 0)) (row_for num den) values ≡ valid → AreTrueTogether q m × (pos 1 ≤ℤ f m) × (den *ℤ g m ≡ num *ℤ f m)
+      tight : (num den : ℤ) → tight_verdict p (row_for (neg_ℤ (pos 1)) (pos 0)) (row_for num den) values ≡ valid
+          → AreTrueTogether q m × (pos 1 ≤ℤ f m) × (den *ℤ g m ≡ num *ℤ f m)
       tight num den e =
-          let both = both_valid (no_verdict (length (elementals p.space.variables)) (generators p) (row_for (neg_ℤ (pos 1)) (pos 0)) m) (zero_verdict (length (generators p) + 1) (sum_within (pos 0) (row_for num den) m)) e in
+          let both = both_valid (no_verdict (length (elementals p.space.variables)) (generators p) (row_for (neg_ℤ (pos 1)) (pos 0)) m)
+          (zero_verdict (length (generators p) + 1) (sum_within (pos 0) (row_for num den) m)) e in
           let there = refuted (row_for (neg_ℤ (pos 1)) (pos 0)) values (over (neg_ℤ (pos 1)) (pos 0)) complete both.0 in (
             there.0,
             left_above (f m) (g m) (subst (λ (x : ℤ). x ≤ℤ neg_ℤ (pos 1)) (value_at (neg_ℤ (pos 1)) (pos 0) m refl) there.1),
@@ -189,7 +199,8 @@ module _ (q : BodyView) (p : ProblemView) (is : IsProblemOf q p) where
       -- the point is one at which no factor holds
       never : tight_verdict p (row_for (pos 0) (pos 1)) left values ≡ valid → AreTrueTogether q m × (f m ≡ pos 0) × (pos 1 ≤ℤ g m)
       never e =
-          let both = both_valid (no_verdict (length (elementals p.space.variables)) (generators p) (row_for (pos 0) (pos 1)) m) (zero_verdict (length (generators p) + 1) (sum_within (pos 0) left m)) e in
+          let both = both_valid (no_verdict (length (elementals p.space.variables)) (generators p) (row_for (pos 0) (pos 1)) m)
+          (zero_verdict (length (generators p) + 1) (sum_within (pos 0) left m)) e in
           let there = refuted (row_for (pos 0) (pos 1)) values (over (pos 0) (pos 1)) complete both.0 in (
             there.0,
             sym (left_is.same m refl) ∙ is_zero (length (generators p) + 1) left m both.1,
@@ -204,10 +215,12 @@ module _ (q : BodyView) (p : ProblemView) (is : IsProblemOf q p) where
     rest_of num den judge = with_row (row_unless (unformed size num den left right) (row_for num den))
         (λ factor. with_row (row_unless (unformed size (neg_ℤ (pos 1)) (pos 0) left right) (row_for (neg_ℤ (pos 1)) (pos 0))) (λ turned. judge factor turned))
 
-    rest_is : (num den : ℤ) (judge : Terms → Terms → FactorVerdict) → rest_of num den judge ≡ valid → judge (row_for num den) (row_for (neg_ℤ (pos 1)) (pos 0)) ≡ valid
+    rest_is : (num den : ℤ) (judge : Terms → Terms → FactorVerdict) → rest_of num den judge ≡ valid
+        → judge (row_for num den) (row_for (neg_ℤ (pos 1)) (pos 0)) ≡ valid
     rest_is num den judge e =
         row_taken (unformed size (neg_ℤ (pos 1)) (pos 0) left right) (row_for (neg_ℤ (pos 1)) (pos 0)) (judge (row_for num den))
-        (row_taken (unformed size num den left right) (row_for num den) (λ factor. with_row (row_unless (unformed size (neg_ℤ (pos 1)) (pos 0) left right) (row_for (neg_ℤ (pos 1)) (pos 0))) (judge factor)) e)
+        (row_taken (unformed size num den left right) (row_for num den) (λ factor. with_row
+        (row_unless (unformed size (neg_ℤ (pos 1)) (pos 0) left right) (row_for (neg_ℤ (pos 1)) (pos 0))) (judge factor)) e)
 
     turned_at : (x y : ℤ) → pos 0 ≤ℤ (neg_ℤ (pos 1) *ℤ x -ℤ pos 0 *ℤ y) → pos 0 ≤ℤ neg_ℤ x
     turned_at x y h = omega (arith, ints, h)
@@ -225,17 +238,20 @@ module _ (q : BodyView) (p : ProblemView) (is : IsProblemOf q p) where
         )
     true_by (Never values) shape e =
         let rest = row_taken (unformed size (pos 0) (pos 1) left right) (row_for (pos 0) (pos 1)) (λ turned. tight_verdict p turned left values)
-        (some_same (with_row (row_unless (unformed size (pos 0) (pos 1) left right) (row_for (pos 0) (pos 1))) (λ turned. tight_verdict p turned left values)) valid e) in
+        (some_same (with_row (row_unless (unformed size (pos 0) (pos 1) left right) (row_for (pos 0) (pos 1)))
+        (λ turned. tight_verdict p turned left values)) valid e) in
         let at = never values shape.each rest in
         λ a b from holds. none_at_zero a b (f (point_of values)) (g (point_of values)) at.1 at.2 from (holds (point_of values) at.0)
     true_by (Unbounded num den w below) shape e =
         let one = denominator_is den (rest_of num den (λ factor turned. first_wrong (proof_verdict p factor w) (Checked (proof_verdict p turned below))))
-        (some_same (from_one den (rest_of num den (λ factor turned. first_wrong (proof_verdict p factor w) (Checked (proof_verdict p turned below))))) valid e) in
+        (some_same (from_one den (rest_of num den (λ factor turned. first_wrong (proof_verdict p factor w)
+        (Checked (proof_verdict p turned below))))) valid e) in
         let rest = rest_is num den (λ factor turned. first_wrong (proof_verdict p factor w) (Checked (proof_verdict p turned below))) one.1 in
         let both = both_valid (proof_verdict p (row_for num den) w) (Checked (proof_verdict p (row_for (neg_ℤ (pos 1)) (pos 0)) below)) rest in
         let second = checked_valid (proof_verdict p (row_for (neg_ℤ (pos 1)) (pos 0)) below) both.1 in (
           one.0,
-          λ a b from smaller m h. all_smaller num den a b (f m) (g m) one.0 from smaller (holds_by num den w both.0 m h) (turned_at (f m) (g m) (holds_by (neg_ℤ (pos 1)) (pos 0) below second m h)),
+          λ a b from smaller m h. all_smaller num den a b (f m) (g m) one.0 from smaller (holds_by num den w both.0 m h)
+              (turned_at (f m) (g m) (holds_by (neg_ℤ (pos 1)) (pos 0) below second m h)),
         )
     true_by (Undecided cause) shape e = tt
 
@@ -288,10 +304,12 @@ told_true q best names k small shape (Some r) asks e =
 pub valid_factor_is_true : ValidFactorIsTrue
 valid_factor_is_true line names source best h reads =
     let q = (asked source).body in
-    let e : h.reading ≡ Factored source best = same_read h.reading (Factored source best) (one_reading line (Ok h.reading) (Ok (Factored source best)) h.reads reads) in
+    let e : h.reading ≡ Factored source best = same_read h.reading (Factored source best)
+    (one_reading line (Ok h.reading) (Ok (Factored source best)) h.reads reads) in
     let told : Weighed names valid ≡ factor_line_verdict (asked source).body best = subst (λ x. IsReadingVerdict x (Weighed names valid)) e h.verdict in
     let about = best_source_read line source best reads in
-    told_true q best names (source_limits reads.value source about) (source_numbers reads.value source about) (best_fits_question line source best reads).shape (asked_by q.verb) refl told
+    told_true q best names (source_limits reads.value source about) (source_numbers reads.value source about)
+    (best_fits_question line source best reads).shape (asked_by q.verb) refl told
 
 -- ---- of a sharing file
 

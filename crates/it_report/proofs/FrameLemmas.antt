@@ -5,6 +5,8 @@ use Rattle.it_spans.specs.declared.types.Step.{Step}
 use Rattle.it_spans.specs.Spans.{StepView, step_view, step_views}
 
 -- steps have a value for each coordinate where their views have
-pub steps_complete : (size : ℕ) (steps : List Step) → All (λ (v : StepView). length v.ray ≡ size) (step_views steps) → All (λ (s : Step). length s.ray ≡ size) steps
+pub steps_complete : (size : ℕ) (steps : List Step) → All (λ (v : StepView). length v.ray ≡ size) (step_views steps)
+    → All (λ (s : Step). length s.ray ≡ size) steps
 steps_complete size steps h k d l =
-    sym (ap (λ (v : StepView). length v.ray) (get_or-map step_view steps k d (step_view d) l)) ∙ h k (step_view d) (subst (λ n. k < n) (sym (length-map steps step_view)) l)
+    sym (ap (λ (v : StepView). length v.ray) (get_or-map step_view steps k d (step_view d) l))
+    ∙ h k (step_view d) (subst (λ n. k < n) (sym (length-map steps step_view)) l)

@@ -7,7 +7,7 @@ use Rattle.std.proofs.lemmas.Nat.{pow_pos}
 use Rattle.it_space.specs.declared.spaces.Space.{Space}
 use Rattle.it_space.specs.Answers.{AnswerView, CertificateView, answer_view, certificate_view}
 use Rattle.it_space.specs.Answers.AnswerView.{Yes, No, Undecided, Region, Contained, Open}
-use Rattle.it_space.specs.Problems.{ProblemView}
+use Rattle.it_problems.specs.Problems.{ProblemView}
 use Rattle.it_space.specs.Rows.{IsOver, Terms}
 use Rattle.it_space.proofs.EveryLemmas.{all_of, every_of, every-map, every-same}
 use Rattle.it_space.specs.Spaces.{size_of}
@@ -80,8 +80,10 @@ read_verdict line (Coded source a c) NotJson h is = absurd is
 read_verdict line (Coded source a c) (Shape key) h is = absurd is
 read_verdict line (Derived source a ws) NotJson h is = absurd cc
 read_verdict line (Derived source a ws) (Shape key) h is = absurd cc
-read_verdict line (Factored source b) NotJson h is = absurd (not_json (asked source).body (option_and_then (λ r. factor_verdict_of (asked source).body r b) (asked_by (asked source).body.verb)) is)
-read_verdict line (Factored source b) (Shape key) h is = absurd (no_shape key (asked source).body (option_and_then (λ r. factor_verdict_of (asked source).body r b) (asked_by (asked source).body.verb)) is)
+read_verdict line (Factored source b) NotJson h is = absurd (not_json (asked source).body
+    (option_and_then (λ r. factor_verdict_of (asked source).body r b) (asked_by (asked source).body.verb)) is)
+read_verdict line (Factored source b) (Shape key) h is = absurd (no_shape key (asked source).body
+    (option_and_then (λ r. factor_verdict_of (asked source).body r b) (asked_by (asked source).body.verb)) is)
 read_verdict line (Bounded source b) NotJson h is = absurd is
 read_verdict line (Bounded source b) (Shape key) h is = absurd is
 read_verdict line Misfit NotJson h is = absurd cc
@@ -127,11 +129,17 @@ is_valid_no k q a t i is_no valid judged = by_verdict judged.verdict judged.is j
     by_verdict (Hulled v) is told = absurd is
 
 -- a no that isn't valid has the same verdict with a code
-pub invalid_coded : (k : ℕ) (q : BodyView) (a : AnswerView) (c : ReportedCodeView) (t : List ℕ) (i : Bool) → IsNo a → i ≡ true → IsJudgedAnswer k q a t i → IsJudgedCoded k q a c t i
+pub invalid_coded : (k : ℕ) (q : BodyView) (a : AnswerView) (c : ReportedCodeView) (t : List ℕ) (i : Bool) → IsNo a → i ≡ true
+    → IsJudgedAnswer k q a t i → IsJudgedCoded k q a c t i
 invalid_coded k q a c t i is_no invalid judged = by_verdict judged.verdict judged.is judged.told
   where
     by_verdict : (v : LineVerdict) → IsAnswerVerdict q a v → IsLineOf k v t i → IsJudgedCoded k q a c t i
-    by_verdict (Judged names v) is told = record { verdict = Judged names v; is = (is.0, is.1, λ valid. absurd (not_valid v valid (sym told.1 ∙ invalid))); told = told }
+    by_verdict (Judged names v) is told = record {
+      verdict = Judged names v;
+      is
+          = (is.0, is.1, λ valid. absurd (not_valid v valid (sym told.1 ∙ invalid)));
+      told = told;
+    }
     by_verdict Skipped is told = absurd (true≢false (sym invalid ∙ told.1))
     by_verdict NotJson is told = absurd is
     by_verdict (Shape key) is told = absurd is
@@ -140,7 +148,8 @@ invalid_coded k q a c t i is_no invalid judged = by_verdict judged.verdict judge
     by_verdict (Hulled v) is told = absurd is
 
 -- a no that is valid and whose point is of the code is valid with the code
-pub valid_coded : (k : ℕ) (q : BodyView) (a : AnswerView) (c : ReportedCodeView) (t : List ℕ) (i : Bool) → IsNo a → i ≡ false → IsJudgedAnswer k q a t i → AreEntropies c.code c.times (values_of a) → IsJudgedCoded k q a c t i
+pub valid_coded : (k : ℕ) (q : BodyView) (a : AnswerView) (c : ReportedCodeView) (t : List ℕ) (i : Bool) → IsNo a → i ≡ false
+    → IsJudgedAnswer k q a t i → AreEntropies c.code c.times (values_of a) → IsJudgedCoded k q a c t i
 valid_coded k q a c t i is_no valid judged all = by_verdict judged.verdict judged.is judged.told
   where
     by_verdict : (v : LineVerdict) → IsAnswerVerdict q a v → IsLineOf k v t i → IsJudgedCoded k q a c t i
@@ -153,19 +162,23 @@ valid_coded k q a c t i is_no valid judged all = by_verdict judged.verdict judge
     by_verdict (Hulled v) is told = absurd is
 
 module _ {L E : Type 0} (text : L → List ℕ) (invalid : L → Bool) (k : ℕ) where
-  pub fault_is_judged : (line : List ℕ) (fault : ReportFault) (r : Result L E) → Reports line (Err fault) → IfOk r (λ j. IsFaultLine k fault (text j) (invalid j)) → IfOk r (λ j. IsJudgedLine k line (text j) (invalid j))
+  pub fault_is_judged : (line : List ℕ) (fault : ReportFault) (r : Result L E) → Reports line (Err fault)
+      → IfOk r (λ j. IsFaultLine k fault (text j) (invalid j)) → IfOk r (λ j. IsJudgedLine k line (text j) (invalid j))
   fault_is_judged line faults.Memory (Ok j) h told = absurd told
   fault_is_judged line faults.NotJson (Ok j) h told = record { verdict = NotJson; is = h; told = told }
   fault_is_judged line (faults.Shape key) (Ok j) h told = record { verdict = Shape key; is = h; told = told }
   fault_is_judged line fault (Err e) h told = tt
 
-  pub report_is_judged : (line : List ℕ) (reported : Reported) (r : Result L E) → Reports line (Ok reported) → IfOk r (λ j. IsJudgedReport k reported (text j) (invalid j)) → IfOk r (λ j. IsJudgedLine k line (text j) (invalid j))
+  pub report_is_judged : (line : List ℕ) (reported : Reported) (r : Result L E) → Reports line (Ok reported)
+      → IfOk r (λ j. IsJudgedReport k reported (text j) (invalid j)) → IfOk r (λ j. IsJudgedLine k line (text j) (invalid j))
   report_is_judged line reported (Ok j) h judged = by_reading h.0 reported h.1 h.2 judged
     where
-      by_reading : (reading : Reading) (reported : Reported) → IsReported reading reported → ReadsReport line (Ok reading) → IsJudgedReport k reported (text j) (invalid j) → IsJudgedLine k line (text j) (invalid j)
+      by_reading : (reading : Reading) (reported : Reported) → IsReported reading reported → ReadsReport line (Ok reading)
+          → IsJudgedReport k reported (text j) (invalid j) → IsJudgedLine k line (text j) (invalid j)
       by_reading (Answered source a) (variants.Answered question answer) same h judged =
           let verdict : IsAnswerVerdict (asked source).body a judged.verdict =
-          subst (λ b. IsAnswerVerdict (asked source).body b judged.verdict) (sym same.1) (subst (λ (q : QuestionView). IsAnswerVerdict q.body (answer_view answer) judged.verdict) (sym same.0) judged.is) in
+          subst (λ b. IsAnswerVerdict (asked source).body b judged.verdict) (sym same.1)
+          (subst (λ (q : QuestionView). IsAnswerVerdict q.body (answer_view answer) judged.verdict) (sym same.0) judged.is) in
           record { verdict = judged.verdict; is = read_verdict line (Answered source a) judged.verdict h verdict; told = judged.told }
       by_reading (Answered source a) (variants.Coded question answer code) same h judged = absurd same
       by_reading (Answered source a) (variants.Derived question answer origins) same h judged = absurd same
@@ -189,7 +202,8 @@ module _ {L E : Type 0} (text : L → List ℕ) (invalid : L → Bool) (k : ℕ)
           let verdict : IsDerivedVerdict (asked source).body a ws judged.verdict =
           subst (λ x. IsDerivedVerdict (asked source).body a x judged.verdict) (sym same.2)
           (subst (λ x. IsDerivedVerdict (asked source).body x (map certificate_view origins.items) judged.verdict) (sym same.1)
-          (subst (λ (q : QuestionView). IsDerivedVerdict q.body (answer_view answer) (map certificate_view origins.items) judged.verdict) (sym same.0) judged.is)) in
+          (subst (λ (q : QuestionView). IsDerivedVerdict q.body (answer_view answer) (map certificate_view origins.items) judged.verdict)
+          (sym same.0) judged.is)) in
           record { verdict = judged.verdict; is = read_verdict line (Derived source a ws) judged.verdict h verdict; told = judged.told }
       by_reading (Derived source a ws) (variants.Factored question best) same h judged = absurd same
       by_reading (Derived source a ws) (variants.Bounded question bounds) same h judged = absurd same
@@ -199,7 +213,8 @@ module _ {L E : Type 0} (text : L → List ℕ) (invalid : L → Bool) (k : ℕ)
       by_reading (Factored source b) (variants.Derived question answer origins) same h judged = absurd same
       by_reading (Factored source b) (variants.Factored question best) same h judged =
           let v = factor_line_verdict (question_body question) (best_view best) in
-          let told : v ≡ factor_line_verdict (asked source).body b = ap₂ (λ (q : QuestionView) (x : BestView). factor_line_verdict q.body x) (sym same.0) (sym same.1) in
+          let told : v ≡ factor_line_verdict (asked source).body b = ap₂ (λ (q : QuestionView) (x : BestView). factor_line_verdict q.body x)
+          (sym same.0) (sym same.1) in
           record { verdict = factor_line_verdict (question_body question) (best_view best); is = read_verdict line (Factored source b) v h told; told = judged }
       by_reading (Factored source b) (variants.Bounded question bounds) same h judged = absurd same
       by_reading (Factored source b) variants.Misfit same h judged = absurd same
@@ -209,7 +224,8 @@ module _ {L E : Type 0} (text : L → List ℕ) (invalid : L → Bool) (k : ℕ)
       by_reading (Bounded source b) (variants.Factored question best) same h judged = absurd same
       by_reading (Bounded source b) (variants.Bounded question bounds) same h judged =
           let verdict : IsBoundsVerdict (asked source).body b judged.verdict =
-          subst (λ c. IsBoundsVerdict (asked source).body c judged.verdict) (sym same.1) (subst (λ (q : QuestionView). IsBoundsVerdict q.body (bounds_view bounds) judged.verdict) (sym same.0) judged.is) in
+          subst (λ c. IsBoundsVerdict (asked source).body c judged.verdict) (sym same.1)
+          (subst (λ (q : QuestionView). IsBoundsVerdict q.body (bounds_view bounds) judged.verdict) (sym same.0) judged.is) in
           record { verdict = judged.verdict; is = read_verdict line (Bounded source b) judged.verdict h verdict; told = judged.told }
       by_reading (Bounded source b) variants.Misfit same h judged = absurd same
       by_reading Misfit (variants.Answered question answer) same h judged = absurd same
@@ -220,26 +236,35 @@ module _ {L E : Type 0} (text : L → List ℕ) (invalid : L → Bool) (k : ℕ)
       by_reading Misfit variants.Misfit same h judged = record { verdict = Skipped; is = read_verdict line Misfit Skipped h refl; told = judged }
   report_is_judged line reported (Err e) h judged = tt
 
-  pub verdict_is_told : (q : BodyView) (a : AnswerView) (names : NamesView) (v : Verdict) (r : Result L E) → IsAnswerVerdict q a (Judged names v) → IfOk r (λ j. IsLineOf k (Judged names v) (text j) (invalid j)) → IfOk r (λ j. IsJudgedAnswer k q a (text j) (invalid j))
+  pub verdict_is_told : (q : BodyView) (a : AnswerView) (names : NamesView) (v : Verdict) (r : Result L E)
+      → IsAnswerVerdict q a (Judged names v) → IfOk r (λ j. IsLineOf k (Judged names v) (text j) (invalid j))
+      → IfOk r (λ j. IsJudgedAnswer k q a (text j) (invalid j))
   verdict_is_told q a names v (Ok j) h told = record { verdict = Judged names v; is = h; told = told }
   verdict_is_told q a names v (Err e) h told = tt
 
   -- an answer without a verdict is skipped
-  pub skipped_is_told : (q : BodyView) (a : AnswerView) (r : Result L E) → verdict_of q a ≡ None → IfOk r (λ j. IsLineOf k Skipped (text j) (invalid j)) → IfOk r (λ j. IsJudgedAnswer k q a (text j) (invalid j))
+  pub skipped_is_told : (q : BodyView) (a : AnswerView) (r : Result L E) → verdict_of q a ≡ None
+      → IfOk r (λ j. IsLineOf k Skipped (text j) (invalid j)) → IfOk r (λ j. IsJudgedAnswer k q a (text j) (invalid j))
   skipped_is_told q a (Ok j) none told = record { verdict = Skipped; is = none; told = told }
   skipped_is_told q a (Err e) none told = tt
 
   -- the line about a valid no names the first set whose value is another by the code
-  pub other_coded : (q : BodyView) (a : AnswerView) (c : ReportedCodeView) (t : List ℕ) (i : Bool) (names : NamesView) (s : ℕ) (r : Result L E) → IsNo a → i ≡ false → IsJudgedAnswer k q a t i → names ≡ problem_names q
-      → IsFirstOther c.code c.times (values_of a) s → IfOk r (λ j. IsLineOf k (OtherCode names s) (text j) (invalid j)) → IfOk r (λ j. IsJudgedCoded k q a c (text j) (invalid j))
-  other_coded q a c t i names s (Ok j) is_no valid judged own first told = record { verdict = OtherCode names s; is = (own, is_valid_no k q a t i is_no valid judged, first); told = told }
+  pub other_coded : (q : BodyView) (a : AnswerView) (c : ReportedCodeView) (t : List ℕ) (i : Bool) (names : NamesView) (s : ℕ)
+      (r : Result L E) → IsNo a → i ≡ false → IsJudgedAnswer k q a t i → names ≡ problem_names q
+      → IsFirstOther c.code c.times (values_of a) s → IfOk r (λ j. IsLineOf k (OtherCode names s) (text j) (invalid j))
+      → IfOk r (λ j. IsJudgedCoded k q a c (text j) (invalid j))
+  other_coded q a c t i names s (Ok j) is_no valid judged own first told = record
+      { verdict = OtherCode names s; is = (own, is_valid_no k q a t i is_no valid judged, first); told = told }
   other_coded q a c t i names s (Err e) is_no valid judged own first told = tt
 
-  pub derived_told : (q : BodyView) (a : AnswerView) (ws : List CertificateView) (v : LineVerdict) (r : Result L E) → IsDerivedVerdict q a ws v → IfOk r (λ j. IsLineOf k v (text j) (invalid j)) → IfOk r (λ j. IsJudgedDerived k q a ws (text j) (invalid j))
+  pub derived_told : (q : BodyView) (a : AnswerView) (ws : List CertificateView) (v : LineVerdict) (r : Result L E)
+      → IsDerivedVerdict q a ws v → IfOk r (λ j. IsLineOf k v (text j) (invalid j))
+      → IfOk r (λ j. IsJudgedDerived k q a ws (text j) (invalid j))
   derived_told q a ws v (Ok j) is told = record { verdict = v; is = is; told = told }
   derived_told q a ws v (Err e) is told = tt
 
-  pub bounds_told : (q : BodyView) (b : BoundsView) (v : LineVerdict) (r : Result L E) → IsBoundsVerdict q b v → IfOk r (λ j. IsLineOf k v (text j) (invalid j)) → IfOk r (λ j. IsJudgedBounds k q b (text j) (invalid j))
+  pub bounds_told : (q : BodyView) (b : BoundsView) (v : LineVerdict) (r : Result L E) → IsBoundsVerdict q b v
+      → IfOk r (λ j. IsLineOf k v (text j) (invalid j)) → IfOk r (λ j. IsJudgedBounds k q b (text j) (invalid j))
   bounds_told q b v (Ok j) is told = record { verdict = v; is = is; told = told }
   bounds_told q b v (Err e) is told = tt
 
@@ -294,8 +319,10 @@ has_verdict q p is a ts names v are own e =
 -- ---- factors
 
 -- a coordinate of the problem's space by its names
-pub size_named : (q : BodyView) (s : Space) (names : NamesView) → s ≡ space_of (problem_names q) → names ≡ problem_names q → size_of s + 1 ≡ 2 ^ length names.variables + length names.rates
-size_named q s names own named = ap (λ (t : Space). size_of t + 1) own ∙ all (problem_names q) ∙ ap (λ (v : NamesView). 2 ^ length v.variables + length v.rates) (sym named)
+pub size_named : (q : BodyView) (s : Space) (names : NamesView) → s ≡ space_of (problem_names q) → names ≡ problem_names q
+    → size_of s + 1 ≡ 2 ^ length names.variables + length names.rates
+size_named q s names own named = ap (λ (t : Space). size_of t + 1) own ∙ all (problem_names q)
+    ∙ ap (λ (v : NamesView). 2 ^ length v.variables + length v.rates) (sym named)
   where
     all : (v : NamesView) → size_of (space_of v) + 1 ≡ 2 ^ length v.variables + length v.rates
     all v = omega (arith, pow_pos (length v.variables))
@@ -314,10 +341,12 @@ module _ (q : BodyView) (p : ProblemView) (is : IsProblemOf q p) (r : RelationVi
 
   -- the verdict by the rows that were formed is that by the text
   pub weighed_as_told : (best : BestView) (left right : Terms) (names : NamesView) (v : FactorVerdict) → is_some (asked_by q.verb) ≡ true
-      → IsRowOf p.space (left_form p.space.variables r) left → IsRowOf p.space (right_form p.space.variables r) right → names ≡ problem_names q → best_verdict p left right best ≡ Some v
+      → IsRowOf p.space (left_form p.space.variables r) left → IsRowOf p.space (right_form p.space.variables r) right
+      → names ≡ problem_names q → best_verdict p left right best ≡ Some v
       → Weighed names v ≡ factor_line_verdict q best
   weighed_as_told best left right names v asks left_is right_is own e =
-      ap (λ n. Weighed n v) own ∙ sym (ap (λ o. weighed_by q (option_and_then (λ s. factor_verdict_of q s best) o)) (relation_asked asks) ∙ ap (weighed_by q) by_rows)
+      ap (λ n. Weighed n v) own ∙ sym (ap (λ o. weighed_by q (option_and_then (λ s. factor_verdict_of q s best) o)) (relation_asked asks)
+      ∙ ap (weighed_by q) by_rows)
     where
       by_rows : factor_verdict_of q r best ≡ Some v
       by_rows =
@@ -332,11 +361,13 @@ module _ (q : BodyView) (r : RelationView) (about : q.verb ≡ Prove r) where
   relation_names = ap (λ v. names_under q.names v) about
 
   -- the targets' rows
-  pub target_rows_are : (a : AnswerView) (s : Space) (ts : List Terms) → s ≡ space_of (problem_names q) → AreRowsOf s (targets s.variables r) ts → ArePulledRows s (answer_forms q a) ts
+  pub target_rows_are : (a : AnswerView) (s : Space) (ts : List Terms) → s ≡ space_of (problem_names q)
+      → AreRowsOf s (targets s.variables r) ts → ArePulledRows s (answer_forms q a) ts
   target_rows_are a s ts e are = rows_as_pulled s (answer_forms q a) ts
       (subst (λ fs. AreRowsOf s fs ts) (ap (λ n. targets n r) (ap (λ s. s.variables) e) ∙ sym (ap (λ v. answer_forms_by q v a) about)) are)
 
-  pub point_is_complete : (back : Bool) (values : List ℤ) (s : Space) → s ≡ space_of (problem_names q) → HasQuestionShape q (No back values) → length values ≡ size_of s
+  pub point_is_complete : (back : Bool) (values : List ℤ) (s : Space) → s ≡ space_of (problem_names q) → HasQuestionShape q (No back values)
+      → length values ≡ size_of s
   point_is_complete back values s e h = (verb_fits q (No back values) (Prove r) about h).0 ∙ sym (ap size_of (e ∙ ap space_of relation_names))
 
   one_target : (n : ℕ) → 0 < length (targets n r)
@@ -355,7 +386,8 @@ module _ (q : BodyView) (r : RelationView) (about : q.verb ≡ Prove r) where
       by_sign AtMost f e = absurd (cc)
       by_sign Equal f e = lit< tt
 
-  pub target_is_there : (back : Bool) (values : List ℤ) (n : ℕ) (ts : List Terms) → length ts ≡ length (targets n r) → HasQuestionShape q (No back values) → place_named back < length ts
+  pub target_is_there : (back : Bool) (values : List ℤ) (n : ℕ) (ts : List Terms) → length ts ≡ length (targets n r)
+      → HasQuestionShape q (No back values) → place_named back < length ts
   target_is_there back values n ts as_many h = by_test back (verb_fits q (No back values) (Prove r) about h).2
     where
       by_test : (back : Bool) → (back ≡ true → is_equation (kind_of r.sign) ≡ true) → place_named back < length ts
@@ -364,37 +396,49 @@ module _ (q : BodyView) (r : RelationView) (about : q.verb ≡ Prove r) where
 
 -- ---- a containment
 
-pub parts_as_named : (first second : RegionView) (parts : List ℕ) (ws : List CertificateView) → HasContainmentShape first second parts ws → IsSubstitution first second parts
+pub parts_as_named : (first second : RegionView) (parts : List ℕ) (ws : List CertificateView) → HasContainmentShape first second parts ws
+    → IsSubstitution first second parts
 parts_as_named first second parts ws h = record {
   count = h.each;
   within = All-weaker (λ s. (s < 2 ^ 32) × (s < 2 ^ length first.names.variables)) (λ s. s < 2 ^ length first.names.variables) (λ s k. k.1) parts h.sets;
 }
 
-module _ (q : BodyView) (p : Pair) (parts : List ℕ) (ws : List CertificateView) (l : IsPair p) (pairs : Pairs q p) (fits : HasQuestionShape q (Contained parts ws)) where
-  of_pair : (P : Type 0) → ((first second : RegionView) (tries : List (List ℕ)) → q.verb ≡ Contain first second tries → IsPairOf q first second p → IsSubstitution first second parts → P) → P
+module _ (q : BodyView) (p : Pair) (parts : List ℕ) (ws : List CertificateView) (l : IsPair p) (pairs : Pairs q p)
+    (fits : HasQuestionShape q (Contained parts ws)) where
+  of_pair : (P : Type 0) → ((first second : RegionView) (tries : List (List ℕ)) → q.verb ≡ Contain first second tries
+      → IsPairOf q first second p → IsSubstitution first second parts → P) → P
   of_pair P f = by_verb q.verb refl
     where
       by_verb : (verb : VerbView) → q.verb ≡ verb → P
       by_verb (Prove r) e = absurd (verb_fits q (Contained parts ws) (Prove r) e fits)
       by_verb (Eliminate rates) e = absurd (verb_fits q (Contained parts ws) (Eliminate rates) e fits)
-      by_verb (Contain first second tries) e = f first second tries e (pair_of_verb q first second tries p e pairs) (parts_as_named first second parts ws (verb_fits q (Contained parts ws) (Contain first second tries) e fits))
+      by_verb (Contain first second tries) e = f first second tries e (pair_of_verb q first second tries p e pairs)
+          (parts_as_named first second parts ws (verb_fits q (Contained parts ws) (Contain first second tries) e fits))
 
   pub few_parts : length parts ≤ 4
   few_parts = of_pair (length parts ≤ 4) (λ first second tries e o h. omega (arith, h.count, o.parts, l.few_parts))
 
   pair_space : p.first.space ≡ space_of (problem_names q)
-  pair_space = of_pair (p.first.space ≡ space_of (problem_names q)) (λ first second tries e o h. o.first_space ∙ sym (ap (λ v. space_of (names_under q.names v)) e))
+  pair_space = of_pair (p.first.space ≡ space_of (problem_names q)) (λ first second tries e o h. o.first_space
+      ∙ sym (ap (λ v. space_of (names_under q.names v)) e))
 
   pub pair_problem : IsProblemOf q p.first
-  pair_problem = record { space = pair_space; limits = l.problem; constraints = of_pair (AreStated p.first.space (question_origins q) (question_demands q) p.first.constraints) (λ first second tries e o h. o.first) }
+  pair_problem = record {
+    space = pair_space;
+    limits = l.problem;
+    constraints = of_pair
+        (AreStated p.first.space (question_origins q) (question_demands q) p.first.constraints) (λ first second tries e o h. o.first);
+  }
 
   pub candidate_fits : (c : Candidate) → length c.parts ≡ 4 → c.count ≡ length parts → take c.count c.parts ≡ parts → FitsPair p c
   candidate_fits c four count same = of_pair (FitsPair p c) (λ first second tries e o h. parts_fit q first second p o c parts four count same h)
 
   -- the obligations' rows
-  pub obligation_rows_are : (c : Candidate) (ts : List Terms) → take c.count c.parts ≡ parts → ArePulledRows p.first.space (pair_obligations p c) ts → ArePulledRows p.first.space (answer_forms q (Contained parts ws)) ts
+  pub obligation_rows_are : (c : Candidate) (ts : List Terms) → take c.count c.parts ≡ parts
+      → ArePulledRows p.first.space (pair_obligations p c) ts → ArePulledRows p.first.space (answer_forms q (Contained parts ws)) ts
   obligation_rows_are c ts same are = of_pair (ArePulledRows p.first.space (answer_forms q (Contained parts ws)) ts) (λ first second tries e o h.
-      subst (λ fs. ArePulledRows p.first.space fs ts) (ap (obligations q first second) same ∙ sym (ap (λ v. answer_forms_by q v (Contained parts ws)) e)) (text_rows q first second p o c ts are))
+      subst (λ fs. ArePulledRows p.first.space fs ts) (ap (obligations q first second) same
+      ∙ sym (ap (λ v. answer_forms_by q v (Contained parts ws)) e)) (text_rows q first second p o c ts are))
 
 -- ---- a code
 
@@ -427,7 +471,8 @@ values_complete q a c h = by_answer a h.no h.answered
     by_answer (Open tried) is_no fits = absurd is_no
 
 -- a set of the code's variables is one of the names'
-pub set_named : (q : BodyView) (a : AnswerView) (c : ReportedCodeView) (names : NamesView) (s : ℕ) → HasCodedShape q a c → names ≡ problem_names q → IsFirstOther c.code c.times (values_of a) s → s < 2 ^ length names.variables
+pub set_named : (q : BodyView) (a : AnswerView) (c : ReportedCodeView) (names : NamesView) (s : ℕ) → HasCodedShape q a c
+    → names ≡ problem_names q → IsFirstOther c.code c.times (values_of a) s → s < 2 ^ length names.variables
 set_named q a c names s h own first =
     subst (λ (n : ℕ). s < 2 ^ n) (h.code.variables ∙ ap (λ (v : NamesView). length v.variables) (sym (own ∙ by_answer a h.no h.answered))) first.within
   where
@@ -458,7 +503,8 @@ rows_over q (Region rows) is_region fits = by_verb q.verb (verb_fits q (Region r
     by_verb (Eliminate rates) fits =
         let size = size_of (space_of q.names) in
         all_of (IsOver size) (map (λ r. r.1) rows)
-        (every-map (IsOver size) (λ r. r.1) rows (every-same (IsRowIn size) (λ r. IsOver size r.1) rows (λ r k. k.coordinates) (every_of (IsRowIn size) rows fits)))
+        (every-map (IsOver size) (λ r. r.1) rows (every-same (IsRowIn size) (λ r. IsOver size r.1) rows (λ r k. k.coordinates)
+        (every_of (IsRowIn size) rows fits)))
     by_verb (Contain first second tries) fits = absurd fits
 rows_over q (Contained parts ws) is_region fits = absurd is_region
 rows_over q (Open tried) is_region fits = absurd is_region

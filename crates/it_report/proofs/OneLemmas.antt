@@ -98,7 +98,8 @@ coded_once q a c (OtherCode m s) (Hulled w) h k = absurd k
 -- bounds have one line verdict
 hull_once : (q : BodyView) (b : BoundsView) (v w : HullVerdict) → HullVerdictIs q b v → HullVerdictIs q b w → v ≡ w
 hull_once q b v w h k =
-    h.verdict_is ∙ ap (rows_verdict b.rows) (one_span_end (hull_frame most_rows q) 0 (first_rows (kept_rates q (gone_rates q.verb))) b.steps h.end k.end h.ends k.ends) ∙ sym k.verdict_is
+    h.verdict_is ∙ ap (rows_verdict b.rows) (one_span_end (hull_frame most_rows q) 0
+    (first_rows (kept_rates q (gone_rates q.verb))) b.steps h.end k.end h.ends k.ends) ∙ sym k.verdict_is
 
 not_both : (v w : Verdict) → v ≡ w → is_valid w ≡ false → v ≡ Valid → ⊥
 not_both v w same invalid valid = true≢false (sym (ap is_valid (sym same ∙ valid)) ∙ invalid)

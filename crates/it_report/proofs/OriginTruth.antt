@@ -35,7 +35,8 @@ same_judged m n v w e = cc
 pub valid_origins_are_true : ValidOriginsAreTrue
 valid_origins_are_true line names source rows ws h reads =
     let q = (asked source).body in
-    let same : h.reading ≡ Derived source (Region rows) ws = same_read h.reading (Derived source (Region rows) ws) (one_reading line (Ok h.reading) (Ok (Derived source (Region rows) ws)) h.reads reads) in
+    let same : h.reading ≡ Derived source (Region rows) ws = same_read h.reading (Derived source (Region rows) ws)
+    (one_reading line (Ok h.reading) (Ok (Derived source (Region rows) ws)) h.reads reads) in
     let told = subst (λ (r : Reading). IsReadingVerdict r (Judged names Valid)) same h.verdict in
     let read = derived_is reads.reads.own reads.value source (Region rows) ws reads.reads.is in
     let own : IsSourceOf reads.value source = subst (IsSourceAt reads.value) read.0 reads.reads.source in
@@ -43,11 +44,13 @@ valid_origins_are_true line names source rows ws h reads =
     let small = source_numbers reads.value source own in
     let p = problem_of (under_all_lines q) in
     let posed = question_poses (under_all_lines q) (all_lines_question q limits) (small.0, (tt, tt)) in
-    let over : All (IsOver (size_of p.space)) (map (λ r. r.1) rows) = subst (λ (s : Space). All (IsOver (size_of s)) (map (λ r. r.1) rows)) (sym posed.space) (rows_over q (Region rows) read.1.region read.1.answered) in
+    let over : All (IsOver (size_of p.space)) (map (λ r. r.1) rows) = subst (λ (s : Space). All (IsOver (size_of s)) (map (λ r. r.1) rows))
+    (sym posed.space) (rows_over q (Region rows) read.1.region read.1.answered) in
     let valid : proofs_verdict p (map (λ r. r.1) rows) ws ≡ Valid = sym (same_judged names q.names Valid (proofs_verdict p (map (λ r. r.1) rows) ws) told) in
     let hold : Every (λ (row : Terms). (x : ℕ → ℤ) → MeetsProblem p x → pos 0 ≤ℤ value row x) (map (λ r. r.1) rows)
     = rows_hold p posed.limits (map (λ r. r.1) rows) ws (every_of (IsOver (size_of p.space)) (map (λ r. r.1) rows) over) read.1.each valid in
     all_of (λ (row : Mark × Terms). (x : ℕ → ℤ) → AreTrueTogether (under_all_lines q) x → pos 0 ≤ℤ value row.1 x) rows
-    (every-same (λ (row : Mark × Terms). (x : ℕ → ℤ) → MeetsProblem p x → pos 0 ≤ℤ value row.1 x) (λ (row : Mark × Terms). (x : ℕ → ℤ) → AreTrueTogether (under_all_lines q) x → pos 0 ≤ℤ value row.1 x) rows
+    (every-same (λ (row : Mark × Terms). (x : ℕ → ℤ) → MeetsProblem p x → pos 0 ≤ℤ value row.1 x)
+    (λ (row : Mark × Terms). (x : ℕ → ℤ) → AreTrueTogether (under_all_lines q) x → pos 0 ≤ℤ value row.1 x) rows
     (λ row holds x t. holds x (true_meets q p posed x t))
     (every_mapped (λ (row : Terms). (x : ℕ → ℤ) → MeetsProblem p x → pos 0 ≤ℤ value row x) (λ r. r.1) rows hold))

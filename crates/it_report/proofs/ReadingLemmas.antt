@@ -77,7 +77,8 @@ record IsFromDerived (own : Option Source) (d : Data) (reading : Reading) : Type
 
 from_derived : (own : Option Source) (d : Data) (x : Reading) → derived_of own d ≡ as_read x → IsFromDerived own d x
 from_derived own d x e =
-    let h = then_ok (ok_or own (source_key d)) (λ s. and_then (answer_to s Region d) (λ a. and_then (answer_origins a d) (λ ws. as_read (Derived s a ws)))) x e in
+    let h = then_ok (ok_or own (source_key d)) (λ s. and_then (answer_to s Region d)
+    (λ a. and_then (answer_origins a d) (λ ws. as_read (Derived s a ws)))) x e in
     let l = then_ok (answer_to h.0 Region d) (λ a. and_then (answer_origins a d) (λ ws. as_read (Derived h.0 a ws))) x h.1.1 in
     let m = then_ok (answer_origins l.0 d) (λ ws. as_read (Derived h.0 l.0 ws)) x l.1.1 in
     record {
@@ -90,12 +91,15 @@ from_derived own d x e =
       makes = same_read (Derived h.0 l.0 m.0) x m.1.1;
     }
 
-module _ (own : Option Source) (d : Data) (x : Reading) (P : Type 0) (misfit : Misfit ≡ x → P) (bounded : IsFromSource BoundsView own (λ s. bounds_to s d) Bounded x → P)
-    (factored : (kind : FactorKind) → IsFromSource BestView own (λ s. best_to s kind d) Factored x → P) (coded : IsFromCoded own d x → P) (derived : IsFromDerived own d x → P)
+module _ (own : Option Source) (d : Data) (x : Reading) (P : Type 0) (misfit : Misfit ≡ x → P)
+    (bounded : IsFromSource BoundsView own (λ s. bounds_to s d) Bounded x → P)
+    (factored : (kind : FactorKind) → IsFromSource BestView own (λ s. best_to s kind d) Factored x → P) (coded : IsFromCoded own d x → P)
+    (derived : IsFromDerived own d x → P)
     (answered : (kind : AnswerKind) → IsFromSource AnswerView own (λ s. answer_to s kind d) Answered x → P) where
   by_answer : answer_of own d ≡ as_read x → P
   by_answer e =
-      let h = then_ok (ok_or (answer_kind_at d) keys.Answer) (λ kind. and_then (ok_or own (source_key d)) (λ s. and_then (answer_to s kind d) (λ a. as_read (Answered s a)))) x e in
+      let h = then_ok (ok_or (answer_kind_at d) keys.Answer) (λ kind. and_then (ok_or own (source_key d))
+      (λ s. and_then (answer_to s kind d) (λ a. as_read (Answered s a)))) x e in
       answered h.0 (from_source AnswerView own (source_key d) (λ s. answer_to s h.0 d) Answered x h.1.1)
 
   by_origins : (told : Bool) → (if told then derived_of own d else answer_of own d) ≡ as_read x → P
@@ -122,55 +126,81 @@ module _ (own : Option Source) (d : Data) (x : Reading) (P : Type 0) (misfit : M
   unfolding report_of
   by_reading e = by_word (tells_misfit d) e
 
-pub answer_is : (own : Option Source) (d : Data) (source : Source) (a : AnswerView) → report_of own d ≡ as_read (Answered source a) → (own ≡ Some source) × HasQuestionShape (asked source).body a
-answer_is own d source a e = by_reading own d (Answered source a) ((own ≡ Some source) × HasQuestionShape (asked source).body a) (λ f. absurd (cc)) (λ h. absurd (cc)) (λ kind h. absurd (cc)) (λ h. absurd (cc)) (λ h. absurd (cc)) of_kind e
+pub answer_is : (own : Option Source) (d : Data) (source : Source) (a : AnswerView) → report_of own d ≡ as_read (Answered source a)
+    → (own ≡ Some source) × HasQuestionShape (asked source).body a
+answer_is own d source a e = by_reading own d (Answered source a) ((own ≡ Some source) × HasQuestionShape (asked source).body a)
+    (λ f. absurd (cc)) (λ h. absurd (cc)) (λ kind h. absurd (cc)) (λ h. absurd (cc)) (λ h. absurd (cc)) of_kind e
   where
-    of_kind : (kind : AnswerKind) → IsFromSource AnswerView own (λ s. answer_to s kind d) Answered (Answered source a) → (own ≡ Some source) × HasQuestionShape (asked source).body a
+    of_kind : (kind : AnswerKind) → IsFromSource AnswerView own (λ s. answer_to s kind d) Answered (Answered source a)
+        → (own ≡ Some source) × HasQuestionShape (asked source).body a
     of_kind kind h =
         let s : h.source ≡ source = cc in
-        let b : h.part ≡ a = cc in
-        (h.is ∙ ap Some s, subst (λ t. HasQuestionShape (asked t).body a) s (subst (HasQuestionShape (asked h.source).body) b (answer_fits (asked h.source) kind d h.part h.reads)))
+        let b : h.part ≡ a = cc in (
+          h.is ∙ ap Some s,
+          subst (λ t. HasQuestionShape (asked t).body a) s
+              (subst (HasQuestionShape (asked h.source).body) b (answer_fits (asked h.source) kind d h.part h.reads)),
+        )
 
-pub best_is : (own : Option Source) (d : Data) (source : Source) (b : BestView) → report_of own d ≡ as_read (Factored source b) → (own ≡ Some source) × HasFactorShape (asked source).body b
-best_is own d source b e = by_reading own d (Factored source b) ((own ≡ Some source) × HasFactorShape (asked source).body b) (λ f. absurd (cc)) (λ h. absurd (cc)) of_kind (λ h. absurd (cc)) (λ h. absurd (cc)) (λ kind h. absurd (cc)) e
+pub best_is : (own : Option Source) (d : Data) (source : Source) (b : BestView) → report_of own d ≡ as_read (Factored source b)
+    → (own ≡ Some source) × HasFactorShape (asked source).body b
+best_is own d source b e = by_reading own d (Factored source b) ((own ≡ Some source) × HasFactorShape (asked source).body b)
+    (λ f. absurd (cc)) (λ h. absurd (cc)) of_kind (λ h. absurd (cc)) (λ h. absurd (cc)) (λ kind h. absurd (cc)) e
   where
-    of_kind : (kind : FactorKind) → IsFromSource BestView own (λ s. best_to s kind d) Factored (Factored source b) → (own ≡ Some source) × HasFactorShape (asked source).body b
+    of_kind : (kind : FactorKind) → IsFromSource BestView own (λ s. best_to s kind d) Factored (Factored source b)
+        → (own ≡ Some source) × HasFactorShape (asked source).body b
     of_kind kind h =
         let s : h.source ≡ source = cc in
-        let c : h.part ≡ b = cc in
-        (h.is ∙ ap Some s, subst (λ t. HasFactorShape (asked t).body b) s (subst (HasFactorShape (asked h.source).body) c (best_fits (asked h.source) kind d h.part h.reads)))
+        let c : h.part ≡ b = cc in (
+          h.is ∙ ap Some s,
+          subst (λ t. HasFactorShape (asked t).body b) s (subst (HasFactorShape (asked h.source).body) c
+              (best_fits (asked h.source) kind d h.part h.reads)),
+        )
 
-pub bounds_are : (own : Option Source) (d : Data) (source : Source) (b : BoundsView) → report_of own d ≡ as_read (Bounded source b) → (own ≡ Some source) × HasBoundsShape (asked source).body b
-bounds_are own d source b e = by_reading own d (Bounded source b) ((own ≡ Some source) × HasBoundsShape (asked source).body b) (λ f. absurd (cc)) of_bounds (λ kind h. absurd (cc)) (λ h. absurd (cc)) (λ h. absurd (cc)) (λ kind h. absurd (cc)) e
+pub bounds_are : (own : Option Source) (d : Data) (source : Source) (b : BoundsView) → report_of own d ≡ as_read (Bounded source b)
+    → (own ≡ Some source) × HasBoundsShape (asked source).body b
+bounds_are own d source b e = by_reading own d (Bounded source b) ((own ≡ Some source) × HasBoundsShape (asked source).body b)
+    (λ f. absurd (cc)) of_bounds (λ kind h. absurd (cc)) (λ h. absurd (cc)) (λ h. absurd (cc)) (λ kind h. absurd (cc)) e
   where
     of_bounds : IsFromSource BoundsView own (λ s. bounds_to s d) Bounded (Bounded source b) → (own ≡ Some source) × HasBoundsShape (asked source).body b
     of_bounds h =
         let s : h.source ≡ source = cc in
-        let c : h.part ≡ b = cc in
-        (h.is ∙ ap Some s, subst (λ t. HasBoundsShape (asked t).body b) s (subst (HasBoundsShape (asked h.source).body) c (bounds_fit (asked h.source) d h.part h.reads)))
+        let c : h.part ≡ b = cc in (
+          h.is ∙ ap Some s,
+          subst (λ t. HasBoundsShape (asked t).body b) s (subst (HasBoundsShape (asked h.source).body) c
+              (bounds_fit (asked h.source) d h.part h.reads)),
+        )
 
 pub coded_is : (own : Option Source) (d : Data) (source : Source) (a : AnswerView) (c : ReportedCodeView) → report_of own d ≡ as_read (Coded source a c)
     → (own ≡ Some source) × HasCodedShape (asked source).body a c
 coded_is own d source a c e =
-    by_reading own d (Coded source a c) ((own ≡ Some source) × HasCodedShape (asked source).body a c) (λ f. absurd (cc)) (λ h. absurd (cc)) (λ kind h. absurd (cc)) of_code (λ h. absurd (cc)) (λ kind h. absurd (cc)) e
+    by_reading own d (Coded source a c) ((own ≡ Some source) × HasCodedShape (asked source).body a c) (λ f. absurd (cc)) (λ h. absurd (cc))
+    (λ kind h. absurd (cc)) of_code (λ h. absurd (cc)) (λ kind h. absurd (cc)) e
   where
     of_code : IsFromCoded own d (Coded source a c) → (own ≡ Some source) × HasCodedShape (asked source).body a c
     of_code h =
         let s : h.source ≡ source = cc in
         let b : h.answer ≡ a = cc in
         let f : h.code ≡ c = cc in
-        let fits : HasCodedShape (asked h.source).body h.answer h.code = coded_fits (asked h.source) d h.answer h.code h.answered h.coded in
-        (h.is ∙ ap Some s, subst (λ t. HasCodedShape (asked t).body a c) s (subst (λ x. HasCodedShape (asked h.source).body x c) b (subst (HasCodedShape (asked h.source).body h.answer) f fits)))
+        let fits : HasCodedShape (asked h.source).body h.answer h.code = coded_fits (asked h.source) d h.answer h.code h.answered h.coded in (
+          h.is ∙ ap Some s,
+          subst (λ t. HasCodedShape (asked t).body a c) s
+              (subst (λ x. HasCodedShape (asked h.source).body x c) b (subst (HasCodedShape (asked h.source).body h.answer) f fits)),
+        )
 
-pub derived_is : (own : Option Source) (d : Data) (source : Source) (a : AnswerView) (ws : List CertificateView) → report_of own d ≡ as_read (Derived source a ws)
+pub derived_is : (own : Option Source) (d : Data) (source : Source) (a : AnswerView) (ws : List CertificateView)
+    → report_of own d ≡ as_read (Derived source a ws)
     → (own ≡ Some source) × HasDerivedShape (asked source).body a ws
 derived_is own d source a ws e =
-    by_reading own d (Derived source a ws) ((own ≡ Some source) × HasDerivedShape (asked source).body a ws) (λ f. absurd (cc)) (λ h. absurd (cc)) (λ kind h. absurd (cc)) (λ h. absurd (cc)) of_origins (λ kind h. absurd (cc)) e
+    by_reading own d (Derived source a ws) ((own ≡ Some source) × HasDerivedShape (asked source).body a ws) (λ f. absurd (cc))
+    (λ h. absurd (cc)) (λ kind h. absurd (cc)) (λ h. absurd (cc)) of_origins (λ kind h. absurd (cc)) e
   where
     of_origins : IsFromDerived own d (Derived source a ws) → (own ≡ Some source) × HasDerivedShape (asked source).body a ws
     of_origins h =
         let s : h.source ≡ source = cc in
         let b : h.answer ≡ a = cc in
         let f : h.origins ≡ ws = cc in
-        let fits : HasDerivedShape (asked h.source).body h.answer h.origins = derived_fits (asked h.source) d h.answer h.origins h.answered h.derived in
-        (h.is ∙ ap Some s, subst (λ t. HasDerivedShape (asked t).body a ws) s (subst (λ x. HasDerivedShape (asked h.source).body x ws) b (subst (HasDerivedShape (asked h.source).body h.answer) f fits)))
+        let fits : HasDerivedShape (asked h.source).body h.answer h.origins = derived_fits (asked h.source) d h.answer h.origins h.answered h.derived in (
+          h.is ∙ ap Some s,
+          subst (λ t. HasDerivedShape (asked t).body a ws) s
+              (subst (λ x. HasDerivedShape (asked h.source).body x ws) b (subst (HasDerivedShape (asked h.source).body h.answer) f fits)),
+        )

@@ -34,17 +34,23 @@ use Rattle.it_report.proofs.TruthLemmas.{fits_question, source_read, valid_is_tr
 
 -- of a question about a relation, what holds wherever its problem's lines are true holds wherever its own are
 pub own_lines : (e : BodyView) (r : RelationView) (verb : VerbView) → verb ≡ Prove r
-    → ((p : ℕ → ℤ) → IsPolymatroid (length (names_under e.names verb).variables) p × AreTrueAt (length (names_under e.names verb).variables) p (lines_under e.lines verb) → Holds (length (names_under e.names verb).variables) p r)
+    → ((p : ℕ → ℤ) → IsPolymatroid (length (names_under e.names verb).variables) p
+    × AreTrueAt (length (names_under e.names verb).variables) p (lines_under e.lines verb)
+    → Holds (length (names_under e.names verb).variables) p r)
     → (p : ℕ → ℤ) → IsPolymatroid (length e.names.variables) p × AreTrueAt (length e.names.variables) p e.lines → Holds (length e.names.variables) p r
-own_lines e r verb is h = subst (λ (v : VerbView). (p : ℕ → ℤ) → IsPolymatroid (length (names_under e.names v).variables) p × AreTrueAt (length (names_under e.names v).variables) p (lines_under e.lines v) → Holds (length (names_under e.names v).variables) p r) is h
+own_lines e r verb is h = subst (λ (v : VerbView). (p : ℕ → ℤ) → IsPolymatroid (length (names_under e.names v).variables) p
+    × AreTrueAt (length (names_under e.names v).variables) p (lines_under e.lines v) → Holds (length (names_under e.names v).variables) p r)
+    is h
 
 pub valid_is_true_by_copies : ValidIsTrueByCopies
 valid_is_true_by_copies line names q copies r ws valid reads about =
     let source = source_read line (Copies q copies) (Yes ws) reads in
     let claim = valid_is_true line names (Copies q copies) (Yes ws) valid reads in
-    let limits = All-head (λ (q : QuestionView). IsQuestion q.body) q [] (copied_questions_are_within (source.head ++ source.text) copies (q ∷ []) source.asks.reads) in
+    let limits = All-head (λ (q : QuestionView). IsQuestion q.body) q []
+    (copied_questions_are_within (source.head ++ source.text) copies (q ∷ []) source.asks.reads) in
     yes_by_copies q.body (extended q.body copies) copies r limits about source.asks.extension
-    (λ image polymatroid lines. own_lines (extended q.body copies) r q.body.verb about (subst (λ (v : VerbView). IsClaimTrueBy (extended q.body copies) v (Yes ws)) about claim) image (polymatroid, lines))
+    (λ image polymatroid lines. own_lines (extended q.body copies) r q.body.verb about
+    (subst (λ (v : VerbView). IsClaimTrueBy (extended q.body copies) v (Yes ws)) about claim) image (polymatroid, lines))
 
 -- ---- a sharing file
 
@@ -56,16 +62,19 @@ fails_at n r h i there below holds =
     omega (arith, ints, least, below)
 
 -- the target that a no names is there
-place_there : (x : SharingView) (back : Bool) (values : List ℤ) → HasQuestionShape (made_question x).body (No back values) → place_named back < length (targets (length x.names.variables) x.relation)
+place_there : (x : SharingView) (back : Bool) (values : List ℤ) → HasQuestionShape (made_question x).body (No back values)
+    → place_named back < length (targets (length x.names.variables) x.relation)
 unfolding made_question
 place_there x back values fits =
     let fs = targets (length x.names.variables) x.relation in
     let as_many = length-map fs (terms_in (made_question x).body) in
-    let there = target_is_there (made_question x).body x.relation refl back values (length x.names.variables) (map (terms_in (made_question x).body) fs) as_many fits in
+    let there = target_is_there (made_question x).body x.relation refl back values (length x.names.variables)
+    (map (terms_in (made_question x).body) fs) as_many fits in
     omega (arith, as_many, there)
 
 module _ (x : SharingView) (within : IsSharing x) where
-  true_of_sharing : (a : AnswerView) → HasQuestionShape (made_question x).body a → HasVerbShape x.names (Prove x.relation) a → IsClaimTrueBy (made_question x).body (Prove x.relation) a → IsTrueOfSharing x a
+  true_of_sharing : (a : AnswerView) → HasQuestionShape (made_question x).body a → HasVerbShape x.names (Prove x.relation) a
+      → IsClaimTrueBy (made_question x).body (Prove x.relation) a → IsTrueOfSharing x a
   unfolding made_question
   true_of_sharing (Yes ws) shape fits claim = λ h perfect. claim h ((made_question_is_of_perfect_sharing x h within).1 perfect)
   true_of_sharing (No back values) shape fits claim = (
@@ -89,4 +98,5 @@ pub valid_is_true_of_sharing : ValidIsTrueOfSharing
 valid_is_true_of_sharing line names x a valid reads =
     let source = source_read line (Sharing x) a reads in
     let shape = fits_question line (Sharing x) a reads in
-    true_of_sharing x (sharing_is_within source.text x source.makes.reads).0 a shape (made_shape x a shape) (made_claim x a (valid_is_true line names (Sharing x) a valid reads))
+    true_of_sharing x (sharing_is_within source.text x source.makes.reads).0 a shape (made_shape x a shape)
+    (made_claim x a (valid_is_true line names (Sharing x) a valid reads))

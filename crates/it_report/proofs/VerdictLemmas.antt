@@ -5,10 +5,10 @@ use Rattle.std.specs.Ordering.{int_eq}
 use Rattle.std.proofs.lemmas.Bool.{true≢false}
 use Rattle.std.proofs.lemmas.List.{at_drop_all}
 use Rattle.it_space.proofs.ListLemmas.{drop_item}
-use Rattle.it_space.specs.declared.problems.Kind.{Kind}
+use Rattle.it_problems.specs.declared.problems.Kind.{Kind}
 use Rattle.it_space.specs.declared.answers.Certificate.{Certificate}
 use Rattle.it_space.specs.Answers.{CertificateView, certificate_view}
-use Rattle.it_space.specs.Problems.{ProblemView}
+use Rattle.it_problems.specs.Problems.{ProblemView}
 use Rattle.it_space.specs.Rows.{Terms, coefficient}
 use Rattle.it_elemental.specs.Generators.{Generator, generator_at, is_equation}
 use Rattle.it_check.specs.Sums.{product_within, sum_within}
@@ -64,7 +64,8 @@ pub yes_over : (gs : List Generator) (size : ℕ) (t : Terms) (w : CertificateVi
 unfolding yes_verdict
 yes_over gs size t w =
     told_over (size + 1) _ (either_over (size + 1) (of_scale w.scale) _ (chosen_over (size + 1) (int_lt w.scale (pos 1)) (Some (BadScale w.scale)) None tt tt)
-    (either_over (size + 1) (of_weights gs w.weights) (of_coordinates gs t w 1 size) (weights_over (size + 1) gs w.weights) (coordinates_over (size + 1) gs t w 1 size (omega arith))))
+    (either_over (size + 1) (of_weights gs w.weights) (of_coordinates gs t w 1 size) (weights_over (size + 1) gs w.weights)
+    (coordinates_over (size + 1) gs t w 1 size (omega arith))))
 
 two_over : (b : ℕ) (c : Bool) (v u : Verdict) → IsVerdictOver b v → IsVerdictOver b u → IsVerdictOver b (if c then v else u)
 two_over b true v u h k = h
@@ -81,7 +82,8 @@ value_over b count i kind (Some x) = violation_over b count i x (violates kind x
 generators_over : (b count i : ℕ) (gs : List Generator) (p : ℕ → ℤ) → IsFindingOver b (of_generators count i gs p)
 unfolding of_generators
 generators_over b count i [] p = tt
-generators_over b count i (g ∷ gs) p = either_over b (of_value count i g.kind (sum_within (pos 0) g.row p)) (of_generators count (i + 1) gs p) (value_over b count i g.kind _) (generators_over b count (i + 1) gs p)
+generators_over b count i (g ∷ gs) p = either_over b (of_value count i g.kind (sum_within (pos 0) g.row p))
+    (of_generators count (i + 1) gs p) (value_over b count i g.kind _) (generators_over b count (i + 1) gs p)
 
 target_over : (b place : ℕ) (o : Option ℤ) → IsFindingOver b (of_target place o)
 target_over b place None = tt
@@ -89,7 +91,8 @@ target_over b place (Some x) = chosen_over b (int_lt x (pos 0)) None (Some (NotV
 
 pub no_over : (b count : ℕ) (gs : List Generator) (t : Terms) (p : ℕ → ℤ) → IsVerdictOver b (no_verdict count gs t p)
 unfolding no_verdict
-no_over b count gs t p = told_over b _ (either_over b (of_generators count 0 gs p) (of_target (length gs) (sum_within (pos 0) t p)) (generators_over b count 0 gs p) (target_over b (length gs) (sum_within (pos 0) t p)))
+no_over b count gs t p = told_over b _ (either_over b (of_generators count 0 gs p) (of_target (length gs) (sum_within (pos 0) t p))
+    (generators_over b count 0 gs p) (target_over b (length gs) (sum_within (pos 0) t p)))
 
 pub met_over : (b count : ℕ) (gs : List Generator) (p : ℕ → ℤ) → IsVerdictOver b (met_verdict count gs p)
 unfolding met_verdict
@@ -121,7 +124,8 @@ both_valid v u e = by_valid (is_valid v) refl e
 abbrev left_verdict : ProblemView → List Terms → List Certificate → ℕ → Verdict
 left_verdict p ts cs i = proofs_verdict p (drop i ts) (map certificate_view (drop i cs))
 
-module _ (p : ProblemView) (ts : List Terms) (cs : List Certificate) (i : ℕ) (t : Terms) (c : Certificate) (row : t ≡ get_or ts i t) (proof : c ≡ get_or cs i c) where
+module _ (p : ProblemView) (ts : List Terms) (cs : List Certificate) (i : ℕ) (t : Terms) (c : Certificate) (row : t ≡ get_or ts i t)
+    (proof : c ≡ get_or cs i c) where
   abbrev by_valid : Bool → Verdict
   by_valid b = if b then left_verdict p ts cs (i + 1) else proof_verdict p t (certificate_view c)
 
@@ -131,11 +135,13 @@ module _ (p : ProblemView) (ts : List Terms) (cs : List Certificate) (i : ℕ) (
       ap (λ x. proofs_verdict p x (map certificate_view (drop i cs))) (drop_item ts i t h row)
       ∙ ap (λ y. proofs_verdict p (t ∷ drop (i + 1) ts) (map certificate_view y)) (drop_item cs i c k proof)
 
-  pub proofs_found : i < length ts → i < length cs → is_valid (proof_verdict p t (certificate_view c)) ≡ false → left_verdict p ts cs i ≡ proofs_verdict p ts (map certificate_view cs)
+  pub proofs_found : i < length ts → i < length cs → is_valid (proof_verdict p t (certificate_view c)) ≡ false
+      → left_verdict p ts cs i ≡ proofs_verdict p ts (map certificate_view cs)
       → proof_verdict p t (certificate_view c) ≡ proofs_verdict p ts (map certificate_view cs)
   proofs_found h k e inv = sym (ap by_valid e) ∙ sym (verdict_step h k) ∙ inv
 
-  pub proofs_more : i < length ts → i < length cs → is_valid (proof_verdict p t (certificate_view c)) ≡ true → left_verdict p ts cs i ≡ proofs_verdict p ts (map certificate_view cs)
+  pub proofs_more : i < length ts → i < length cs → is_valid (proof_verdict p t (certificate_view c)) ≡ true
+      → left_verdict p ts cs i ≡ proofs_verdict p ts (map certificate_view cs)
       → left_verdict p ts cs (i + 1) ≡ proofs_verdict p ts (map certificate_view cs)
   proofs_more h k e inv = sym (ap by_valid e) ∙ sym (verdict_step h k) ∙ inv
 
@@ -148,12 +154,15 @@ none_left : (p : ProblemView) (ws : List CertificateView) → proofs_verdict p [
 unfolding proofs_verdict
 none_left p ws = refl
 
-module _ (p : ProblemView) (ts : List Terms) (cs : List Certificate) (i : ℕ) (inv : left_verdict p ts cs i ≡ proofs_verdict p ts (map certificate_view cs)) where
+module _ (p : ProblemView) (ts : List Terms) (cs : List Certificate) (i : ℕ)
+    (inv : left_verdict p ts cs i ≡ proofs_verdict p ts (map certificate_view cs)) where
   pub proofs_short : length cs ≤ i → Valid ≡ proofs_verdict p ts (map certificate_view cs)
-  proofs_short h = sym (no_more p (drop i ts)) ∙ sym (at_drop_all (λ (y : List Certificate). proofs_verdict p (drop i ts) (map certificate_view y)) cs i h) ∙ inv
+  proofs_short h = sym (no_more p (drop i ts)) ∙ sym (at_drop_all
+      (λ (y : List Certificate). proofs_verdict p (drop i ts) (map certificate_view y)) cs i h) ∙ inv
 
   pub proofs_done : length ts ≤ i → Valid ≡ proofs_verdict p ts (map certificate_view cs)
-  proofs_done h = sym (none_left p (map certificate_view (drop i cs))) ∙ sym (at_drop_all (λ (x : List Terms). proofs_verdict p x (map certificate_view (drop i cs))) ts i h) ∙ inv
+  proofs_done h = sym (none_left p (map certificate_view (drop i cs)))
+      ∙ sym (at_drop_all (λ (x : List Terms). proofs_verdict p x (map certificate_view (drop i cs))) ts i h) ∙ inv
 
 -- ---- rays, one after the other
 
@@ -168,12 +177,15 @@ module _ (p : ProblemView) (steps : List Step) (i : ℕ) (s : Step) (there : i <
   unfolding rays_verdict
   ray_step = ap (λ xs. rays_verdict p (step_views xs)) (drop_item steps i s there at)
 
-  pub rays_found : is_valid (ray_verdict p s.ray) ≡ false → left_rays p steps i ≡ rays_verdict p (step_views steps) → ray_verdict p s.ray ≡ rays_verdict p (step_views steps)
+  pub rays_found : is_valid (ray_verdict p s.ray) ≡ false → left_rays p steps i ≡ rays_verdict p (step_views steps)
+      → ray_verdict p s.ray ≡ rays_verdict p (step_views steps)
   rays_found e inv = sym (ap by_ray e) ∙ sym ray_step ∙ inv
 
-  pub rays_more : is_valid (ray_verdict p s.ray) ≡ true → left_rays p steps i ≡ rays_verdict p (step_views steps) → left_rays p steps (i + 1) ≡ rays_verdict p (step_views steps)
+  pub rays_more : is_valid (ray_verdict p s.ray) ≡ true → left_rays p steps i ≡ rays_verdict p (step_views steps)
+      → left_rays p steps (i + 1) ≡ rays_verdict p (step_views steps)
   rays_more e inv = sym (ap by_ray e) ∙ sym ray_step ∙ inv
 
-pub rays_done : (p : ProblemView) (steps : List Step) (i : ℕ) → length steps ≤ i → left_rays p steps i ≡ rays_verdict p (step_views steps) → Valid ≡ rays_verdict p (step_views steps)
+pub rays_done : (p : ProblemView) (steps : List Step) (i : ℕ) → length steps ≤ i → left_rays p steps i ≡ rays_verdict p (step_views steps)
+    → Valid ≡ rays_verdict p (step_views steps)
 unfolding rays_verdict
 rays_done p steps i h inv = sym (at_drop_all (λ (xs : List Step). rays_verdict p (step_views xs)) steps i h) ∙ inv

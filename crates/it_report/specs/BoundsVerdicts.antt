@@ -1,6 +1,6 @@
 -- The verdict on an outer bound: on the certificates of its rows, on the points of its rays, and on the rows as the hull of the rays.
 use Rattle.std.specs.Prelude.{ℕ, Bool, true, false, if◌then◌else◌}
-use Rattle.it_space.specs.Problems.{ProblemView}
+use Rattle.it_problems.specs.Problems.{ProblemView}
 use Rattle.it_spans.specs.declared.types.HullVerdict.{HullVerdict}
 use Rattle.it_spans.specs.declared.types.HullVerdict.TheVariants as hulls
 use Rattle.it_spans.specs.Verdicts.{VerdictIs}

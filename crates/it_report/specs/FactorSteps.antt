@@ -2,7 +2,7 @@
 use Rattle.std.specs.Prelude.{◌≡◌, ℕ, length, Result, Ok, Err}
 use Rattle.it_space.specs.Rows.{Terms, IsOver}
 use Rattle.it_space.specs.Spaces.{size_of}
-use Rattle.it_space.specs.Problems.{ProblemView, IsProblem}
+use Rattle.it_problems.specs.Problems.{ProblemView, IsProblem}
 use Rattle.it_ratio.specs.declared.sides.RowStop.{RowStop}
 use Rattle.it_ratio.specs.declared.sides.RowStop.TheVariants as stops
 use Rattle.it_ratio.specs.BestViews.{BestView, Least, Never}

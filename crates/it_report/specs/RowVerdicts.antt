@@ -1,7 +1,7 @@
 -- The verdict on an answer, against the rows of its question's targets, and on the points of rays.
 use Rattle.std.specs.Prelude.{ℕ, ℤ, List, [], ◌∷◌, length, Bool, true, false, if◌then◌else◌, get_or}
 use Rattle.it_space.specs.Answers.{CertificateView}
-use Rattle.it_space.specs.Problems.{ProblemView}
+use Rattle.it_problems.specs.Problems.{ProblemView}
 use Rattle.it_space.specs.Rows.{Terms, point_of}
 use Rattle.it_space.specs.Spaces.{size_of}
 use Rattle.it_polymatroid.specs.Elementals.{elementals}

@@ -13,9 +13,9 @@ use crate::rows::{is_valid, proofs_verdict, rays_verdict};
 use it_certificate::ReportedBounds;
 use it_check::Verdict;
 use it_hull::kept_coordinates;
+use it_problems::Problem;
 use it_question::types::Question;
 use it_rates::{gone_rates, problem_of_lines};
-use it_space::Problem;
 use it_spans::{Frame, HullVerdict, check_hull};
 use std::alloc::{AllocError, Global};
 

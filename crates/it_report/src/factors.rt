@@ -14,9 +14,10 @@ ghost use Rattle.it_report.specs.declared.factors.FactorVerdict.TheVariants.{Che
 use crate::rows::{is_valid, proof_verdict};
 use it_check::{Verdict, check_no};
 use it_elemental::generator_count;
+use it_problems::Problem;
 use it_ratio::types::Best;
 use it_ratio::{RowStop, side_row};
-use it_space::{Certificate, Point, Problem, Row, value};
+use it_space::{Certificate, Point, Row, value};
 use std::alloc::{AllocError, Global};
 
 /// The verdict on what is said of factors: what is wrong with it, or that nothing is.

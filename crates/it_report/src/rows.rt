@@ -8,7 +8,8 @@ ghost use Rattle.it_spans.specs.Spans.{step_views};
 ghost use Rattle.it_report.specs.Steps.{IsVerdictOver};
 
 use it_check::{Verdict, check_met, check_no, check_yes};
-use it_space::{Certificate, Point, Problem, Row};
+use it_problems::Problem;
+use it_space::{Certificate, Point, Row};
 use it_spans::Step;
 
 /// The verdict on a certificate.

@@ -8,16 +8,20 @@ use Rattle.it_tableau.specs.SimplexTables.{SimplexTable, FeasibilityProblem, sta
 use Rattle.it_tableau.specs.Invariants.{HasInvariants}
 use Rattle.it_tableau.proofs.Sums.{eqb_comm, sum_same, sum_add, sum_times, sum_times_left, sum_swap, sum_one}
 
-module _ {A : Type 0} (F : OrderedField A) (m n : ℕ) (p : FeasibilityProblem A) (b t : SimplexTable A) (hb : HasInvariants (operations_of F) m n p b) (ht : HasInvariants (operations_of F) m n p t) where
+module _ {A : Type 0} (F : OrderedField A) (m n : ℕ) (p : FeasibilityProblem A) (b t : SimplexTable A)
+    (hb : HasInvariants (operations_of F) m n p b) (ht : HasInvariants (operations_of F) m n p t) where
   -- a row of one table is the sum of the other's rows, by its own entries at their basic columns
   pub row_by_rows : (i j : ℕ) → i ≤ m → b.entry i j ≡ sum_to F.ring m (λ q. F.ring.mul (b.entry i (t.basis q)) (t.entry q j))
   row_by_rows i j hi =
       hb.combines i j hi
-      ∙ sum_same F.ring m (λ k. F.ring.mul (x k) (start_row (operations_of F) m n p k j)) (λ k. sum_to F.ring m (λ q. F.ring.mul (x k) (F.ring.mul (s k q) (t.entry q j))))
+      ∙ sum_same F.ring m (λ k. F.ring.mul (x k) (start_row (operations_of F) m n p k j))
+      (λ k. sum_to F.ring m (λ q. F.ring.mul (x k) (F.ring.mul (s k q) (t.entry q j))))
       (λ k l. ap (F.ring.mul (x k)) (ht.spans k j l) ∙ sym (sum_times_left F.ring m (λ q. F.ring.mul (s k q) (t.entry q j)) (x k)))
       ∙ sum_swap F.ring m m (λ k q. F.ring.mul (x k) (F.ring.mul (s k q) (t.entry q j)))
-      ∙ sum_same F.ring m (λ q. sum_to F.ring m (λ k. F.ring.mul (x k) (F.ring.mul (s k q) (t.entry q j)))) (λ q. F.ring.mul (b.entry i (t.basis q)) (t.entry q j))
-      (λ q l. sum_same F.ring m (λ k. F.ring.mul (x k) (F.ring.mul (s k q) (t.entry q j))) (λ k. F.ring.mul (F.ring.mul (x k) (s k q)) (t.entry q j)) (λ k _. sym (F.ring.mul_assoc (x k) (s k q) (t.entry q j)))
+      ∙ sum_same F.ring m (λ q. sum_to F.ring m (λ k. F.ring.mul (x k) (F.ring.mul (s k q) (t.entry q j))))
+      (λ q. F.ring.mul (b.entry i (t.basis q)) (t.entry q j))
+      (λ q l. sum_same F.ring m (λ k. F.ring.mul (x k) (F.ring.mul (s k q) (t.entry q j)))
+      (λ k. F.ring.mul (F.ring.mul (x k) (s k q)) (t.entry q j)) (λ k _. sym (F.ring.mul_assoc (x k) (s k q) (t.entry q j)))
       ∙ sum_times F.ring m (λ k. F.ring.mul (x k) (s k q)) (t.entry q j)
       ∙ ap (λ z. F.ring.mul z (t.entry q j)) (sym (hb.combines i (t.basis q) hi)))
     where
@@ -56,6 +60,7 @@ module _ {A : Type 0} (F : OrderedField A) (m n : ℕ) (p : FeasibilityProblem A
 
         in_two : b.entry i j ≡ F.ring.add (t.entry i j) (moved_sum i j)
         in_two = row_by_rows i j (omega (arith, hi))
-            ∙ sum_same F.ring m X (λ q. F.ring.add (cond (eqb q i) (t.entry q j) F.ring.null) (cond (moved q) (X q) F.ring.null)) (λ q l. by_move q l (moved q) refl)
+            ∙ sum_same F.ring m X (λ q. F.ring.add (cond (eqb q i) (t.entry q j) F.ring.null) (cond (moved q) (X q) F.ring.null))
+            (λ q l. by_move q l (moved q) refl)
             ∙ sum_add F.ring m (λ q. cond (eqb q i) (t.entry q j) F.ring.null) (λ q. cond (moved q) (X q) F.ring.null)
             ∙ ap (λ z. F.ring.add z (moved_sum i j)) (sum_one F.ring m (λ q. t.entry q j) i hi)

@@ -28,7 +28,9 @@ pub first_at : (f : ℕ → Bool) (k left : ℕ) → first_false f k left < k + 
 first_at f k zero l = absurd (omega arith)
 first_at f k (suc left) l = by_test (f k) refl l (λ a. first_at f (suc k) left a)
   where
-    by_test : (b : Bool) → f k ≡ b → cond b (first_false f (suc k) left) k < k + suc left → (first_false f (suc k) left < suc k + left → f (first_false f (suc k) left) ≡ false) → f (cond b (first_false f (suc k) left) k) ≡ false
+    by_test : (b : Bool) → f k ≡ b → cond b (first_false f (suc k) left) k < k + suc left
+        → (first_false f (suc k) left < suc k + left → f (first_false f (suc k) left) ≡ false)
+        → f (cond b (first_false f (suc k) left) k) ≡ false
     by_test false e l ih = e
     by_test true e l ih = ih (omega arith)
 
@@ -43,7 +45,8 @@ module _ {A : Type 0} (F : OrderedField A) (m n : ℕ) where
   pub record Leaves (t : SimplexTable A) (c r : ℕ) : Type 0 where
     pub row : r < m
     pub above : IsAboveZero F (t.entry r c)
-    pub least : (i : ℕ) → i < m → IsAboveZero F (t.entry i c) → IsAtLeastZero F (difference F.ring (ratio (operations_of F) m n t c i) (ratio (operations_of F) m n t c r))
+    pub least : (i : ℕ) → i < m → IsAboveZero F (t.entry i c)
+        → IsAtLeastZero F (difference F.ring (ratio (operations_of F) m n t c i) (ratio (operations_of F) m n t c r))
     pub first : (i : ℕ) → i < m → IsAboveZero F (t.entry i c) → ratio (operations_of F) m n t c i ≡ ratio (operations_of F) m n t c r → t.basis r ≤ t.basis i
 
   -- they may make a step
@@ -65,7 +68,8 @@ module _ {A : Type 0} (F : OrderedField A) (m n : ℕ) where
       by_cases (inr h) = absurd (s (λ j l. first_before (λ j. F.order.is_least (t.entry m j)) 0 n j (omega arith) (omega arith)))
 
   -- an entering column has a row with a positive entry
-  pub some_row : (p : FeasibilityProblem A) (t : SimplexTable A) (c : ℕ) → HasInvariants (operations_of F) m n p t → IsBelowZero F (t.entry m c) → (i : ℕ) × (i < m) × IsAboveZero F (t.entry i c)
+  pub some_row : (p : FeasibilityProblem A) (t : SimplexTable A) (c : ℕ) → HasInvariants (operations_of F) m n p t
+      → IsBelowZero F (t.entry m c) → (i : ℕ) × (i < m) × IsAboveZero F (t.entry i c)
   some_row p t c h b =
       let s = some_below F m (λ i. F.ring.mul (cost_of (operations_of F) m n (t.basis i)) (t.entry i c)) (subst (IsBelowZero F) (h.costs c) b) in
       (s.0, s.1, by_test (ltb (t.basis s.0) n) (t.entry s.0 c) s.2)
@@ -78,23 +82,28 @@ module _ {A : Type 0} (F : OrderedField A) (m n : ℕ) where
   pub record IsBestBelow (t : SimplexTable A) (c bound best : ℕ) : Type 0 where
     pub row : best < bound
     pub above : is_candidate (operations_of F) t c best ≡ true
-    pub least : (i : ℕ) → i < bound → is_candidate (operations_of F) t c i ≡ true → IsAtLeastZero F (difference F.ring (ratio (operations_of F) m n t c i) (ratio (operations_of F) m n t c best))
-    pub first : (i : ℕ) → i < bound → is_candidate (operations_of F) t c i ≡ true → ratio (operations_of F) m n t c i ≡ ratio (operations_of F) m n t c best → t.basis best ≤ t.basis i
+    pub least : (i : ℕ) → i < bound → is_candidate (operations_of F) t c i ≡ true
+        → IsAtLeastZero F (difference F.ring (ratio (operations_of F) m n t c i) (ratio (operations_of F) m n t c best))
+    pub first : (i : ℕ) → i < bound → is_candidate (operations_of F) t c i ≡ true
+        → ratio (operations_of F) m n t c i ≡ ratio (operations_of F) m n t c best → t.basis best ≤ t.basis i
 
   -- it is m where no row below the number has an entry above 0, else the best of them
   abbrev IsBestOrNone : SimplexTable A → ℕ → ℕ → ℕ → Type 0
   IsBestOrNone t c bound best = ((best ≡ m) × ((i : ℕ) → i < bound → is_candidate (operations_of F) t c i ≡ false)) ⊎ IsBestBelow t c bound best
 
   opposite_of_below : (a b : A) → IsBelowZero F (difference F.ring a b) → IsAtLeastZero F (difference F.ring b a)
-  opposite_of_below a b h = subst (IsAtLeastZero F) (ring F.ring (a ∷ b ∷ []) (minus (plus (v 0) (minus (v 1)))) (plus (v 1) (minus (v 0))) refl) (below-neg F (difference F.ring a b) h)
+  opposite_of_below a b h = subst (IsAtLeastZero F) (ring F.ring (a ∷ b ∷ []) (minus (plus (v 0) (minus (v 1))))
+      (plus (v 1) (minus (v 0))) refl) (below-neg F (difference F.ring a b) h)
 
   at_least_chain : (a b c : A) → IsAtLeastZero F (difference F.ring a b) → IsAtLeastZero F (difference F.ring b c) → IsAtLeastZero F (difference F.ring a c)
-  at_least_chain a b c h k = subst (IsAtLeastZero F) (ring F.ring (a ∷ b ∷ c ∷ []) (plus (plus (v 0) (minus (v 1))) (plus (v 1) (minus (v 2)))) (plus (v 0) (minus (v 2))) refl)
+  at_least_chain a b c h k = subst (IsAtLeastZero F) (ring F.ring (a ∷ b ∷ c ∷ [])
+      (plus (plus (v 0) (minus (v 1))) (plus (v 1) (minus (v 2)))) (plus (v 0) (minus (v 2))) refl)
       (F.order.add-least (difference F.ring a b) (difference F.ring b c) h k)
 
   pub equal_by_order : (a b : A) → IsAtLeastZero F (difference F.ring a b) → IsAtLeastZero F (difference F.ring b a) → a ≡ b
   equal_by_order a b h k = ring F.ring (a ∷ b ∷ []) (v 0) (plus (plus (v 0) (minus (v 1))) (v 1)) refl
-      ∙ ap (λ x. F.ring.add x b) (F.order.strict (difference F.ring a b) h (subst (IsAtLeastZero F) (ring F.ring (a ∷ b ∷ []) (plus (v 1) (minus (v 0))) (minus (plus (v 0) (minus (v 1)))) refl) k))
+      ∙ ap (λ x. F.ring.add x b) (F.order.strict (difference F.ring a b) h
+      (subst (IsAtLeastZero F) (ring F.ring (a ∷ b ∷ []) (plus (v 1) (minus (v 0))) (minus (plus (v 0) (minus (v 1)))) refl) k))
       ∙ F.ring.null-add b
 
   same-least : (a b : A) → a ≡ b → IsAtLeastZero F (difference F.ring a b)
@@ -125,19 +134,26 @@ module _ {A : Type 0} (F : OrderedField A) (m n : ℕ) where
       first_is_best o f = record {
         row = omega arith;
         above = o;
-        least = λ k l g. below_suc (λ k. IsAtLeastZero F (difference F.ring (row_ratio k) (row_ratio i))) k l (λ a. absurd (true≢false (sym g ∙ f k a))) (λ e. same-least (row_ratio k) (row_ratio i) (ap row_ratio e));
-        first = λ k l g _. below_suc (λ k. t.basis i ≤ t.basis k) k l (λ a. absurd (true≢false (sym g ∙ f k a))) (λ e. subst (λ (x : ℕ). t.basis i ≤ t.basis x) (sym e) (omega arith));
+        least = λ k l g. below_suc (λ k. IsAtLeastZero F (difference F.ring (row_ratio k) (row_ratio i))) k l
+            (λ a. absurd (true≢false (sym g ∙ f k a))) (λ e. same-least (row_ratio k) (row_ratio i) (ap row_ratio e));
+        first = λ k l g _. below_suc (λ k. t.basis i ≤ t.basis k) k l (λ a. absurd (true≢false (sym g ∙ f k a)))
+            (λ e. subst (λ (x : ℕ). t.basis i ≤ t.basis x) (sym e) (omega arith));
       }
 
       -- row i comes before the best so far
-      row_is_best : is_candidate (operations_of F) t c i ≡ true → IsBestBelow t c i best_row → (b d : Bool) → F.order.is_least (difference F.ring (row_ratio i) (row_ratio best_row)) ≡ b → F.order.is_least (difference F.ring (row_ratio best_row) (row_ratio i)) ≡ d
+      row_is_best : is_candidate (operations_of F) t c i ≡ true → IsBestBelow t c i best_row → (b d : Bool)
+          → F.order.is_least (difference F.ring (row_ratio i) (row_ratio best_row)) ≡ b
+          → F.order.is_least (difference F.ring (row_ratio best_row) (row_ratio i)) ≡ d
           → cond b (d && ltb (t.basis i) (t.basis best_row)) true ≡ true → IsBestBelow t c (suc i) i
       row_is_best o s false d e f g = record {
         row = omega arith;
         above = o;
-        least = λ k l w. below_suc (λ k. IsAtLeastZero F (difference F.ring (row_ratio k) (row_ratio i))) k l (λ a. at_least_chain (row_ratio k) (row_ratio best_row) (row_ratio i) (s.least k a w) (opposite_of_below (row_ratio i) (row_ratio best_row) e)) (λ x. same-least (row_ratio k) (row_ratio i) (ap row_ratio x));
+        least = λ k l w. below_suc (λ k. IsAtLeastZero F (difference F.ring (row_ratio k) (row_ratio i))) k l
+            (λ a. at_least_chain (row_ratio k) (row_ratio best_row) (row_ratio i) (s.least k a w)
+            (opposite_of_below (row_ratio i) (row_ratio best_row) e)) (λ x. same-least (row_ratio k) (row_ratio i) (ap row_ratio x));
         first = λ k l w x. below_suc (λ k. t.basis i ≤ t.basis k) k l
-            (λ a. absurd (not_both F (difference F.ring (row_ratio i) (row_ratio best_row)) e (subst (λ (y : A). IsAtLeastZero F (difference F.ring y (row_ratio best_row))) x (s.least k a w))))
+            (λ a. absurd (not_both F (difference F.ring (row_ratio i) (row_ratio best_row)) e
+            (subst (λ (y : A). IsAtLeastZero F (difference F.ring y (row_ratio best_row))) x (s.least k a w))))
             (λ x. subst (λ (y : ℕ). t.basis i ≤ t.basis y) (sym x) (omega arith));
       }
       row_is_best o s true false e f g = absurd (false≢true g)
@@ -146,52 +162,73 @@ module _ {A : Type 0} (F : OrderedField A) (m n : ℕ) where
           let l : t.basis i < t.basis best_row = ltb-true (t.basis i) (t.basis best_row) g in record {
             row = omega arith;
             above = o;
-            least = λ k l w. below_suc (λ k. IsAtLeastZero F (difference F.ring (row_ratio k) (row_ratio i))) k l (λ a. subst (λ (z : A). IsAtLeastZero F (difference F.ring (row_ratio k) z)) (sym y) (s.least k a w)) (λ x. same-least (row_ratio k) (row_ratio i) (ap row_ratio x));
+            least = λ k l w. below_suc (λ k. IsAtLeastZero F (difference F.ring (row_ratio k) (row_ratio i))) k l
+                (λ a. subst (λ (z : A). IsAtLeastZero F (difference F.ring (row_ratio k) z)) (sym y) (s.least k a w))
+                (λ x. same-least (row_ratio k) (row_ratio i) (ap row_ratio x));
             first = λ k h w x. below_suc (λ k. t.basis i ≤ t.basis k) k h
                 (λ a. let z : t.basis best_row ≤ t.basis k = s.first k a w (x ∙ y) in omega arith)
                 (λ x. subst (λ (y : ℕ). t.basis i ≤ t.basis y) (sym x) (omega arith));
           }
 
       -- the best so far stays
-      best_stays : is_candidate (operations_of F) t c i ≡ true → IsBestBelow t c i best_row → (b d : Bool) → F.order.is_least (difference F.ring (row_ratio i) (row_ratio best_row)) ≡ b → F.order.is_least (difference F.ring (row_ratio best_row) (row_ratio i)) ≡ d
+      best_stays : is_candidate (operations_of F) t c i ≡ true → IsBestBelow t c i best_row → (b d : Bool)
+          → F.order.is_least (difference F.ring (row_ratio i) (row_ratio best_row)) ≡ b
+          → F.order.is_least (difference F.ring (row_ratio best_row) (row_ratio i)) ≡ d
           → cond b (d && ltb (t.basis i) (t.basis best_row)) true ≡ false → IsBestBelow t c (suc i) best_row
       best_stays o s false d e f g = absurd (true≢false g)
       best_stays o s true d e f g = record {
         row = (let r = s.row in omega arith);
         above = s.above;
-        least = λ k l w. below_suc (λ k. IsAtLeastZero F (difference F.ring (row_ratio k) (row_ratio best_row))) k l (λ a. s.least k a w) (λ x. subst (λ (y : ℕ). IsAtLeastZero F (difference F.ring (row_ratio y) (row_ratio best_row))) (sym x) e);
+        least = λ k l w. below_suc (λ k. IsAtLeastZero F (difference F.ring (row_ratio k) (row_ratio best_row))) k l (λ a. s.least k a w)
+            (λ x. subst (λ (y : ℕ). IsAtLeastZero F (difference F.ring (row_ratio y) (row_ratio best_row))) (sym x) e);
         first = λ k l w x. below_suc (λ k. t.basis best_row ≤ t.basis k) k l (λ a. s.first k a w x)
-            (λ y. subst (λ (z : ℕ). t.basis best_row ≤ t.basis z) (sym y) (basis_at_most d f g (same-least (row_ratio best_row) (row_ratio i) (sym x ∙ ap row_ratio y))));
+            (λ y. subst (λ (z : ℕ). t.basis best_row ≤ t.basis z) (sym y) (basis_at_most d f g
+            (same-least (row_ratio best_row) (row_ratio i) (sym x ∙ ap row_ratio y))));
       }
         where
-          basis_at_most : (d : Bool) → F.order.is_least (difference F.ring (row_ratio best_row) (row_ratio i)) ≡ d → (d && ltb (t.basis i) (t.basis best_row)) ≡ false → IsAtLeastZero F (difference F.ring (row_ratio best_row) (row_ratio i)) → t.basis best_row ≤ t.basis i
+          basis_at_most : (d : Bool) → F.order.is_least (difference F.ring (row_ratio best_row) (row_ratio i)) ≡ d
+              → (d && ltb (t.basis i) (t.basis best_row)) ≡ false → IsAtLeastZero F (difference F.ring (row_ratio best_row) (row_ratio i))
+              → t.basis best_row ≤ t.basis i
           basis_at_most true f g k = ltb-false (t.basis i) (t.basis best_row) g
           basis_at_most false f g k = absurd (not_both F (difference F.ring (row_ratio best_row) (row_ratio i)) f k)
 
       by_test : (b : Bool) → is_candidate (operations_of F) t c i ≡ b → IsBestOrNone t c i best_row
           → IsBestOrNone t c (suc i) (cond b (cond (eqb best_row m) i (cond (precedes (operations_of F) m n t c i best_row) i best_row)) best_row)
-      by_test false o (inl s) = inl (s.0, λ k l. below_suc (λ k. is_candidate (operations_of F) t c k ≡ false) k l (s.1 k) (λ e. ap (is_candidate (operations_of F) t c) e ∙ o))
+      by_test false o (inl s) = inl (
+        s.0,
+        λ k l. below_suc (λ k. is_candidate (operations_of F) t c k ≡ false) k l (s.1 k)
+            (λ e. ap (is_candidate (operations_of F) t c) e ∙ o),
+      )
       by_test false o (inr s) = inr record {
         row = (let r = s.row in omega arith);
         above = s.above;
-        least = λ k l w. below_suc (λ k. IsAtLeastZero F (difference F.ring (row_ratio k) (row_ratio best_row))) k l (λ a. s.least k a w) (λ e. absurd (no_candidate k e o w));
+        least = λ k l w. below_suc (λ k. IsAtLeastZero F (difference F.ring (row_ratio k) (row_ratio best_row))) k l (λ a. s.least k a w)
+            (λ e. absurd (no_candidate k e o w));
         first = λ k l w x. below_suc (λ k. t.basis best_row ≤ t.basis k) k l (λ a. s.first k a w x) (λ e. absurd (no_candidate k e o w));
       }
-      by_test true o (inl s) = subst (λ (b : Bool). IsBestOrNone t c (suc i) (cond b i (cond (precedes (operations_of F) m n t c i best_row) i best_row))) (sym (eq-eqb best_row m s.0)) (inr (first_is_best o s.1))
-      by_test true o (inr s) = subst (λ (b : Bool). IsBestOrNone t c (suc i) (cond b i (cond (precedes (operations_of F) m n t c i best_row) i best_row))) (sym (ne_eqb best_row m (λ e. let r = s.row in omega arith)))
+      by_test true o (inl s) = subst (λ (b : Bool). IsBestOrNone t c (suc i)
+          (cond b i (cond (precedes (operations_of F) m n t c i best_row) i best_row))) (sym (eq-eqb best_row m s.0))
+          (inr (first_is_best o s.1))
+      by_test true o (inr s) = subst (λ (b : Bool). IsBestOrNone t c (suc i)
+          (cond b i (cond (precedes (operations_of F) m n t c i best_row) i best_row)))
+          (sym (ne_eqb best_row m (λ e. let r = s.row in omega arith)))
           (by_order_test (precedes (operations_of F) m n t c i best_row) refl)
         where
           by_order_test : (b : Bool) → precedes (operations_of F) m n t c i best_row ≡ b → IsBestOrNone t c (suc i) (cond b i best_row)
-          by_order_test true e = inr (row_is_best o s (F.order.is_least (difference F.ring (row_ratio i) (row_ratio best_row))) (F.order.is_least (difference F.ring (row_ratio best_row) (row_ratio i))) refl refl e)
-          by_order_test false e = inr (best_stays o s (F.order.is_least (difference F.ring (row_ratio i) (row_ratio best_row))) (F.order.is_least (difference F.ring (row_ratio best_row) (row_ratio i))) refl refl e)
+          by_order_test true e = inr (row_is_best o s (F.order.is_least (difference F.ring (row_ratio i) (row_ratio best_row)))
+              (F.order.is_least (difference F.ring (row_ratio best_row) (row_ratio i))) refl refl e)
+          by_order_test false e = inr (best_stays o s (F.order.is_least (difference F.ring (row_ratio i) (row_ratio best_row)))
+              (F.order.is_least (difference F.ring (row_ratio best_row) (row_ratio i))) refl refl e)
 
   above_is_candidate : (t : SimplexTable A) (c i : ℕ) → IsAboveZero F (t.entry i c) → is_candidate (operations_of F) t c i ≡ true
   above_is_candidate t c i h = ap not h
 
-  pub leaving_is : (p : FeasibilityProblem A) (t : SimplexTable A) (c : ℕ) → HasInvariants (operations_of F) m n p t → IsBelowZero F (t.entry m c) → Leaves t c (leaving_row (operations_of F) m n t c)
+  pub leaving_is : (p : FeasibilityProblem A) (t : SimplexTable A) (c : ℕ) → HasInvariants (operations_of F) m n p t
+      → IsBelowZero F (t.entry m c) → Leaves t c (leaving_row (operations_of F) m n t c)
   leaving_is p t c h b = by_cases (leaving_best t c m (omega arith)) (some_row p t c h b)
     where
-      by_cases : IsBestOrNone t c m (leaving_row (operations_of F) m n t c) → ((i : ℕ) × (i < m) × IsAboveZero F (t.entry i c)) → Leaves t c (leaving_row (operations_of F) m n t c)
+      by_cases : IsBestOrNone t c m (leaving_row (operations_of F) m n t c) → ((i : ℕ) × (i < m) × IsAboveZero F (t.entry i c))
+          → Leaves t c (leaving_row (operations_of F) m n t c)
       by_cases (inl s) w = absurd (true≢false (sym (above_is_candidate t c w.0 w.2) ∙ s.1 w.0 w.1))
       by_cases (inr s) w = record {
         row = s.row;

@@ -40,9 +40,13 @@ module _ {A : Type 0} (F : OrderedField A) (m n : ℕ) (p : FeasibilityProblem A
         where
           by_test : (d : Bool) → eqb i row ≡ d
               → cond d (F.ring.mul (t.entry row (n + m)) (F.order.inv (t.entry row (entering_column (operations_of F) m n t))))
-              (difference F.ring (t.entry i (n + m)) (F.ring.mul (t.entry row (n + m)) (F.ring.mul (t.entry i (entering_column (operations_of F) m n t)) (F.order.inv (t.entry row (entering_column (operations_of F) m n t)))))) ≡ t.entry i (n + m)
-          by_test true e = null_times (F.order.inv (t.entry row (entering_column (operations_of F) m n t))) ∙ sym degenerate ∙ ap (λ k. t.entry k (n + m)) (sym (eqb-true i row e))
-          by_test false e = minus_null (t.entry i (n + m)) (F.ring.mul (t.entry i (entering_column (operations_of F) m n t)) (F.order.inv (t.entry row (entering_column (operations_of F) m n t))))
+              (difference F.ring (t.entry i (n + m)) (F.ring.mul (t.entry row (n + m))
+              (F.ring.mul (t.entry i (entering_column (operations_of F) m n t))
+              (F.order.inv (t.entry row (entering_column (operations_of F) m n t)))))) ≡ t.entry i (n + m)
+          by_test true e = null_times (F.order.inv (t.entry row (entering_column (operations_of F) m n t))) ∙ sym degenerate
+              ∙ ap (λ k. t.entry k (n + m)) (sym (eqb-true i row e))
+          by_test false e = minus_null (t.entry i (n + m)) (F.ring.mul (t.entry i (entering_column (operations_of F) m n t))
+              (F.order.inv (t.entry row (entering_column (operations_of F) m n t))))
 
       -- a degenerate step moves the row that leaves
       pub row_moves : IsBehind b (next (operations_of F) m n t) (λ q. cond (eqb q row) true (moved q))

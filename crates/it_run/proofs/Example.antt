@@ -34,6 +34,7 @@ last_right : ((next_table (next_table first_table)).entry 3 6).num ≡ negsuc 0
 unfolding quotient gcd gcd_within
 last_right = refl
 
-last_point : map (λ q. q.num) (point rationals 3 3 (feasibility_problem coordinates elementals target) (next_table (next_table first_table))) ≡ pos 0 ∷ pos 1 ∷ pos 1 ∷ []
+last_point : map (λ q. q.num) (point rationals 3 3 (feasibility_problem coordinates elementals target)
+    (next_table (next_table first_table))) ≡ pos 0 ∷ pos 1 ∷ pos 1 ∷ []
 unfolding quotient gcd gcd_within
 last_point = refl

@@ -35,13 +35,16 @@ module _ {S W P : Type 0} (IsDone IsStuck Fits : S → Type 0) (next : S → S) 
       by_cases (inr d) = h j (omega arith)
 
   -- with a budget
-  first_bound : (b left k : ℕ) (s : S) (e : RunEndView W P) → k + left ≡ b → ((j : ℕ) → j < k → On (Some b) j (state s j)) → Run left k (state s k) e → First (Some b) s e
+  first_bound : (b left k : ℕ) (s : S) (e : RunEndView W P) → k + left ≡ b → ((j : ℕ) → j < k → On (Some b) j (state s j))
+      → Run left k (state s k) e → First (Some b) s e
   first_bound b zero k s e q h (inl r) = record { steps = k; before = h; here = inl r }
   first_bound b zero k s e q h (inr (inl r)) = record { steps = k; before = h; here = inr (inl r) }
-  first_bound b zero k s e q h (inr (inr r)) = let x : b ≡ k = omega arith in record { steps = k; before = h; here = inr (inr (inl (r.0, r.1, ap (λ (y : ℕ). Some y) x, r.2))) }
+  first_bound b zero k s e q h (inr (inr r)) = let x : b ≡ k = omega arith
+      in record { steps = k; before = h; here = inr (inr (inl (r.0, r.1, ap (λ (y : ℕ). Some y) x, r.2))) }
   first_bound b (suc left) k s e q h (inl r) = record { steps = k; before = h; here = inl r }
   first_bound b (suc left) k s e q h (inr (inl r)) = record { steps = k; before = h; here = inr (inl r) }
-  first_bound b (suc left) k s e q h (inr (inr r)) = by_cases r.2 (λ f. first_bound b left (suc k) s e (omega arith) (one_longer (Some b) s k h (r.0, r.1, budget_remains, f)))
+  first_bound b (suc left) k s e q h (inr (inr r)) = by_cases r.2 (λ f. first_bound b left (suc k) s e (omega arith)
+      (one_longer (Some b) s k h (r.0, r.1, budget_remains, f)))
     where
       budget_remains : Some b ≢ Some k
       budget_remains x = let y : b ≡ k = some_same b k x in omega arith
@@ -52,7 +55,8 @@ module _ {S W P : Type 0} (IsDone IsStuck Fits : S → Type 0) (next : S → S) 
       by_cases (inr f) ih = ih f.0 f.1
 
   -- without one
-  first_free : (left k : ℕ) (s : S) (e : RunEndView W P) → ((j : ℕ) → e ≢ Pivots j) → ((j : ℕ) → j < k → On None j (state s j)) → Run left k (state s k) e → First None s e
+  first_free : (left k : ℕ) (s : S) (e : RunEndView W P) → ((j : ℕ) → e ≢ Pivots j) → ((j : ℕ) → j < k → On None j (state s j))
+      → Run left k (state s k) e → First None s e
   first_free zero k s e w h (inl r) = record { steps = k; before = h; here = inl r }
   first_free zero k s e w h (inr (inl r)) = record { steps = k; before = h; here = inr (inl r) }
   first_free zero k s e w h (inr (inr r)) = absurd (w k r.2)
@@ -66,7 +70,8 @@ module _ {S W P : Type 0} (IsDone IsStuck Fits : S → Type 0) (next : S → S) 
       by_cases (inr f) ih = ih f.0 f.1
 
   -- back from step k to the first
-  run_from_first_step : (o : Option ℕ) (x k : ℕ) (s : S) (e : RunEndView W P) → ((j : ℕ) → j < k → On o j (state s j)) → Run x k (state s k) e → Run (k + x) 0 s e
+  run_from_first_step : (o : Option ℕ) (x k : ℕ) (s : S) (e : RunEndView W P) → ((j : ℕ) → j < k → On o j (state s j))
+      → Run x k (state s k) e → Run (k + x) 0 s e
   run_from_first_step o x zero s e h r = subst (λ (y : ℕ). Run y 0 s e) zero_plus r
     where
       zero_plus : x ≡ 0 + x
@@ -84,7 +89,12 @@ module _ {S W P : Type 0} (IsDone IsStuck Fits : S → Type 0) (next : S → S) 
       by_cases (inl r) = (f.steps + 0, run_from_first_step None 0 f.steps s e f.before (inl r), λ k q. let h = r.1 in cc)
       by_cases (inr (inl r)) = (f.steps + 0, run_from_first_step None 0 f.steps s e f.before (inr (inl r)), λ k q. let h = r.2 in cc)
       by_cases (inr (inr (inl r))) = absurd (none_is_not_some f.steps r.2)
-      by_cases (inr (inr (inr r))) = (f.steps + 1, run_from_first_step None 1 f.steps s e f.before (inr (inr (r.0, r.1, inl (r.3, r.4)))), λ k q. let h = r.4 in cc)
+      by_cases (inr (inr (inr r))) = (
+        f.steps + 1,
+        run_from_first_step None 1 f.steps s e f.before
+            (inr (inr (r.0, r.1, inl (r.3, r.4)))),
+        λ k q. let h = r.4 in cc,
+      )
 
   bound_first : (b : ℕ) (s : S) (e : RunEndView W P) → First (Some b) s e → Run b 0 s e
   bound_first b s e f = by_cases (cases_lt b f.steps) (b - f.steps) refl f.here
@@ -104,6 +114,7 @@ module _ {S W P : Type 0} (IsDone IsStuck Fits : S → Type 0) (next : S → S) 
       by_cases (inr l) (suc x) q (inr (inr (inr r))) = run_from_start (suc x) l q (inr (inr (r.0, r.1, inl (r.3, r.4))))
 
   pub ends_are_first : (budget : Option ℕ) (s : S) (e : RunEndView W P)
-      → (EndsBy IsDone IsStuck Fits next weights point budget s e → First budget s e) × (First budget s e → EndsBy IsDone IsStuck Fits next weights point budget s e)
+      → (EndsBy IsDone IsStuck Fits next weights point budget s e → First budget s e)
+      × (First budget s e → EndsBy IsDone IsStuck Fits next weights point budget s e)
   ends_are_first (Some b) s e = (λ r. first_bound b b 0 s e (omega arith) (λ j l. absurd (omega arith)) r, λ f. bound_first b s e f)
   ends_are_first None s e = (λ r. first_free r.0 0 s e r.2 (λ j l. absurd (omega arith)) r.1, λ f. free_first s e f)

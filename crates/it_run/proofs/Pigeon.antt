@@ -8,7 +8,8 @@ value_is_taken : (f : ℕ → ℕ) (v N : ℕ) → ((k : ℕ) × (k < N) × (f k
 value_is_taken f v zero = inr (λ k l. absurd (omega arith))
 value_is_taken f v (suc N) = by_cases (cases_eq (f N) v) (value_is_taken f v N)
   where
-    by_cases : (f N ≡ v) ⊎ (f N ≡ v → ⊥) → ((k : ℕ) × (k < N) × (f k ≡ v)) ⊎ ((k : ℕ) → k < N → f k ≢ v) → ((k : ℕ) × (k < suc N) × (f k ≡ v)) ⊎ ((k : ℕ) → k < suc N → f k ≢ v)
+    by_cases : (f N ≡ v) ⊎ (f N ≡ v → ⊥) → ((k : ℕ) × (k < N) × (f k ≡ v)) ⊎ ((k : ℕ) → k < N → f k ≢ v)
+        → ((k : ℕ) × (k < suc N) × (f k ≡ v)) ⊎ ((k : ℕ) → k < suc N → f k ≢ v)
     by_cases (inl e) _ = inl (N, omega arith, e)
     by_cases (inr d) (inl s) = inl (s.0, omega (arith, s.1), s.2)
     by_cases (inr d) (inr s) = inr (λ k l. by_index k (eq-or-lt_of_le (le_of_suc-le-suc l)))
@@ -33,9 +34,12 @@ closed_same v x y d e q = by_cases (cases_lt x v) (cases_lt y v)
   where
     by_cases : (x < v) ⊎ (v ≤ x) → (y < v) ⊎ (v ≤ y) → x ≡ y
     by_cases (inl l) (inl k) = ap (λ b. cond b x (x - 1)) (sym (lt-ltb x v l)) ∙ q ∙ ap (λ b. cond b y (y - 1)) (lt-ltb y v k)
-    by_cases (inl l) (inr k) = let z : x ≡ y - 1 = ap (λ b. cond b x (x - 1)) (sym (lt-ltb x v l)) ∙ q ∙ ap (λ b. cond b y (y - 1)) (le-ltb y v k) in absurd (omega arith)
-    by_cases (inr l) (inl k) = let z : x - 1 ≡ y = ap (λ b. cond b x (x - 1)) (sym (le-ltb x v l)) ∙ q ∙ ap (λ b. cond b y (y - 1)) (lt-ltb y v k) in absurd (omega arith)
-    by_cases (inr l) (inr k) = let z : x - 1 ≡ y - 1 = ap (λ b. cond b x (x - 1)) (sym (le-ltb x v l)) ∙ q ∙ ap (λ b. cond b y (y - 1)) (le-ltb y v k) in omega arith
+    by_cases (inl l) (inr k) = let z : x ≡ y - 1 = ap (λ b. cond b x (x - 1)) (sym (lt-ltb x v l)) ∙ q
+        ∙ ap (λ b. cond b y (y - 1)) (le-ltb y v k) in absurd (omega arith)
+    by_cases (inr l) (inl k) = let z : x - 1 ≡ y = ap (λ b. cond b x (x - 1)) (sym (le-ltb x v l)) ∙ q
+        ∙ ap (λ b. cond b y (y - 1)) (lt-ltb y v k) in absurd (omega arith)
+    by_cases (inr l) (inr k) = let z : x - 1 ≡ y - 1 = ap (λ b. cond b x (x - 1)) (sym (le-ltb x v l)) ∙ q
+        ∙ ap (λ b. cond b y (y - 1)) (le-ltb y v k) in omega arith
 
 pub pigeonhole : (N : ℕ) (f : ℕ → ℕ) → ((k : ℕ) → k ≤ N → f k < N) → (a b : ℕ) × (a < b) × (b ≤ N) × (f a ≡ f b)
 pigeonhole zero f h = absurd (let l : f 0 < 0 = h 0 (omega arith) in omega arith)
@@ -72,9 +76,11 @@ digits_below C (suc m) b h =
     let e : C ^ suc m ≡ C * C ^ m = pow-succ' C m in
     subst (λ (y : ℕ). b m + C * digits C m b < y) (sym e) (omega arith)
 
-pub digits_tell : (C m : ℕ) (a b : ℕ → ℕ) → ((i : ℕ) → i < m → a i < C) → ((i : ℕ) → i < m → b i < C) → digits C m a ≡ digits C m b → (i : ℕ) → i < m → a i ≡ b i
+pub digits_tell : (C m : ℕ) (a b : ℕ → ℕ) → ((i : ℕ) → i < m → a i < C) → ((i : ℕ) → i < m → b i < C) → digits C m a ≡ digits C m b
+    → (i : ℕ) → i < m → a i ≡ b i
 digits_tell C zero a b ha hb e i l = absurd (omega arith)
-digits_tell C (suc m) a b ha hb e i l = by_cases (cases_eq (digits C m a) (digits C m b)) (λ q. digits_tell C m a b (λ i l. ha i (omega arith)) (λ i l. hb i (omega arith)) q i)
+digits_tell C (suc m) a b ha hb e i l = by_cases (cases_eq (digits C m a) (digits C m b))
+    (λ q. digits_tell C m a b (λ i l. ha i (omega arith)) (λ i l. hb i (omega arith)) q i)
   where
     higher_digits_agree : (x y p q : ℕ) → x < C → y < C → x + C * p ≡ y + C * q → (p ≡ q → ⊥) → ⊥
     higher_digits_agree x y p q hx hy e d = by_higher_digits (cases_lt p q)

@@ -10,7 +10,8 @@ use Rattle.it_tableau.proofs.Sums.{sum_same, sum_null, sum_one}
 use Rattle.it_tableau.proofs.BasicColumns.{basic_columns_differ}
 
 module _ {A : Type 0} (F : OrderedField A) (m n : ℕ) where
-  pub weight_found : (p : FeasibilityProblem A) (t : SimplexTable A) → HasInvariants (operations_of F) m n p t → (i j : ℕ) → i < m → t.basis i ≡ j → weight (operations_of F) m n t j ≡ t.entry i (n + m)
+  pub weight_found : (p : FeasibilityProblem A) (t : SimplexTable A) → HasInvariants (operations_of F) m n p t → (i j : ℕ) → i < m
+      → t.basis i ≡ j → weight (operations_of F) m n t j ≡ t.entry i (n + m)
   weight_found p t h i j l e =
       sum_same F.ring m (λ k. cond (eqb (t.basis k) j) (t.entry k (n + m)) F.ring.null) (λ k. cond (eqb k i) (t.entry k (n + m)) F.ring.null)
       (λ k q. ap (λ b. cond b (t.entry k (n + m)) F.ring.null) (by_cases k q (cases_eq k i)))

@@ -8,7 +8,8 @@ use Rattle.it_run.specs.Readings.{weight}
 module _ {A : Type 0} (K : Operations A) (m n : ℕ) where
   -- the nonzero weights of left columns from column j on
   abbrev pub weights_from_column : SimplexTable A → ℕ → ℕ → List (ℕ × A)
-  weights_from_column t j left = filter (λ (w : ℕ × A). not (K.is_least w.1 && K.is_least (K.neg w.1))) (map (λ i. (i, weight K m n t i)) (range_with_len j left))
+  weights_from_column t j left = filter (λ (w : ℕ × A). not (K.is_least w.1 && K.is_least (K.neg w.1)))
+      (map (λ i. (i, weight K m n t i)) (range_with_len j left))
 
   -- the point at row k
   abbrev pub point_value : FeasibilityProblem A → SimplexTable A → ℕ → A

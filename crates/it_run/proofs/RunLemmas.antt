@@ -59,7 +59,8 @@ module _ {S W P : Type 0} (IsDone IsStuck Fits : S → Type 0) (next : S → S) 
     comes_from_equal : (d e : RunEndView W P) → e ≡ d → EndComesFrom d → EndComesFrom e
     comes_from_equal d e q c = subst EndComesFrom (sym q) c
 
-    pub end_comes_from : ((s : S) → I s → ¬ (IsDone s) → ¬ (IsStuck s) → I (next s)) → (left k : ℕ) (s : S) (e : RunEndView W P) → I s → Run left k s e → EndComesFrom e
+    pub end_comes_from : ((s : S) → I s → ¬ (IsDone s) → ¬ (IsStuck s) → I (next s)) → (left k : ℕ) (s : S) (e : RunEndView W P) → I s
+        → Run left k s e → EndComesFrom e
     end_comes_from keeps zero k s e i (inl p) = comes_from_equal (Weights (weights s)) e p.1 (s, i, p.0, refl)
     end_comes_from keeps zero k s e i (inr (inl p)) = comes_from_equal (Point (point s)) e p.2 (s, i, p.0, p.1, refl)
     end_comes_from keeps zero k s e i (inr (inr p)) = comes_from_equal (Pivots k) e p.2 tt
@@ -67,17 +68,21 @@ module _ {S W P : Type 0} (IsDone IsStuck Fits : S → Type 0) (next : S → S) 
     end_comes_from keeps (suc left) k s e i (inr (inl p)) = comes_from_equal (Point (point s)) e p.2 (s, i, p.0, p.1, refl)
     end_comes_from keeps (suc left) k s e i (inr (inr p)) = by_cases p.2 (λ r. end_comes_from keeps left (suc k) (next s) e (keeps s i p.0 p.1) r)
       where
-        by_cases : ((¬ (Fits s) × (e ≡ Width (clip_number (suc k)))) ⊎ (Fits s × Run left (suc k) (next s) e)) → (Run left (suc k) (next s) e → EndComesFrom e) → EndComesFrom e
+        by_cases : ((¬ (Fits s) × (e ≡ Width (clip_number (suc k)))) ⊎ (Fits s × Run left (suc k) (next s) e))
+            → (Run left (suc k) (next s) e → EndComesFrom e) → EndComesFrom e
         by_cases (inl a) ih = comes_from_equal (Width (clip_number (suc k))) e a.1 tt
         by_cases (inr a) ih = ih a.1
 
 module _ {A : Type 0} (F : OrderedField A) (m n : ℕ) where
   -- a step of the run keeps the invariants
-  pub next_holds : (p : FeasibilityProblem A) (t : SimplexTable A) → HasInvariants (operations_of F) m n p t → ¬ (IsStuck (operations_of F) m n t) → HasInvariants (operations_of F) m n p (next (operations_of F) m n t)
+  pub next_holds : (p : FeasibilityProblem A) (t : SimplexTable A) → HasInvariants (operations_of F) m n p t
+      → ¬ (IsStuck (operations_of F) m n t) → HasInvariants (operations_of F) m n p (next (operations_of F) m n t)
   next_holds p t h s =
       let e = entering_is F m n t (some_column F m n t s) in
       let l = leaving_is F m n p t (entering_column (operations_of F) m n t) h e.below in
-      pivot_keeps_invariants F m n p t (leaving_row (operations_of F) m n t (entering_column (operations_of F) m n t)) (entering_column (operations_of F) m n t) h (may_enter F m n t (entering_column (operations_of F) m n t) (leaving_row (operations_of F) m n t (entering_column (operations_of F) m n t)) e l)
+      pivot_keeps_invariants F m n p t (leaving_row (operations_of F) m n t (entering_column (operations_of F) m n t))
+      (entering_column (operations_of F) m n t) h (may_enter F m n t (entering_column (operations_of F) m n t)
+      (leaving_row (operations_of F) m n t (entering_column (operations_of F) m n t)) e l)
 
 -- the weights or the point, read off the last table of a run
 module _ {S W P : Type 0} (IsDone IsStuck Fits : S → Type 0) (next : S → S) (weights : S → W) (point : S → P) where
@@ -88,7 +93,8 @@ module _ {S W P : Type 0} (IsDone IsStuck Fits : S → Type 0) (next : S → S) 
   with_readings (Pivots k) = Pivots k
   with_readings (Width k) = Width k
 
-  pub end_with_readings : (left k : ℕ) (s : S) (e : RunEndView S S) → EndsAs IsDone IsStuck Fits next (λ s. s) (λ s. s) left k s e → EndsAs IsDone IsStuck Fits next weights point left k s (with_readings e)
+  pub end_with_readings : (left k : ℕ) (s : S) (e : RunEndView S S) → EndsAs IsDone IsStuck Fits next (λ s. s) (λ s. s) left k s e
+      → EndsAs IsDone IsStuck Fits next weights point left k s (with_readings e)
   end_with_readings zero k s e (inl p) = inl (p.0, ap with_readings p.1)
   end_with_readings zero k s e (inr (inl p)) = inr (inl (p.0, p.1, ap with_readings p.2))
   end_with_readings zero k s e (inr (inr p)) = inr (inr (p.0, p.1, ap with_readings p.2))
@@ -97,8 +103,10 @@ module _ {S W P : Type 0} (IsDone IsStuck Fits : S → Type 0) (next : S → S) 
   end_with_readings (suc left) k s e (inr (inr p)) = inr (inr (p.0, p.1, by_cases p.2 (λ r. end_with_readings left (suc k) (next s) e r)))
     where
       by_cases : ((¬ (Fits s) × (e ≡ Width (clip_number (suc k)))) ⊎ (Fits s × EndsAs IsDone IsStuck Fits next (λ s. s) (λ s. s) left (suc k) (next s) e))
-          → (EndsAs IsDone IsStuck Fits next (λ s. s) (λ s. s) left (suc k) (next s) e → EndsAs IsDone IsStuck Fits next weights point left (suc k) (next s) (with_readings e))
-          → ((¬ (Fits s) × (with_readings e ≡ Width (clip_number (suc k)))) ⊎ (Fits s × EndsAs IsDone IsStuck Fits next weights point left (suc k) (next s) (with_readings e)))
+          → (EndsAs IsDone IsStuck Fits next (λ s. s) (λ s. s) left (suc k) (next s) e
+          → EndsAs IsDone IsStuck Fits next weights point left (suc k) (next s) (with_readings e))
+          → ((¬ (Fits s) × (with_readings e ≡ Width (clip_number (suc k))))
+          ⊎ (Fits s × EndsAs IsDone IsStuck Fits next weights point left (suc k) (next s) (with_readings e)))
       by_cases (inl a) ih = inl (a.0, ap with_readings a.1)
       by_cases (inr a) ih = inr (a.0, ih a.1)
 
@@ -112,12 +120,16 @@ module _ {A : Type 0} (F : OrderedField A) (m n : ℕ) where
 
   -- the end of a run from the start is right
   pub run_right : (Fits : SimplexTable A → Type 0) (p : FeasibilityProblem A) (budget : ℕ) (e : RunEndView (List (ℕ × A)) (List A))
-      → EndsAs (IsDone (operations_of F) m n) (IsStuck (operations_of F) m n) Fits (next (operations_of F) m n) (weights (operations_of F) m n) (point (operations_of F) m n p) budget zero (start (operations_of F) m n p) e → EndIsRight p e
+      → EndsAs (IsDone (operations_of F) m n) (IsStuck (operations_of F) m n) Fits (next (operations_of F) m n)
+      (weights (operations_of F) m n) (point (operations_of F) m n p) budget zero (start (operations_of F) m n p) e → EndIsRight p e
   run_right Fits p budget e r = for_each e
-      (end_comes_from (IsDone (operations_of F) m n) (IsStuck (operations_of F) m n) Fits (next (operations_of F) m n) (weights (operations_of F) m n) (point (operations_of F) m n p) (HasInvariants (operations_of F) m n p)
+      (end_comes_from (IsDone (operations_of F) m n) (IsStuck (operations_of F) m n) Fits (next (operations_of F) m n)
+      (weights (operations_of F) m n) (point (operations_of F) m n p) (HasInvariants (operations_of F) m n p)
       (λ t h d s. next_holds F m n p t h s) budget zero (start (operations_of F) m n p) e (start_has_invariants F m n p) r)
     where
-      for_each : (e : RunEndView (List (ℕ × A)) (List A)) → EndComesFrom (IsDone (operations_of F) m n) (IsStuck (operations_of F) m n) Fits (next (operations_of F) m n) (weights (operations_of F) m n) (point (operations_of F) m n p) (HasInvariants (operations_of F) m n p) e → EndIsRight p e
+      for_each : (e : RunEndView (List (ℕ × A)) (List A)) → EndComesFrom (IsDone (operations_of F) m n) (IsStuck (operations_of F) m n) Fits
+          (next (operations_of F) m n) (weights (operations_of F) m n) (point (operations_of F) m n p)
+          (HasInvariants (operations_of F) m n p) e → EndIsRight p e
       for_each (Weights w) c = subst (SumsUp (operations_of F) m n p) (sym c.3) (weights_right F m n p c.0 c.1 c.2)
       for_each (Point w) c = subst (Separates (operations_of F) m n p) (sym c.4) (point_right F m n p c.0 c.1 c.2 c.3)
       for_each (Pivots j) c = tt

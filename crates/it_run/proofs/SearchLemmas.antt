@@ -20,7 +20,8 @@ first_false_at_most f k (suc left) = by_test (f k) (first_false_at_most f (suc k
 -- the first number at which one function is false is that of another which agrees with it
 pub first_false_agrees : (f g : ℕ → Bool) (k left : ℕ) → ((j : ℕ) → k ≤ j → j < k + left → f j ≡ g j) → first_false f k left ≡ first_false g k left
 first_false_agrees f g k zero e = refl
-first_false_agrees f g k (suc left) e = ap₂ (λ b x. cond b x k) (e k (omega arith) (omega arith)) (first_false_agrees f g (suc k) left (λ j a b. e j (omega arith) (omega arith)))
+first_false_agrees f g k (suc left) e = ap₂ (λ b x. cond b x k) (e k (omega arith) (omega arith))
+    (first_false_agrees f g (suc k) left (λ j a b. e j (omega arith) (omega arith)))
 
 pub first_is : (f : ℕ → Bool) (n j : ℕ) → j < n → ((k : ℕ) → k < j → f k ≡ true) → f j ≡ false → first_false f 0 n ≡ j
 first_is f n j l before here = by_cases (cases_lt (first_false f 0 n) j) (cases_lt j (first_false f 0 n))
@@ -46,14 +47,17 @@ before_greater q best b d e = let g = cmp_greater q best e in ap₂ (λ x y. con
 pub before_equal : (q best : Rational) (b d : ℕ) → rational_cmp q best ≡ Equal → ratio_precedes q b best d ≡ ltb b d
 before_equal q best b d e = let g = cmp_equal q best e in ap₂ (λ x y. cond x (y && ltb b d) true) g.0 g.1
 
-pub best_skips : (m n : ℕ) (t : SimplexTable Rational) (c i : ℕ) (best : Option (ℕ × Rational)) → is_candidate rationals t c i ≡ false → IsBestOf m n t c i best → IsBestOf m n t c (i + 1) best
+pub best_skips : (m n : ℕ) (t : SimplexTable Rational) (c i : ℕ) (best : Option (ℕ × Rational)) → is_candidate rationals t c i ≡ false
+    → IsBestOf m n t c i best → IsBestOf m n t c (i + 1) best
 best_skips m n t c i best o h = subst (λ (k : ℕ). IsBestOf m n t c k best) next_row (by_option best h)
   where
     next_row : suc i ≡ i + 1
     next_row = omega arith
 
     same_row : leaving_row_of rationals m n t c (suc i) ≡ leaving_row_of rationals m n t c i
-    same_row = ap (λ b. cond b (cond (eqb (leaving_row_of rationals m n t c i) m) i (cond (precedes rationals m n t c i (leaving_row_of rationals m n t c i)) i (leaving_row_of rationals m n t c i))) (leaving_row_of rationals m n t c i)) o
+    same_row = ap (λ b. cond b (cond (eqb (leaving_row_of rationals m n t c i) m) i
+        (cond (precedes rationals m n t c i (leaving_row_of rationals m n t c i)) i (leaving_row_of rationals m n t c i)))
+        (leaving_row_of rationals m n t c i)) o
 
     by_option : (best : Option (ℕ × Rational)) → IsBestOf m n t c i best → IsBestOf m n t c (suc i) best
     by_option None h = same_row ∙ h
@@ -74,7 +78,13 @@ best_takes m n t c i q best hi o e h = subst (λ (k : ℕ). IsBestOf m n t c k (
         (leaving_row_of rationals m n t c i)) o
 
     by_option : (best : Option (ℕ × Rational)) → IsBestOf m n t c i best → IsBestOf m n t c (suc i) (best_after best i q t.basis)
-    by_option None h = (leaving_row_step ∙ ap (λ b. cond b i (cond (precedes rationals m n t c i (leaving_row_of rationals m n t c i)) i (leaving_row_of rationals m n t c i))) (eq-eqb (leaving_row_of rationals m n t c i) m h), omega arith, e, o)
+    by_option None h = (
+      leaving_row_step ∙ ap (λ b. cond b i (cond (precedes rationals m n t c i (leaving_row_of rationals m n t c i)) i
+          (leaving_row_of rationals m n t c i))) (eq-eqb (leaving_row_of rationals m n t c i) m h),
+      omega arith,
+      e,
+      o,
+    )
     by_option (Some b) h = by_order_test (ratio_precedes q (t.basis i) b.1 (t.basis b.0)) refl
       where
         earlier_row_leaves : leaving_row_of rationals m n t c (suc i) ≡ cond (ratio_precedes q (t.basis i) b.1 (t.basis b.0)) i b.0

@@ -15,7 +15,8 @@ sign_is_negative false = refl
 -- the negation of 1 as a number of its own
 pub minus_one : Q.minus (integer (pos 1)) ≡ integer (negsuc 0)
 minus_one = let unit : Rational = integer (pos 1) in
-    same_value (Q.minus unit) (integer (negsuc 0)) (neg_ℤ unit.num) (negsuc 0) unit.den 1 unit.positive (omega arith) (quotient_names (neg_ℤ unit.num) unit.den unit.positive) (whole_names (negsuc 0))
+    same_value (Q.minus unit) (integer (negsuc 0)) (neg_ℤ unit.num) (negsuc 0) unit.den 1 unit.positive (omega arith)
+    (quotient_names (neg_ℤ unit.num) unit.den unit.positive) (whole_names (negsuc 0))
     (omega (arith, ints, whole_names (pos 1)))
 
 -- the negation or the number itself is the sign times the number

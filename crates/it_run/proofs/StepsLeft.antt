@@ -26,12 +26,16 @@ module _ {A : Type 0} (F : OrderedField A) (m n : ℕ) where
       by_cases (inr q) = omega arith
 
   -- some table within most_steps steps has no column to enter
-  pub not_always : (p : FeasibilityProblem A) (t : SimplexTable A) → HasInvariants (operations_of F) m n p t → ((k : ℕ) → k ≤ most_steps → ¬ (IsStuck (operations_of F) m n (table_after (operations_of F) m n t k))) → ⊥
+  pub not_always : (p : FeasibilityProblem A) (t : SimplexTable A) → HasInvariants (operations_of F) m n p t
+      → ((k : ℕ) → k ≤ most_steps → ¬ (IsStuck (operations_of F) m n (table_after (operations_of F) m n t k))) → ⊥
   not_always p t h s =
-      let q = pigeonhole most_steps (λ k. digits (n + m) m (table_after (operations_of F) m n t k).basis) (λ k l. digits_below (n + m) m (table_after (operations_of F) m n t k).basis (basis_below p (table_after (operations_of F) m n t k) (invariants_after k l))) in
+      let q = pigeonhole most_steps (λ k. digits (n + m) m (table_after (operations_of F) m n t k).basis)
+      (λ k l. digits_below (n + m) m (table_after (operations_of F) m n t k).basis
+      (basis_below p (table_after (operations_of F) m n t k) (invariants_after k l))) in
       never_again F m n p t h most_steps (λ k l. s k (omega arith)) q.0 q.1 q.2 q.3
       (digits_tell (n + m) m (table_after (operations_of F) m n t q.0).basis (table_after (operations_of F) m n t q.1).basis
-      (basis_below p (table_after (operations_of F) m n t q.0) (invariants_after q.0 (omega (arith, q.2, q.3)))) (basis_below p (table_after (operations_of F) m n t q.1) (invariants_after q.1 q.3)) q.4)
+      (basis_below p (table_after (operations_of F) m n t q.0) (invariants_after q.0 (omega (arith, q.2, q.3))))
+      (basis_below p (table_after (operations_of F) m n t q.1) (invariants_after q.1 q.3)) q.4)
     where
       invariants_after : (k : ℕ) → k ≤ most_steps → HasInvariants (operations_of F) m n p (table_after (operations_of F) m n t k)
       invariants_after zero l = h
@@ -50,7 +54,8 @@ module _ {A : Type 0} (F : OrderedField A) (m n : ℕ) where
   after_next t (suc k) = ap (next (operations_of F) m n) (after_next t k)
 
   pub stuck_if : (t : SimplexTable A) → is_moving t ≡ false → IsStuck (operations_of F) m n t
-  stuck_if t e j l = first_before (λ j. F.order.is_least (t.entry m j)) 0 n j (omega arith) (let q : n ≤ entering_column (operations_of F) m n t = ltb-false (entering_column (operations_of F) m n t) n e in omega arith)
+  stuck_if t e j l = first_before (λ j. F.order.is_least (t.entry m j)) 0 n j (omega arith)
+      (let q : n ≤ entering_column (operations_of F) m n t = ltb-false (entering_column (operations_of F) m n t) n e in omega arith)
 
   pub moving_if : (t : SimplexTable A) → ¬ (IsStuck (operations_of F) m n t) → is_moving t ≡ true
   moving_if t s = by_cases (cases_Bool (is_moving t))
@@ -76,18 +81,23 @@ module _ {A : Type 0} (F : OrderedField A) (m n : ℕ) where
       by_cases true q (inr c) ih = ih (omega arith)
 
   -- each step lowers it
-  pub steps_fall : (p : FeasibilityProblem A) (t : SimplexTable A) → HasInvariants (operations_of F) m n p t → ¬ (IsStuck (operations_of F) m n t) → steps_left (next (operations_of F) m n t) < steps_left t
+  pub steps_fall : (p : FeasibilityProblem A) (t : SimplexTable A) → HasInvariants (operations_of F) m n p t
+      → ¬ (IsStuck (operations_of F) m n t) → steps_left (next (operations_of F) m n t) < steps_left t
   steps_fall p t h s = by_cases (cases_lt (steps_left t) (suc most_steps))
     where
       by_cases : (steps_left t < suc most_steps) ⊎ (suc most_steps ≤ steps_left t) → steps_left (next (operations_of F) m n t) < steps_left t
-      by_cases (inr l) = absurd (not_always p t h (λ k q. not_stuck_if (table_after (operations_of F) m n t k) (first_before (λ k. is_moving (table_after (operations_of F) m n t k)) 0 (suc most_steps) k (omega arith) (omega arith))))
+      by_cases (inr l) = absurd (not_always p t h (λ k q. not_stuck_if (table_after (operations_of F) m n t k)
+          (first_before (λ k. is_moving (table_after (operations_of F) m n t k)) 0 (suc most_steps) k (omega arith) (omega arith))))
       by_cases (inl l) = steps_fall_from (steps_left t) refl
         where
           last_is_stuck : is_moving (table_after (operations_of F) m n t (steps_left t)) ≡ false
           last_is_stuck = first_at (λ k. is_moving (table_after (operations_of F) m n t k)) 0 (suc most_steps) (omega arith)
 
           steps_fall_from : (x : ℕ) → steps_left t ≡ x → steps_left (next (operations_of F) m n t) < x
-          steps_fall_from zero e = absurd (true≢false (sym (moving_if t s) ∙ ap (λ k. is_moving (table_after (operations_of F) m n t k)) (sym e) ∙ last_is_stuck))
+          steps_fall_from zero e = absurd (true≢false (sym (moving_if t s) ∙ ap (λ k. is_moving (table_after (operations_of F) m n t k))
+              (sym e) ∙ last_is_stuck))
           steps_fall_from (suc x) e =
-              let b : steps_left (next (operations_of F) m n t) ≤ x = first_at_most (λ k. is_moving (table_after (operations_of F) m n (next (operations_of F) m n t) k)) 0 (suc most_steps) x (omega arith)
+              let b : steps_left (next (operations_of F) m n t)
+              ≤ x = first_at_most (λ k. is_moving (table_after (operations_of F) m n (next (operations_of F) m n t) k)) 0
+              (suc most_steps) x (omega arith)
               (ap is_moving (after_next t x) ∙ ap (λ k. is_moving (table_after (operations_of F) m n t k)) (sym e) ∙ last_is_stuck) in omega arith

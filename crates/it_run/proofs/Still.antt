@@ -10,7 +10,8 @@ use Rattle.it_tableau.specs.Invariants.{HasInvariants}
 use Rattle.it_run.specs.Choice.{leaving_row}
 use Rattle.it_run.proofs.BlandRule.{Leaves, leaving_is}
 
-module _ {A : Type 0} (F : OrderedField A) (m n : ℕ) (p : FeasibilityProblem A) (t : SimplexTable A) (c r : ℕ) (h : HasInvariants (operations_of F) m n p t) where
+module _ {A : Type 0} (F : OrderedField A) (m n : ℕ) (p : FeasibilityProblem A) (t : SimplexTable A) (c r : ℕ)
+    (h : HasInvariants (operations_of F) m n p t) where
   -- row r may leave with ratio 0, and no row with right side 0 and an entry above 0 has a lower basic column
   pub record IsFirstStill : Type 0 where
     pub row : r < m
@@ -19,7 +20,8 @@ module _ {A : Type 0} (F : OrderedField A) (m n : ℕ) (p : FeasibilityProblem A
     pub first : (i : ℕ) → i < m → t.entry i (n + m) ≡ F.ring.null → IsAboveZero F (t.entry i c) → t.basis r ≤ t.basis i
 
   null_ratio : (i : ℕ) → t.entry i (n + m) ≡ F.ring.null → ratio (operations_of F) m n t c i ≡ F.ring.null
-  null_ratio i e = ap (λ x. F.ring.mul x (F.order.inv (t.entry i c))) e ∙ F.ring.mul_comm F.ring.null (F.order.inv (t.entry i c)) ∙ mul-null F.ring (F.order.inv (t.entry i c))
+  null_ratio i e = ap (λ x. F.ring.mul x (F.order.inv (t.entry i c))) e ∙ F.ring.mul_comm F.ring.null (F.order.inv (t.entry i c))
+      ∙ mul-null F.ring (F.order.inv (t.entry i c))
 
   pub first_still_leaves : IsBelowZero F (t.entry m c) → IsFirstStill → leaving_row (operations_of F) m n t c ≡ r
   first_still_leaves below s = by_cases (cases_eq l r)
@@ -45,12 +47,14 @@ module _ {A : Type 0} (F : OrderedField A) (m n : ℕ) (p : FeasibilityProblem A
       right_null : t.entry l (n + m) ≡ F.ring.null
       right_null = sym (F.ring.unit-mul (t.entry l (n + m)))
           ∙ ap (λ u. F.ring.mul u (t.entry l (n + m))) (sym (inv-above F (t.entry l c) w.above))
-          ∙ ring F.ring (t.entry l c ∷ F.order.inv (t.entry l c) ∷ t.entry l (n + m) ∷ []) (times (times (v 0) (v 1)) (v 2)) (times (v 0) (times (v 2) (v 1))) refl
+          ∙ ring F.ring (t.entry l c ∷ F.order.inv (t.entry l c) ∷ t.entry l (n + m) ∷ []) (times (times (v 0) (v 1)) (v 2))
+          (times (v 0) (times (v 2) (v 1))) refl
           ∙ ap (F.ring.mul (t.entry l c)) ratio_null
           ∙ mul-null F.ring (t.entry l c)
 
       same_column : t.basis l ≡ t.basis r
-      same_column = equal_by_bounds (t.basis l) (t.basis r) (w.first r s.row s.above (null_ratio r s.still ∙ sym ratio_null)) (s.first l w.row right_null w.above)
+      same_column = equal_by_bounds (t.basis l) (t.basis r) (w.first r s.row s.above (null_ratio r s.still ∙ sym ratio_null))
+          (s.first l w.row right_null w.above)
         where
           equal_by_bounds : (a b : ℕ) → a ≤ b → b ≤ a → a ≡ b
           equal_by_bounds a b h k = omega (arith, h, k)
@@ -58,5 +62,6 @@ module _ {A : Type 0} (F : OrderedField A) (m n : ℕ) (p : FeasibilityProblem A
       by_cases : (l ≡ r) ⊎ (l ≡ r → ⊥) → l ≡ r
       by_cases (inl e) = e
       by_cases (inr d) = absurd (F.order.apart
-          (ap (λ b. cond b F.ring.unit F.ring.null) (sym (eq-eqb l l refl)) ∙ sym (h.units l l w.row w.row) ∙ ap (t.entry l) same_column ∙ h.units l r w.row s.row
+          (ap (λ b. cond b F.ring.unit F.ring.null) (sym (eq-eqb l l refl)) ∙ sym (h.units l l w.row w.row) ∙ ap (t.entry l) same_column
+          ∙ h.units l r w.row s.row
           ∙ ap (λ b. cond b F.ring.unit F.ring.null) (ne_eqb l r d)))

@@ -33,32 +33,39 @@ pub record IsRunUnderWay (from now : TableauView) (number : ℕ) : Type 0 where
   pub made : ℕ
   pub number_is : number ≡ clip_number (suc made)
   -- what the rest of the run does from here it does from the start, with some budget
-  pub back : (left : ℕ) (e : RunEndView (SimplexTable Rational) (SimplexTable Rational)) → ReachesFrom now left made e → (budget : ℕ) × ReachesFrom from budget 0 e
+  pub back : (left : ℕ) (e : RunEndView (SimplexTable Rational) (SimplexTable Rational)) → ReachesFrom now left made e
+      → (budget : ℕ) × ReachesFrom from budget 0 e
 
 module _ (from now : TableauView) (number : ℕ) (w : IsRunUnderWay from now number) where
   -- it ends so
-  run_ends : (left : ℕ) (e : RunEndView (SimplexTable Rational) (SimplexTable Rational)) → ReachesFrom now left w.made e → ((k : ℕ) → e ≢ Pivots k) → EndsWithoutBudget from e
+  run_ends : (left : ℕ) (e : RunEndView (SimplexTable Rational) (SimplexTable Rational)) → ReachesFrom now left w.made e
+      → ((k : ℕ) → e ≢ Pivots k) → EndsWithoutBudget from e
   run_ends left e r i = let b = w.back left e r in (b.0, b.1, i)
 
   pub unbound_done : IsDone rationals (height now) now.generator_columns (table now) → EndsWithoutBudget from (Weights (table now))
   unbound_done d = run_ends 0 (Weights (table now)) (run_done (height now) now.generator_columns 0 w.made (table now) d) (λ k q. cc)
 
-  pub unbound_stuck : (s : SimplexTable Rational) → ¬ (IsDone rationals (height now) now.generator_columns (table now)) → IsStuck rationals (height now) now.generator_columns (table now) → s ≡ table now → EndsWithoutBudget from (Point s)
+  pub unbound_stuck : (s : SimplexTable Rational) → ¬ (IsDone rationals (height now) now.generator_columns (table now))
+      → IsStuck rationals (height now) now.generator_columns (table now) → s ≡ table now → EndsWithoutBudget from (Point s)
   unbound_stuck s d u e = run_ends 0 (Point s) (run_stuck (height now) now.generator_columns 0 w.made (table now) s d u e) (λ k q. cc)
 
-  pub unbound_wide : ¬ (IsDone rationals (height now) now.generator_columns (table now)) → IsWide (height now) now.generator_columns (table now) → EndsWithoutBudget from (Width number)
+  pub unbound_wide : ¬ (IsDone rationals (height now) now.generator_columns (table now))
+      → IsWide (height now) now.generator_columns (table now) → EndsWithoutBudget from (Width number)
   unbound_wide d u = subst (λ (k : ℕ). EndsWithoutBudget from (Width k)) (sym w.number_is)
-      (run_ends 1 (Width (clip_number (suc w.made))) (run_wide (height now) now.generator_columns 1 w.made (clip_number (suc w.made)) (table now) (omega arith) d u refl) (λ k q. cc))
+      (run_ends 1 (Width (clip_number (suc w.made))) (run_wide (height now) now.generator_columns 1 w.made (clip_number (suc w.made))
+      (table now) (omega arith) d u refl) (λ k q. cc))
 
   -- a step further
-  pub step_is_made : (new : TableauView) (k : ℕ) → k ≡ clip_number (number + 1) → ¬ (IsDone rationals (height now) now.generator_columns (table now)) → IsStep now new → IsRunUnderWay from new k
+  pub step_is_made : (new : TableauView) (k : ℕ) → k ≡ clip_number (number + 1)
+      → ¬ (IsDone rationals (height now) now.generator_columns (table now)) → IsStep now new → IsRunUnderWay from new k
   step_is_made new k q d s = record {
     made = suc w.made;
     number_is = (let n : number ≡ min (suc w.made) 4294967295 = w.number_is in let x : k ≡ min (number + 1) 4294967295 = q in omega arith);
     back = λ left e r. w.back (suc left) e (step_on now new (suc left) w.made e (omega arith) d s (one_step_more left e r));
   }
     where
-      one_step_more : (left : ℕ) (e : RunEndView (SimplexTable Rational) (SimplexTable Rational)) → ReachesFrom new left (suc w.made) e → ReachesFrom new (suc left - 1) (w.made + 1) e
+      one_step_more : (left : ℕ) (e : RunEndView (SimplexTable Rational) (SimplexTable Rational)) → ReachesFrom new left (suc w.made) e
+          → ReachesFrom new (suc left - 1) (w.made + 1) e
       one_step_more left e r =
           let a : left ≡ suc left - 1 = omega arith in
           let b : suc w.made ≡ w.made + 1 = omega arith in

@@ -31,7 +31,8 @@ pub has_none : (a : App) (words : List Text) (r : Result ArgMatches Error) → a
     → (is_simple_and_free a ≡ true → FailsBy (fault_of a words) r) → IfErr r (λ e. fault_of itip_app words ≡ [] → kind_of e ≡ kinds.OutOfMemory)
 has_none a words r is h = none_by (fault_of itip_app words) r (subst (λ b. is_simple_and_free b ≡ true → FailsBy (fault_of b words) r) is h itip_is_simple)
 
-rows_by : (words : List Text) (r : Result ArgMatches Error) → IfOk r (HasMatchesOf itip_app words) → IfOk r (λ m. rows_of (found_of m) ≡ matches_of itip_app words)
+rows_by : (words : List Text) (r : Result ArgMatches Error) → IfOk r (HasMatchesOf itip_app words)
+    → IfOk r (λ m. rows_of (found_of m) ≡ matches_of itip_app words)
 rows_by words (Ok m) h = (h itip_is_plain).0
 rows_by words (Err e) h = tt
 

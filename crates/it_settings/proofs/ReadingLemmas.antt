@@ -23,7 +23,8 @@ by_their_names given = refl
 
 pub same_settings : (given : Text → Option Text) (v : Values) → AreTexts given v → settings_by (texts_of v) ≡ settings_by given
 same_settings given v are =
-    (λ i. settings_by (by_name (are.mode i) (are.format i) (are.pivots i) (are.rows i) (are.tries i) (are.seed i) (are.count i) (are.run i) (are.report i))) ∙ by_their_names given
+    (λ i. settings_by (by_name (are.mode i) (are.format i) (are.pivots i) (are.rows i) (are.tries i) (are.seed i) (are.count i) (are.run i)
+    (are.report i))) ∙ by_their_names given
 
 pub has_reading : (words : List Text) (f : Found) → fault_of itip_app words ≡ [] → rows_of f ≡ matches_of itip_app words
     → settings_of words ≡ settings_by (first_value f)

@@ -135,7 +135,8 @@ runs_are_read = record {
 }
 
 pub copy_is_read : CopyIsRead
-unfolding clap_on_literals settings_of settings_by answer_of bench_of runs_of number_of pivots_of format_of run_of itip_app bare_app mode_rule option_rule flag_rule
+unfolding clap_on_literals settings_of settings_by answer_of bench_of runs_of number_of pivots_of format_of run_of itip_app bare_app
+    mode_rule option_rule flag_rule
 copy_is_read = record {
   alone = refl;
   pivots = refl;
@@ -153,7 +154,8 @@ copy_is_read = record {
 }
 
 pub best_is_read : BestIsRead
-unfolding clap_on_literals settings_of settings_by answer_of bench_of runs_of number_of pivots_of format_of run_of itip_app bare_app mode_rule option_rule flag_rule
+unfolding clap_on_literals settings_of settings_by answer_of bench_of runs_of number_of pivots_of format_of run_of itip_app bare_app
+    mode_rule option_rule flag_rule
 best_is_read = record {
   alone = refl;
   pivots = refl;
@@ -171,7 +173,8 @@ best_is_read = record {
 }
 
 pub sharing_is_read : SharingIsRead
-unfolding clap_on_literals settings_of settings_by answer_of bench_of runs_of number_of pivots_of format_of run_of itip_app bare_app mode_rule option_rule flag_rule
+unfolding clap_on_literals settings_of settings_by answer_of bench_of runs_of number_of pivots_of format_of run_of itip_app bare_app
+    mode_rule option_rule flag_rule
 sharing_is_read = record {
   alone = refl;
   pivots = refl;
@@ -189,7 +192,8 @@ sharing_is_read = record {
 }
 
 pub outer_is_read : OuterIsRead
-unfolding clap_on_literals settings_of settings_by answer_of bench_of runs_of outer_of number_of pivots_of format_of run_of itip_app bare_app mode_rule option_rule flag_rule
+unfolding clap_on_literals settings_of settings_by answer_of bench_of runs_of outer_of number_of pivots_of format_of run_of itip_app
+    bare_app mode_rule option_rule flag_rule
 outer_is_read = record {
   alone = refl;
   all_options = refl;
@@ -203,7 +207,8 @@ outer_is_read = record {
 }
 
 pub reports_are_read : ReportsAreRead
-unfolding clap_on_literals settings_of settings_by answer_of bench_of runs_of outer_of number_of pivots_of format_of run_of itip_app bare_app mode_rule option_rule flag_rule
+unfolding clap_on_literals settings_of settings_by answer_of bench_of runs_of outer_of number_of pivots_of format_of run_of itip_app
+    bare_app mode_rule option_rule flag_rule
 reports_are_read = record {
   copy = refl;
   best = refl;

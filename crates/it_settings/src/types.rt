@@ -6,7 +6,7 @@ pub enum Format {
     Text,
     Json,
     Proof,
-    /// As `Json`, with a certificate of each row of a region from the question's lines, where each has one.
+    /// Reports in JSON, of a region with a certificate of each row from the question's lines, where each row has one.
     Derived,
 }
 
@@ -41,23 +41,27 @@ pub enum Settings {
         seed: u32,
         /// The number of its questions, 1 to 1,000.
         count: u32,
-        /// As in mode `answer`.
+        /// How a target is decided.
         run: Run,
+        /// The most steps of the defined run, 1 to 1,000,000, or no bound.
         pivots: Option<u32>,
+        /// The most rows of an elimination, 1 to 4,096.
         rows: u32,
+        /// The most candidates of a containment, 1 to 4,096.
         tries: u32,
     },
     /// Answer the questions of a file whose head asks for copies of variables.
     Copy {
         /// Whether a line of a report is written instead of lines of text.
         report: bool,
-        /// As in mode `answer`.
+        /// How a target is decided.
         run: Run,
+        /// The most steps of the defined run, 1 to 1,000,000, or no bound.
         pivots: Option<u32>,
     },
     /// Find the best factors between the sides of a file's relations.
     Best {
-        /// As in mode `copy`.
+        /// Whether a line of a report is written instead of lines of text.
         report: bool,
         run: Run,
         /// The most steps of each of the three defined runs about a relation.
@@ -65,10 +69,11 @@ pub enum Settings {
     },
     /// Find the outer bounds in rates alone of a file's eliminations.
     Outer {
-        /// As in mode `copy`.
+        /// Whether a line of a report is written instead of lines of text.
         report: bool,
-        /// As in mode `answer`.
+        /// How a target is decided.
         run: Run,
+        /// The most steps of the defined run, 1 to 1,000,000, or no bound.
         pivots: Option<u32>,
         /// The most rows after a further ray, 1 to 4,096.
         rows: u32,
@@ -77,10 +82,11 @@ pub enum Settings {
     },
     /// Answer the question of a secret sharing file.
     Sharing {
-        /// As in mode `copy`.
+        /// Whether a line of a report is written instead of lines of text.
         report: bool,
-        /// As in mode `answer`, or as in mode `best` where the file asks for a factor.
+        /// How a target is decided, or where the file asks for a factor how the factor is found.
         run: Run,
+        /// The most steps of each defined run, 1 to 1,000,000, or no bound.
         pivots: Option<u32>,
     },
 }

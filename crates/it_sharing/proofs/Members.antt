@@ -27,7 +27,8 @@ member_of_filter p x (y ∷ ys) m = by_test (member_of_filter p x ys) (p y) refl
     with_first : Member x ys × (p x ≡ true) → ((x ≡ y) ⊎ Member x ys) × (p x ≡ true)
     with_first k = (inr k.0, k.1)
 
-    by_test : (Member x (filter p ys) → Member x ys × (p x ≡ true)) → (b : Bool) → p y ≡ b → Member x (cond b (y ∷ filter p ys) (filter p ys)) → ((x ≡ y) ⊎ Member x ys) × (p x ≡ true)
+    by_test : (Member x (filter p ys) → Member x ys × (p x ≡ true)) → (b : Bool) → p y ≡ b
+        → Member x (cond b (y ∷ filter p ys) (filter p ys)) → ((x ≡ y) ⊎ Member x ys) × (p x ≡ true)
     by_test more true h (inl s) = (inl s, ap p s ∙ h)
     by_test more true h (inr k) = with_first (more k)
     by_test more false h k = with_first (more k)
@@ -37,7 +38,8 @@ pub passing_member : (p : ℕ → Bool) (xs : List ℕ) → list_any p xs ≡ tr
 passing_member p [] e = absurd (false≢true e)
 passing_member p (y ∷ ys) e = by_test (passing_member p ys) (p y) refl e
   where
-    by_test : (list_any p ys ≡ true → (x : ℕ) × (Member x ys × (p x ≡ true))) → (b : Bool) → p y ≡ b → (b || list_any p ys) ≡ true → (x : ℕ) × (Member x (y ∷ ys) × (p x ≡ true))
+    by_test : (list_any p ys ≡ true → (x : ℕ) × (Member x ys × (p x ≡ true))) → (b : Bool) → p y ≡ b → (b || list_any p ys) ≡ true
+        → (x : ℕ) × (Member x (y ∷ ys) × (p x ≡ true))
     by_test more true h t = (y, (inl refl, h))
     by_test more false h t = let k = more t in (k.0, (inr k.1.0, k.1.1))
 

@@ -36,11 +36,16 @@ hidden_is n h b z =
 perfect_of : (n : ℕ) (listed : List ℕ) (h : ℕ → ℤ) → 1 ≤ n → IsPolymatroid n h → Every (IsTrueAt n h) (made_givens n listed) → IsPerfect n listed h
 unfolding made_givens
 perfect_of n listed h some p e =
-    let minimal = every_mapped (IsTrueAt n h) knows (minimal_sets listed) (every_front (IsTrueAt n h) (map knows (minimal_sets listed)) (map knows_nothing (maximal_sets n listed)) e) in
-    let maximal = every_mapped (IsTrueAt n h) knows_nothing (maximal_sets n listed) (every_back (IsTrueAt n h) (map knows (minimal_sets listed)) (map knows_nothing (maximal_sets n listed)) e) in
+    let minimal = every_mapped (IsTrueAt n h) knows (minimal_sets listed)
+    (every_front (IsTrueAt n h) (map knows (minimal_sets listed)) (map knows_nothing (maximal_sets n listed)) e) in
+    let maximal = every_mapped (IsTrueAt n h) knows_nothing (maximal_sets n listed)
+    (every_back (IsTrueAt n h) (map knows (minimal_sets listed)) (map knows_nothing (maximal_sets n listed)) e) in
     record {
-      known = λ a k q. known_by_minimal n listed h some p (λ m j. (vanishes n h (Entropy secret m)).0 (every_member (λ a. IsTrueAt n h (knows a)) m (minimal_sets listed) minimal j)) a k q;
-      hidden = λ b k q. (hidden_is n h b p.empty).1 (hidden_by_maximal n listed h some p (λ m j. (hidden_is n h m p.empty).0 ((vanishes n h (Mutual secret m 0)).0 (every_member (λ b. IsTrueAt n h (knows_nothing b)) m (maximal_sets n listed) maximal j))) b k q);
+      known = λ a k q. known_by_minimal n listed h some p (λ m j. (vanishes n h (Entropy secret m)).0
+          (every_member (λ a. IsTrueAt n h (knows a)) m (minimal_sets listed) minimal j)) a k q;
+      hidden = λ b k q. (hidden_is n h b p.empty).1 (hidden_by_maximal n listed h some p
+          (λ m j. (hidden_is n h m p.empty).0 ((vanishes n h (Mutual secret m 0)).0
+          (every_member (λ b. IsTrueAt n h (knows_nothing b)) m (maximal_sets n listed) maximal j))) b k q);
     }
 
 made_of : (n : ℕ) (listed : List ℕ) (h : ℕ → ℤ) → Every (IsPartySet n) listed → IsPerfect n listed h → Every (IsTrueAt n h) (made_givens n listed)
@@ -48,7 +53,8 @@ unfolding made_givens
 made_of n listed h parties p =
     every-append (IsTrueAt n h) (map knows (minimal_sets listed)) (map knows_nothing (maximal_sets n listed))
     (every-map (IsTrueAt n h) knows (minimal_sets listed) (every_by_members (λ a. IsTrueAt n h (knows a)) (minimal_sets listed)
-    (λ m j. let l = minimal_listed listed m j in (vanishes n h (Entropy secret m)).1 (p.known m (every_member (IsPartySet n) m listed parties l) (qualified_by listed m m l (inside_itself m))))))
+    (λ m j. let l = minimal_listed listed m j in (vanishes n h (Entropy secret m)).1
+    (p.known m (every_member (IsPartySet n) m listed parties l) (qualified_by listed m m l (inside_itself m))))))
     (every-map (IsTrueAt n h) knows_nothing (maximal_sets n listed) (every_by_members (λ b. IsTrueAt n h (knows_nothing b)) (maximal_sets n listed)
     (λ m j. let u = maximal_unqualified n listed m j in (vanishes n h (Mutual secret m 0)).1 (p.hidden m u.0 u.1))))
 

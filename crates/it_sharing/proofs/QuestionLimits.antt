@@ -30,14 +30,24 @@ unfolding made_givens
 givens_over n listed some parties =
     let s : secret < 2 ^ n = pow_below 0 n (omega arith) in
     every-append (IsGivenOf n) (map knows (minimal_sets listed)) (map knows_nothing (maximal_sets n listed))
-    (every-map (IsGivenOf n) knows (minimal_sets listed) (every_by_members (λ a. IsGivenOf n (knows a)) (minimal_sets listed) (λ m j. vanishing_over n _ (s, (every_member (IsPartySet n) m listed parties (minimal_listed listed m j)).0))))
-    (every-map (IsGivenOf n) knows_nothing (maximal_sets n listed) (every_by_members (λ b. IsGivenOf n (knows_nothing b)) (maximal_sets n listed) (λ m j. vanishing_over n _ (s, (maximal_unqualified n listed m j).0.0, pow_pos n))))
+    (every-map (IsGivenOf n) knows (minimal_sets listed) (every_by_members (λ a. IsGivenOf n (knows a)) (minimal_sets listed)
+    (λ m j. vanishing_over n _ (s, (every_member (IsPartySet n) m listed parties (minimal_listed listed m j)).0))))
+    (every-map (IsGivenOf n) knows_nothing (maximal_sets n listed) (every_by_members (λ b. IsGivenOf n (knows_nothing b))
+    (maximal_sets n listed) (λ m j. vanishing_over n _ (s, (maximal_unqualified n listed m j).0.0, pow_pos n))))
 
 how_many : (n : ℕ) (listed : List ℕ) → length (made_givens n listed) ≡ length (minimal_sets listed) + length (maximal_sets n listed)
 unfolding made_givens
-how_many n listed = omega (arith, length-append (map knows (minimal_sets listed)) (map knows_nothing (maximal_sets n listed)), length-map (minimal_sets listed) knows, length-map (maximal_sets n listed) knows_nothing)
+how_many n listed = omega (
+  arith,
+  length-append (map knows (minimal_sets listed)) (map knows_nothing (maximal_sets n listed)),
+  length-map
+      (minimal_sets listed) knows,
+  length-map (maximal_sets n listed) knows_nothing,
+)
 
-pub question_limited : (x : SharingView) → IsSharing x → length (minimal_sets x.qualified) + length (maximal_sets (length x.names.variables) x.qualified) ≤ 64 → IsQuestion (made_question x).body
+pub question_limited : (x : SharingView) → IsSharing x
+    → length (minimal_sets x.qualified) + length (maximal_sets (length x.names.variables) x.qualified) ≤ 64
+    → IsQuestion (made_question x).body
 unfolding made_question
 question_limited x h few =
     let n = length x.names.variables in
@@ -49,7 +59,8 @@ question_limited x h few =
       lines = record {
         few_givens = omega (arith, few, how_many n x.qualified);
         few_rows = omega arith;
-        givens = all_of (IsGivenOf n) (made_givens n x.qualified) (givens_over n x.qualified (omega (arith, h.some)) (every_of (IsPartySet n) x.qualified h.parties));
+        givens = all_of (IsGivenOf n) (made_givens n x.qualified) (givens_over n x.qualified (omega (arith, h.some))
+            (every_of (IsPartySet n) x.qualified h.parties));
         rows = All-nil (IsRelationOf n (length x.names.rates));
       };
       verb = subst (λ (m : ℕ). IsRelationOf n m x.relation) (sym none) h.relation;

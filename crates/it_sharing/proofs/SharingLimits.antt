@@ -69,11 +69,15 @@ grown_more most u v w g h = (omega (arith, g.0, h.0), h.1, h.2 ∙ g.2)
 more_new_grow : (most : ℕ) (u v : NamesView) → HasGrown most u v → Always (more_new Variable most v) (λ p w. HasGrown most u w)
 unfolding more_new
 more_new_grow most u =
-    each_keeps (Punctuation Comma ∷ []) (λ v l. (None, tt {0})) (λ v u. new_name Variable most v) (λ v more. more) (HasGrown most u) (λ v g l e m. always_weaker (new_name Variable most v) (λ q w. HasGrown most v w) _ (λ q w h. grown_more most u v w g h) (new_name_grows most v))
+    each_keeps (Punctuation Comma ∷ []) (λ v l. (None, tt {0})) (λ v u. new_name Variable most v) (λ v more. more) (HasGrown most u)
+    (λ v g l e m. always_weaker (new_name Variable most v) (λ q w. HasGrown most v w) _ (λ q w h. grown_more most u v w g h)
+    (new_name_grows most v))
 
 new_names_grow : (most : ℕ) (v : NamesView) → Always (new_names Variable most v) (λ p w. HasGrown most v w)
 unfolding Always new_names
-new_names_grow most v = always_weaker (new_name Variable most v) (λ q w. HasGrown most v w) _ (λ q w g. always_weaker (more_new Variable most w) (λ r x. HasGrown most v x) _ (λ r x h l e m. h) (more_new_grow most v w g)) (new_name_grows most v)
+new_names_grow most v = always_weaker (new_name Variable most v) (λ q w. HasGrown most v w) _
+    (λ q w g. always_weaker (more_new Variable most w) (λ r x. HasGrown most v x) _ (λ r x h l e m. h) (more_new_grow most v w g))
+    (new_name_grows most v)
 
 -- ---- lists of parties
 
@@ -85,7 +89,8 @@ knows_parties : (v : NamesView) (w : List ℕ) (i : ℕ) → party_env v w ≡ S
 unfolding party_env
 knows_parties v w i e = by_option (index_of v.variables w) refl e
   where
-    by_option : (o : Option ℕ) → index_of v.variables w ≡ o → option_and_then (λ j. if nat_eq j 0 then None else Some j) o ≡ Some i → IsParty (length v.variables) i
+    by_option : (o : Option ℕ) → index_of v.variables w ≡ o → option_and_then (λ j. if nat_eq j 0 then None else Some j) o ≡ Some i
+        → IsParty (length v.variables) i
     by_option None h e = absurd cc
     by_option (Some j) h e =
         elim (eqb_tells j 0) [
@@ -96,7 +101,8 @@ knows_parties v w i e = by_option (index_of v.variables w) refl e
               (omega (arith, same, t.1), omega (arith, same, (position-Some (bytes_eq w) v.variables j [] h).0))
         ]
 
-named : (n : ℕ) (measure : Bool) (o : Option ℕ) → cond measure (Some codes.Word) (missing_flag codes.Name o) ≡ None → ((i : ℕ) → o ≡ Some i → IsParty n i) → IsParty n (unwrap_or o 0)
+named : (n : ℕ) (measure : Bool) (o : Option ℕ) → cond measure (Some codes.Word) (missing_flag codes.Name o) ≡ None
+    → ((i : ℕ) → o ≡ Some i → IsParty n i) → IsParty n (unwrap_or o 0)
 named n true o e k = absurd cc
 named n false None e k = absurd cc
 named n false (Some i) e k = k i refl
@@ -119,7 +125,8 @@ single_listed n (suc i) h = ((pow-lt h.1, bit_at_lowest (2 ^ suc i) ∙ omega ar
 union_listed : (n s t : ℕ) → IsListed n s → IsListed n t → IsListed n (bit_or s t)
 union_listed n s t a b = ((or_lt n s t a.0.0 b.0.0, bit_at_or s t 0 ∙ omega (arith, a.0.1, b.0.1)), omega (arith, a.1, le_or_l s t))
 
-more_parties_keep : (v : NamesView) (set : ℕ) → IsListed (length v.variables) set → Always (more_names (party_env v) set) (λ p s. IsListed (length v.variables) s)
+more_parties_keep : (v : NamesView) (set : ℕ) → IsListed (length v.variables) set
+    → Always (more_names (party_env v) set) (λ p s. IsListed (length v.variables) s)
 unfolding more_names
 more_parties_keep v =
     let n = length v.variables in
@@ -128,7 +135,8 @@ more_parties_keep v =
 
 parties_keep : (v : NamesView) → Always (names (party_env v)) (λ p s. IsListed (length v.variables) s)
 unfolding Always names
-parties_keep v = always_weaker (variable (party_env v)) (λ q i. IsParty (length v.variables) i) _ (λ q i k. more_parties_keep v (2 ^ i) (single_listed (length v.variables) i k)) (party_keeps v)
+parties_keep v = always_weaker (variable (party_env v)) (λ q i. IsParty (length v.variables) i) _
+    (λ q i k. more_parties_keep v (2 ^ i) (single_listed (length v.variables) i k)) (party_keeps v)
 
 -- ---- `qualified` lines
 
@@ -142,13 +150,19 @@ few_lists i e = by_number (most_qualified - i) refl e
     by_number zero h e = absurd cc
     by_number (suc k) h e = omega (arith, h)
 
-more_lists_keep : (v : NamesView) (sets : List ℕ) → AreListed (length v.variables) sets → Always (more_lists (party_env v) sets) (λ p s. AreListed (length v.variables) s)
+more_lists_keep : (v : NamesView) (sets : List ℕ) → AreListed (length v.variables) sets
+    → Always (more_lists (party_env v) sets) (λ p s. AreListed (length v.variables) s)
 unfolding more_lists
 more_lists_keep v =
     let n = length v.variables in
     each_keeps (Keyword (codes "qualified") ∷ []) (λ s l. (limit_flag (most_qualified - length s), tt {0})) (λ s u. to_end (names (party_env v))) (λ s set. s ++ set ∷ []) (AreListed n)
     (λ s h l e m. always_weaker (to_end (names (party_env v))) (λ q set. IsListed n set) _
-    (λ q set k. let long = length-append s (set ∷ []) in (omega (arith, long), omega (arith, long, few_lists (length s) m), All-append (IsListed n) s (set ∷ []) h.2 (All-cons (IsListed n) set [] k (All-nil (IsListed n)))))
+    (λ q set k. let long = length-append s (set ∷ []) in (
+      omega (arith, long),
+      omega (arith, long, few_lists (length s) m),
+      All-append
+          (IsListed n) s (set ∷ []) h.2 (All-cons (IsListed n) set [] k (All-nil (IsListed n))),
+    ))
     (line_keeps (names (party_env v)) (IsListed n) (parties_keep v)))
 
 -- ---- what is asked
@@ -167,7 +181,17 @@ bound_keeps v =
     let n = length v.variables in
     let m = length v.rates in
     always_weaker (sum most_terms 1 s) _ _ (λ p left hl l e u.
-    always_weaker (sum (most_terms - length left) (multiple_from 1 left) s) _ _ (λ q right hr. (record { few = omega (arith, hl.0, hr.0); left = hl.1; right = hr.1; some_multiple = hr.2.0; small_multiple = hr.2.1 }, refl))
+    always_weaker (sum (most_terms - length left) (multiple_from 1 left) s) _ _
+    (λ q right hr. (
+      record {
+        few = omega (arith, hl.0, hr.0);
+        left = hl.1;
+        right = hr.1;
+        some_multiple = hr.2.0;
+        small_multiple = hr.2.1;
+      },
+      refl,
+    ))
     (sum_keeps s n m (multiple_from 1 left) (most_terms - length left) (scope_covers v true) hl.2))
     (sum_keeps s n m 1 most_terms (scope_covers v true) one_is_multiple)
 
@@ -175,8 +199,11 @@ aim_keeps : (v : NamesView) → Always (aim v) (λ p x. IsAsked v x)
 unfolding Always aim
 aim_keeps v =
     let s = scope_of v true in (
-      λ l e m. always_weaker (to_end (relation s)) (λ q r. IsRelationOf (length v.variables) (length v.rates) r) (λ q r. IsAsked v (false, r)) (λ q r h. (h, λ (e : false ≡ true). absurd cc)) (line_keeps (relation s) (IsRelationOf (length v.variables) (length v.rates)) (relation_keeps s _ _ (scope_covers v true))),
-      λ l e m. always_weaker (to_end (bound s)) (λ q r. IsBound v r) (λ q r. IsAsked v (true, r)) (λ q r h. (h.0, λ e. h.1)) (line_keeps (bound s) (IsBound v) (bound_keeps v)),
+      λ l e m. always_weaker (to_end (relation s)) (λ q r. IsRelationOf (length v.variables) (length v.rates) r)
+          (λ q r. IsAsked v (false, r)) (λ q r h. (h, λ (e : false ≡ true). absurd cc))
+          (line_keeps (relation s) (IsRelationOf (length v.variables) (length v.rates)) (relation_keeps s _ _ (scope_covers v true))),
+      λ l e m. always_weaker (to_end (bound s)) (λ q r. IsBound v r) (λ q r. IsAsked v (true, r)) (λ q r h. (h.0, λ e. h.1))
+          (line_keeps (bound s) (IsBound v) (bound_keeps v)),
     )
 
 -- ---- the whole file
@@ -187,7 +214,9 @@ even_party n s h = (h.0.0, ap (λ (b : ℕ). nat_eq b 1) h.0.1)
 abbrev Keeps : SharingView → Type 0
 Keeps y = IsSharing y × IsBoundWhereBest y
 
-keeps_all : (secret all : NamesView) (sets : List ℕ) (asked : (Bool × RelationView)) → IsOne secret → HasGrown (length secret.variables + most_parties) secret all → AreListed (length all.variables) sets → IsAsked all asked → Keeps (record { names = all; qualified = sets; best = asked.0; relation = asked.1 })
+keeps_all : (secret all : NamesView) (sets : List ℕ) (asked : (Bool × RelationView)) → IsOne secret
+    → HasGrown (length secret.variables + most_parties) secret all → AreListed (length all.variables) sets → IsAsked all asked
+    → Keeps (record { names = all; qualified = sets; best = asked.0; relation = asked.1 })
 keeps_all secret all sets asked one grown listed asks =
     let n = length all.variables in
     let none : all.rates ≡ [] = grown.2 ∙ one.1 in (
@@ -223,30 +252,35 @@ KeepsAlways f = Always f (λ p y. Keeps y)
 module _ (secret all : NamesView) (one : IsOne secret) (grown : HasGrown (length secret.variables + most_parties) secret all) where
   lists_keep : (sets : List ℕ) → AreListed (length all.variables) sets → KeepsAlways (after_lists all sets)
   unfolding Always
-  lists_keep sets listed = always_weaker (aim all) (λ q x. IsAsked all x) _ (λ q asked asks l e m. keeps_all secret all sets asked one grown listed asks) (aim_keeps all)
+  lists_keep sets listed = always_weaker (aim all) (λ q x. IsAsked all x) _
+      (λ q asked asks l e m. keeps_all secret all sets asked one grown listed asks) (aim_keeps all)
 
   first_keeps : (set : ℕ) → IsListed (length all.variables) set → KeepsAlways (after_first all set)
   unfolding Always
   first_keeps set h =
       let n = length all.variables in
-      always_weaker (more_lists (party_env all) (set ∷ [])) (λ q sets. AreListed n sets) (λ q sets. KeepsAlways (after_lists all sets)) (λ q sets listed. lists_keep sets listed)
+      always_weaker (more_lists (party_env all) (set ∷ [])) (λ q sets. AreListed n sets) (λ q sets. KeepsAlways (after_lists all sets))
+      (λ q sets listed. lists_keep sets listed)
       (more_lists_keep all (set ∷ []) (omega arith, omega arith, All-cons (IsListed n) set [] h (All-nil (IsListed n))))
 
   names_keep : KeepsAlways (after_names all)
   unfolding Always
   names_keep l e m =
       let n = length all.variables in
-      always_weaker (to_end (names (party_env all))) (λ q set. IsListed n set) (λ q set. KeepsAlways (after_first all set)) (λ q set h. first_keeps set h) (line_keeps (names (party_env all)) (IsListed n) (parties_keep all))
+      always_weaker (to_end (names (party_env all))) (λ q set. IsListed n set) (λ q set. KeepsAlways (after_first all set))
+      (λ q set h. first_keeps set h) (line_keeps (names (party_env all)) (IsListed n) (parties_keep all))
 
 secret_keeps : (secret : NamesView) → IsOne secret → KeepsAlways (after_secret secret)
 unfolding Always
 secret_keeps secret one l e m =
     let most = length secret.variables + most_parties in
-    always_weaker (new_names Variable most secret) (λ q w. HasGrown most secret w) (λ q all. KeepsAlways (after_names all)) (λ q all grown. names_keep secret all one grown) (new_names_grow most secret)
+    always_weaker (new_names Variable most secret) (λ q w. HasGrown most secret w) (λ q all. KeepsAlways (after_names all))
+    (λ q all grown. names_keep secret all one grown) (new_names_grow most secret)
 
 sharing_keeps : KeepsAlways sharing
 unfolding Always sharing
-sharing_keeps l e m = always_weaker (to_end (new_name Variable 1 no_names)) (λ q v. IsOne v) (λ q secret. KeepsAlways (after_secret secret)) (λ q secret one. secret_keeps secret one) (line_keeps (new_name Variable 1 no_names) IsOne secret_is_one)
+sharing_keeps l e m = always_weaker (to_end (new_name Variable 1 no_names)) (λ q v. IsOne v) (λ q secret. KeepsAlways (after_secret secret))
+    (λ q secret one. secret_keeps secret one) (line_keeps (new_name Variable 1 no_names) IsOne secret_is_one)
 
 pub sharing_limited : (ls r : List Letter) (y : SharingView) → read sharing ls ≡ Ok (y, r) → IsSharing y × IsBoundWhereBest y
 sharing_limited ls r y = value_read sharing Keeps ls r y sharing_keeps

@@ -17,14 +17,16 @@ use Rattle.it_forms.proofs.Outlines.{Outline, nothing, one_of, one_then, repeate
 
 lists_has : (env : Environment) (sets : List ℕ) → Has (more_lists env sets) (repeated (Keyword (codes "qualified") ∷ []) (one_then (a_line some_names) nothing))
 unfolding more_lists
-lists_has env sets = has_while _ _ _ _ _ (λ sets u. has_then _ _ _ _ (has_then _ _ _ _ (names_has env) (λ set. has_then _ _ _ _ end_has (λ u. has_give _) refl) refl) (λ set. has_give _) refl) refl
+lists_has env sets = has_while _ _ _ _ _ (λ sets u. has_then _ _ _ _ (has_then _ _ _ _ (names_has env)
+    (λ set. has_then _ _ _ _ end_has (λ u. has_give _) refl) refl) (λ set. has_give _) refl) refl
 
 abbrev pub a_bound : Outline
 a_bound = one_then (a_sum []) (one_then (one_of (Punctuation AtLeast ∷ [])) (one_then (a_sum []) nothing))
 
 pub bound_has : (s : Scope) → Has (bound s) a_bound
 unfolding bound
-bound_has s = has_then _ _ _ _ (sum_has _ _ s) (λ left. has_then _ _ _ _ (has_symbol AtLeast) (λ u. has_then _ _ _ _ (sum_has _ _ s) (λ right. has_give _) refl) refl) refl
+bound_has s = has_then _ _ _ _ (sum_has _ _ s) (λ left. has_then _ _ _ _ (has_symbol AtLeast)
+    (λ u. has_then _ _ _ _ (sum_has _ _ s) (λ right. has_give _) refl) refl) refl
 
 -- no bound stands where nothing is left
 pub no_bound : (s : Scope) → read (to_end (bound s)) [] ≡ Err (codes.Word, [])
@@ -34,7 +36,8 @@ no_bound s = refl
 aim_has : (v : NamesView) → Has (aim v) (one_of (Keyword (codes "prove") ∷ Keyword (codes "best") ∷ []))
 unfolding aim
 aim_has v =
-    has_if _ _ _ _ _ (λ u. has_then _ _ _ _ (has_then _ _ _ _ (relation_has _) (λ x. has_then _ _ _ _ end_has (λ u. has_give _) refl) refl) (λ x. has_give _) refl)
+    has_if _ _ _ _ _ (λ u. has_then _ _ _ _ (has_then _ _ _ _ (relation_has _) (λ x. has_then _ _ _ _ end_has (λ u. has_give _) refl) refl)
+    (λ x. has_give _) refl)
     (has_then _ _ _ _ (word_has (codes "best") refl) (λ u. has_then _ _ _ _ (has_then _ _ _ _ (bound_has _) (λ x. has_then _ _ _ _ end_has (λ u. has_give _) refl) refl) (λ x. has_give _) refl) refl) refl
 
 pub sharing_has : Has sharing (one_of (Keyword (codes "secret") ∷ []))
@@ -43,4 +46,6 @@ sharing_has =
     has_then _ _ _ _ (word_has (codes "secret") refl) (λ u. has_then _ _ _ _ (has_then _ _ _ _ (new_name_has _ _ _) (λ secret. has_then _ _ _ _ end_has (λ u. has_give _) refl) refl) (λ secret.
     has_then _ _ _ _ (word_has (codes "parties") refl) (λ u. has_then _ _ _ _ (new_names_has _ _ _) (λ all.
     has_then _ _ _ _ (word_has (codes "qualified") refl) (λ u. has_then _ _ _ _ (has_then _ _ _ _ (names_has _) (λ set. has_then _ _ _ _ end_has (λ u. has_give _) refl) refl) (λ first.
-    has_then _ _ _ _ (lists_has _ _) (λ lists. has_then _ _ _ _ (aim_has all) (λ asked. has_then _ _ _ _ (has_take _ (Bad codes.Unfinished) refl) (λ u. has_give _) refl) refl) refl) refl) refl) refl) refl) refl) refl
+    has_then _ _ _ _ (lists_has _ _) (λ lists. has_then _ _ _ _ (aim_has all)
+    (λ asked. has_then _ _ _ _ (has_take _ (Bad codes.Unfinished) refl) (λ u. has_give _) refl) refl) refl) refl) refl) refl) refl)
+    refl) refl

@@ -11,8 +11,10 @@ use Rattle.it_sharing.specs.Sharings.{vanishing_relation, vanishing}
 pub multiple_is_one : (a : Atom) → common_denominator (vanishing_relation a) ≡ 1
 multiple_is_one a = ap (λ (m : ℕ). lcm m 1) (lcm_one 1) ∙ lcm_one 1
 
-by_multiple : (n : ℕ) (h : ℕ → ℤ) (a : Atom) (m : ℕ) → m ≡ 1 → (side_at n h m (vanishing_relation a).left ≡ side_at n h m (vanishing_relation a).right) ↔ (atom_at n h a ≡ pos 0)
-by_multiple n h a m e = subst (λ (k : ℕ). (side_at n h k (vanishing_relation a).left ≡ side_at n h k (vanishing_relation a).right) ↔ (atom_at n h a ≡ pos 0)) (sym e)
+by_multiple : (n : ℕ) (h : ℕ → ℤ) (a : Atom) (m : ℕ) → m ≡ 1 → (side_at n h m (vanishing_relation a).left
+    ≡ side_at n h m (vanishing_relation a).right) ↔ (atom_at n h a ≡ pos 0)
+by_multiple n h a m e = subst (λ (k : ℕ). (side_at n h k (vanishing_relation a).left ≡ side_at n h k (vanishing_relation a).right) ↔
+    (atom_at n h a ≡ pos 0)) (sym e)
     (λ e. omega (arith, ints, e), λ e. omega (arith, ints, e))
 
 pub vanishes : (n : ℕ) (h : ℕ → ℤ) (a : Atom) → IsTrueAt n h (vanishing a) ↔ (atom_at n h a ≡ pos 0)

@@ -6,6 +6,7 @@ ghost use Rattle.it_forms.specs.FormReading.{read};
 ghost use Rattle.it_sharing.specs.Sharings.{sharing_view, IsSharing, IsBoundWhereBest};
 ghost use Rattle.it_sharing.specs.SharingFiles.{IsSharingFile, IsFirstSharingFault};
 ghost use Rattle.it_sharing.specs.SharingForms as forms;
+ghost use Rattle.it_question.specs.QuestionLimits.{most_file_bytes};
 
 use crate::aims::aim;
 use crate::lists::{QUALIFIED, list, more_lists};
@@ -76,7 +77,7 @@ fn whole(alloc: Global, cursor: &mut Cursor<'_>) -> Result<Sharing, Stop>
 /// `Name` also at the secret in a list of parties, `Many` at a ninth party and at the 65th `qualified`, `Word` at another
 /// sign after `best` and at what stands after the last line, `Unfinished` at the file's end before it.
 pub fn sharing(alloc: Global, bytes: &[u8]) -> Result<Sharing, FileFault>
-    requires { length bytes.now ≤ 1048576 }
+    requires { length bytes.now ≤ most_file_bytes }
     ensures read { IfOk result (λ s. IsSharingFile bytes.now (sharing_view s)) }
     ensures limits { IfOk result (λ s. IsSharing (sharing_view s)) }
     ensures bound { IfOk result (λ s. IsBoundWhereBest (sharing_view s)) }

@@ -31,8 +31,10 @@ IsReading (Width k) = ⊥
 
 module _ (cs : List ℕ) (columns : List Terms) (target : Terms) (t : TableauView) (s : IsStart cs columns target t) where
   -- the claims about the start's sizes and table hold for the tableau's
-  by_start : (P : ℕ → ℕ → SimplexTable Rational → Type 0) → P (height t) t.generator_columns (table t) → P (length cs) (length columns) (start_of cs columns target)
-  by_start P x = subst (P (length cs) (length columns)) s.table_is (subst (λ (n : ℕ). P (length cs) n (table t)) s.generator_columns_are (subst (λ (m : ℕ). P m t.generator_columns (table t)) s.height_is x))
+  by_start : (P : ℕ → ℕ → SimplexTable Rational → Type 0) → P (height t) t.generator_columns (table t)
+      → P (length cs) (length columns) (start_of cs columns target)
+  by_start P x = subst (P (length cs) (length columns)) s.table_is (subst (λ (n : ℕ). P (length cs) n (table t)) s.generator_columns_are
+      (subst (λ (m : ℕ). P m t.generator_columns (table t)) s.height_is x))
 
   sign_of_not : (b : Bool) → integer (if not b then negsuc 0 else pos 1) ≡ cond b (integer (pos 1)) (minus (integer (pos 1)))
   sign_of_not true = refl
@@ -50,13 +52,17 @@ module _ (cs : List ℕ) (columns : List Terms) (target : Terms) (t : TableauVie
   }
 
   -- the run from the tableau is that from the start
-  run_from_start : (budget : Option ℕ) (a : Solved) → RunsFrom t budget a → RunsTo (length cs) (length columns) (feasibility_problem cs columns target) budget (start_of cs columns target) (end_of_answer a)
-  run_from_start budget a r = by_start (λ m n t. RunsTo m n (feasibility_problem cs columns target) budget t (end_of_answer a)) (r (feasibility_problem cs columns target) start_is_of_problem)
+  run_from_start : (budget : Option ℕ) (a : Solved) → RunsFrom t budget a
+      → RunsTo (length cs) (length columns) (feasibility_problem cs columns target) budget (start_of cs columns target) (end_of_answer a)
+  run_from_start budget a r = by_start (λ m n t. RunsTo m n (feasibility_problem cs columns target) budget t (end_of_answer a))
+      (r (feasibility_problem cs columns target) start_is_of_problem)
 
-  pub run_solves : (budget : Option ℕ) (a : Solved) → StartFits (length cs) (length columns) (feasibility_problem cs columns target) → RunsFrom t budget a → Solves cs columns target budget (end_of_answer a)
+  pub run_solves : (budget : Option ℕ) (a : Solved) → StartFits (length cs) (length columns) (feasibility_problem cs columns target)
+      → RunsFrom t budget a → Solves cs columns target budget (end_of_answer a)
   run_solves budget a f r = inr (f, run_from_start budget a r)
 
-pub answer_is_right : (cs : List ℕ) (columns : List Terms) (target : Terms) (budget : Option ℕ) (a : Solved) → Solves cs columns target budget (end_of_answer a) → IsRightSolved cs columns target a
+pub answer_is_right : (cs : List ℕ) (columns : List Terms) (target : Terms) (budget : Option ℕ) (a : Solved)
+    → Solves cs columns target budget (end_of_answer a) → IsRightSolved cs columns target a
 answer_is_right cs columns target budget a (inl s) = without_start a s.1
   where
     without_start : (a : Solved) → end_of_answer a ≡ Width zero → IsRightSolved cs columns target a
@@ -64,9 +70,11 @@ answer_is_right cs columns target budget a (inl s) = without_start a s.1
     without_start (answers.Point q) e = absurd (subst IsReading e tt)
     without_start (answers.Pivots k) e = tt
     without_start (answers.Width k) e = tt
-answer_is_right cs columns target budget a (inr s) = from_end a (right_by field_ℚ (length cs) (length columns) (StepFits (length cs) (length columns)) (feasibility_problem cs columns target) budget (end_of_answer a) s.1)
+answer_is_right cs columns target budget a (inr s) = from_end a (right_by field_ℚ (length cs) (length columns)
+    (StepFits (length cs) (length columns)) (feasibility_problem cs columns target) budget (end_of_answer a) s.1)
   where
-    from_end : (a : Solved) → EndIsRight field_ℚ (length cs) (length columns) (feasibility_problem cs columns target) (end_of_answer a) → IsRightSolved cs columns target a
+    from_end : (a : Solved) → EndIsRight field_ℚ (length cs) (length columns) (feasibility_problem cs columns target) (end_of_answer a)
+        → IsRightSolved cs columns target a
     from_end (answers.Weights ws) x = x
     from_end (answers.Point q) x = x
     from_end (answers.Pivots k) x = tt
@@ -77,7 +85,8 @@ if_none None P f = f refl
 if_none (Some k) P f = tt
 
 -- without a budget the answer is never `Pivots`
-pub ends_within_budget : (cs : List ℕ) (columns : List Terms) (target : Terms) (e : RunEndView (List (ℕ × Rational)) (List Rational)) → Solves cs columns target None e → (k : ℕ) → e ≢ Pivots k
+pub ends_within_budget : (cs : List ℕ) (columns : List Terms) (target : Terms) (e : RunEndView (List (ℕ × Rational)) (List Rational))
+    → Solves cs columns target None e → (k : ℕ) → e ≢ Pivots k
 ends_within_budget cs columns target e (inl a) = λ k q. let h = a.1 in cc
 ends_within_budget cs columns target e (inr a) = a.1.2
 
@@ -89,5 +98,6 @@ ends_once cs columns target budget d e (inl a) (inr b) = absurd (a.0 b.0)
 ends_once cs columns target budget d e (inr a) (inl b) = absurd (b.0 a.0)
 ends_once cs columns target budget d e (inr a) (inr b) =
     let m = length cs in let n = length columns in
-    one_end_by (IsDone rationals m n) (IsStuck rationals m n) (StepFits m n) (next rationals m n) (weights rationals m n) (point rationals m n (feasibility_problem cs columns target))
+    one_end_by (IsDone rationals m n) (IsStuck rationals m n) (StepFits m n) (next rationals m n) (weights rationals m n)
+    (point rationals m n (feasibility_problem cs columns target))
     budget (start_of cs columns target) d e a.1 b.1

@@ -61,6 +61,7 @@ pub every_filtered : {X : Type 0} (P : X → Type 0) (test : X → Bool) (xs : L
 every_filtered P test [] e = tt
 every_filtered P test (x ∷ xs) e = by_test (test x) refl e (λ r. every_filtered P test xs r)
   where
-    by_test : (b : Bool) → test x ≡ b → Every P (cond b (x ∷ filter test xs) (filter test xs)) → (Every P (filter test xs) → Every (λ x. test x ≡ true → P x) xs) → (test x ≡ true → P x) × Every (λ x. test x ≡ true → P x) xs
+    by_test : (b : Bool) → test x ≡ b → Every P (cond b (x ∷ filter test xs) (filter test xs))
+        → (Every P (filter test xs) → Every (λ x. test x ≡ true → P x) xs) → (test x ≡ true → P x) × Every (λ x. test x ≡ true → P x) xs
     by_test true f r back = (λ g. r.0, back r.1)
     by_test false f r back = (λ g. absurd (false≢true (sym f ∙ g)), back r)

@@ -105,13 +105,17 @@ module _ (at a b c : ℕ) (up down left right left' right' : Terms) (l : AreLate
     where
       fits_outside : MixesFit at a left' b right' → (d : ℕ) → d ≢ at → (d ≡ c) ⊎ (d ≢ c) → MixFits (pos a) (coefficient left d) (pos b) (coefficient right d)
       fits_outside g d n (inl e) = subst (λ (i : ℕ). MixFits (pos a) (coefficient left i) (pos b) (coefficient right i)) (sym e) (f (λ q. n (e ∙ q)))
-      fits_outside g d n (inr e) = subst (λ (x : ℤ). MixFits (pos a) x (pos b) (coefficient right d)) (l.same d e) (subst (λ (y : ℤ). MixFits (pos a) (coefficient left' d) (pos b) y) (r.same d e) (g d n))
+      fits_outside g d n (inr e) = subst (λ (x : ℤ). MixFits (pos a) x (pos b) (coefficient right d)) (l.same d e)
+          (subst (λ (y : ℤ). MixFits (pos a) (coefficient left' d) (pos b) y) (r.same d e) (g d n))
 
       fits_inside : MixesFit at a left b right → (d : ℕ) → d ≢ at → (d ≡ c) ⊎ (d ≢ c) → MixFits (pos a) (coefficient left' d) (pos b) (coefficient right' d)
-      fits_inside g d n (inl e) = subst (λ (i : ℕ). MixFits (pos a) (coefficient left' i) (pos b) (coefficient right' i)) (sym e) (zero_fits a b (coefficient left' c) (coefficient right' c) gone_left gone_right)
-      fits_inside g d n (inr e) = subst (λ (x : ℤ). MixFits (pos a) x (pos b) (coefficient right' d)) (sym (l.same d e)) (subst (λ (y : ℤ). MixFits (pos a) (coefficient left d) (pos b) y) (sym (r.same d e)) (g d n))
+      fits_inside g d n (inl e) = subst (λ (i : ℕ). MixFits (pos a) (coefficient left' i) (pos b) (coefficient right' i)) (sym e)
+          (zero_fits a b (coefficient left' c) (coefficient right' c) gone_left gone_right)
+      fits_inside g d n (inr e) = subst (λ (x : ℤ). MixFits (pos a) x (pos b) (coefficient right' d)) (sym (l.same d e))
+          (subst (λ (y : ℤ). MixFits (pos a) (coefficient left d) (pos b) y) (sym (r.same d e)) (g d n))
 
-  pub mix_more : (terms new : Terms) → IsFirstCoordinate left right c → IsTermPut at c a left b right terms new → UnderWay at a up b down left right terms → UnderWay at a up b down left' right' new
+  pub mix_more : (terms new : Terms) → IsFirstCoordinate left right c → IsTermPut at c a left b right terms new
+      → UnderWay at a up b down left right terms → UnderWay at a up b down left' right' new
   mix_more terms new i p u = subst (λ (ts : Terms). UnderWay at a up b down left' right' ts) (sym p.is) (by_test (nat_eq c at) refl)
     where
       place_from : u.from ≤ c
@@ -149,11 +153,15 @@ module _ (at a b c : ℕ) (up down left right left' right' : Terms) (l : AreLate
             fits = same_fits;
           }
         where
-          coefficient_step : (d : ℕ) → d ≢ at → (t : Bool) → nat_eq c d ≡ t → (coefficient terms d +ℤ cond t (mix a left b right c) (pos 0)) +ℤ mix a left' b right' d ≡ mix a up b down d
+          coefficient_step : (d : ℕ) → d ≢ at → (t : Bool) → nat_eq c d ≡ t
+              → (coefficient terms d +ℤ cond t (mix a left b right c) (pos 0)) +ℤ mix a left' b right' d ≡ mix a up b down d
           coefficient_step d n true q =
               let s : c ≡ d = eqb-true c d q in
-              plus_none (coefficient terms d +ℤ mix a left b right c) (mix a left' b right' d) (ap (λ j. mix a left' b right' j) (sym s) ∙ no_coefficient) ∙ ap (λ j. coefficient terms d +ℤ mix a left b right j) s ∙ u.same d n
-          coefficient_step d n false q = ap₂ (λ x y. x +ℤ y) (plus_none (coefficient terms d) (pos 0) refl) (mixes d (λ s. eqb-false c d q (sym s))) ∙ u.same d n
+              plus_none (coefficient terms d +ℤ mix a left b right c) (mix a left' b right' d)
+              (ap (λ j. mix a left' b right' j) (sym s) ∙ no_coefficient) ∙ ap (λ j. coefficient terms d +ℤ mix a left b right j) s
+              ∙ u.same d n
+          coefficient_step d n false q = ap₂ (λ x y. x +ℤ y) (plus_none (coefficient terms d) (pos 0) refl)
+              (mixes d (λ s. eqb-false c d q (sym s))) ∙ u.same d n
 
 pub mix_done : (at a b : ℕ) (up down left right terms : Terms) → UnderWay at a up b down left right terms → left ≡ [] → right ≡ [] → IsMix at a up b down terms
 mix_done at a b up down left right terms u e f = record {
@@ -167,7 +175,8 @@ mix_done at a b up down left right terms u e f = record {
     nothing_mixed d = ap₂ (λ x y. pos a *ℤ x +ℤ pos b *ℤ y) (ap (λ ts. coefficient ts d) e) (ap (λ ts. coefficient ts d) f) ∙ omega (arith, ints)
 
 -- the first term
-pub front_here : (ts : Terms) (c : ℕ) → 1 ≤ length ts → (slice_index_or ts 0 (0, pos 0)).0 ≡ c → Ascends c ts → (slice_index_or ts 0 (0, pos 0)).1 ≡ coefficient ts c
+pub front_here : (ts : Terms) (c : ℕ) → 1 ≤ length ts → (slice_index_or ts 0 (0, pos 0)).0 ≡ c → Ascends c ts
+    → (slice_index_or ts 0 (0, pos 0)).1 ≡ coefficient ts c
 front_here [] c h e a = absurd (omega arith)
 front_here (t ∷ ts) c h e a = sym (head_is c t ts a) ∙ ap (coefficient (t ∷ ts)) e
 
@@ -204,19 +213,23 @@ factors at up down h k =
     }
 
 pub multiple_of_sum : (g a x b y : ℤ) → g *ℤ (a *ℤ x +ℤ b *ℤ y) ≡ (g *ℤ a) *ℤ x +ℤ (g *ℤ b) *ℤ y
-multiple_of_sum g a x b y = ring ring_ℤ (g ∷ a ∷ x ∷ b ∷ y ∷ []) (prod (v 0) (plus (prod (v 1) (v 2)) (prod (v 3) (v 4)))) (plus (prod (prod (v 0) (v 1)) (v 2)) (prod (prod (v 0) (v 3)) (v 4))) refl
+multiple_of_sum g a x b y = ring ring_ℤ (g ∷ a ∷ x ∷ b ∷ y ∷ []) (prod (v 0) (plus (prod (v 1) (v 2)) (prod (v 3) (v 4))))
+    (plus (prod (prod (v 0) (v 1)) (v 2)) (prod (prod (v 0) (v 3)) (v 4))) refl
 
 -- the coordinate is cancelled
-pub cancelled_gone : (at : ℕ) (up down : Terms) → pos 0 <ℤ coefficient up at → coefficient down at <ℤ pos 0 → mix (times_up at up down) up (times_down at up down) down at ≡ pos 0
+pub cancelled_gone : (at : ℕ) (up down : Terms) → pos 0 <ℤ coefficient up at → coefficient down at <ℤ pos 0
+    → mix (times_up at up down) up (times_down at up down) down at ≡ pos 0
 cancelled_gone at up down h k =
     let f = factors at up down h k in
     products_cancel f.common (pos (times_up at up down)) (coefficient up at) (pos (times_down at up down)) (coefficient down at) f.some f.up_is f.down_is
   where
     products_cancel : (g : ℕ) (a x b y : ℤ) → 0 < g → pos g *ℤ a ≡ neg_ℤ y → pos g *ℤ b ≡ x → a *ℤ x +ℤ b *ℤ y ≡ pos 0
-    products_cancel g a x b y s e f = zero_by_multiple g (a *ℤ x +ℤ b *ℤ y) s (multiple_of_sum (pos g) a x b y ∙ omega (arith, zring, ap (λ z. z *ℤ x) e, ap (λ z. z *ℤ y) f))
+    products_cancel g a x b y s e f = zero_by_multiple g (a *ℤ x +ℤ b *ℤ y) s
+        (multiple_of_sum (pos g) a x b y ∙ omega (arith, zring, ap (λ z. z *ℤ x) e, ap (λ z. z *ℤ y) f))
 
 pub common-some : (at : ℕ) (up down : Terms) (k : ℕ) → pos 0 <ℤ coefficient up at → k ≡ common_at at up down → 0 < k
-common-some at up down k h e = subst (λ (n : ℕ). 0 < n) (sym e) (gcd_some (unsigned_abs (coefficient up at)) (unsigned_abs (coefficient down at)) (size_above_zero (coefficient up at) h))
+common-some at up down k h e = subst (λ (n : ℕ). 0 < n) (sym e) (gcd_some (unsigned_abs (coefficient up at))
+    (unsigned_abs (coefficient down at)) (size_above_zero (coefficient up at) h))
   where
     size_above_zero : (z : ℤ) → pos 0 <ℤ z → 0 < unsigned_abs z
     size_above_zero z h = omega (arith, ints)
@@ -229,29 +242,35 @@ pub times_down_is : (at : ℕ) (up down : Terms) (m k : ℕ) → m ≡ unsigned_
 unfolding times_down
 times_down_is at up down m k e f = ap₂ (λ x y. x / y) e f
 
-module _ (at a b : ℕ) (up down xs ys : Terms) (is_up : a ≡ times_up at up down) (is_down : b ≡ times_down at up down) (up_is : xs ≡ up) (down_is : ys ≡ down) where
+module _ (at a b : ℕ) (up down xs ys : Terms) (is_up : a ≡ times_up at up down) (is_down : b ≡ times_down at up down) (up_is : xs ≡ up)
+    (down_is : ys ≡ down) where
   pub cancelled_fits : MixesFit at a xs b ys → CancelFits at up down
   cancelled_fits f = subst₂ (λ (m n : ℕ). MixesFit at m up n down) is_up is_down (subst₂ (λ (us vs : Terms). MixesFit at a us b vs) up_is down_is f)
 
   pub cancel_fitted : CancelFits at up down → MixesFit at a xs b ys
-  cancel_fitted f = subst₂ (λ (us vs : Terms). MixesFit at a us b vs) (sym up_is) (sym down_is) (subst₂ (λ (m n : ℕ). MixesFit at m up n down) (sym is_up) (sym is_down) f)
+  cancel_fitted f = subst₂ (λ (us vs : Terms). MixesFit at a us b vs) (sym up_is) (sym down_is)
+      (subst₂ (λ (m n : ℕ). MixesFit at m up n down) (sym is_up) (sym is_down) f)
 
   pub not_cancelled : ¬ (MixesFit at a xs b ys) → ¬ (CancelFits at up down)
   not_cancelled n f = n (cancel_fitted f)
 
-  pub cancel_is : (new made : Terms) → made ≡ new → pos 0 <ℤ coefficient up at → coefficient down at <ℤ pos 0 → IsMix at a xs b ys new → IsCancelOf at up down made
+  pub cancel_is : (new made : Terms) → made ≡ new → pos 0 <ℤ coefficient up at → coefficient down at <ℤ pos 0 → IsMix at a xs b ys new
+      → IsCancelOf at up down made
   cancel_is new made e h k m = subst (λ (ts : Terms). IsCancelOf at up down ts) (sym e) record { same = λ c. by_cases c (equal_or c at); gone = m.gone }
     where
       by_cases : (c : ℕ) → (c ≡ at) ⊎ (c ≢ at) → coefficient new c ≡ mix (times_up at up down) up (times_down at up down) down c
-      by_cases c (inl e) = ap (coefficient new) e ∙ m.gone ∙ sym (ap (λ n. mix (times_up at up down) up (times_down at up down) down n) e ∙ cancelled_gone at up down h k)
+      by_cases c (inl e) = ap (coefficient new) e ∙ m.gone ∙ sym (ap (λ n. mix (times_up at up down) up (times_down at up down) down n) e
+          ∙ cancelled_gone at up down h k)
       by_cases c (inr n) = m.same c n ∙ ap₂ (λ us vs. mix a us b vs c) up_is down_is ∙ ap₂ (λ m n. mix m up n down c) is_up is_down
 
 -- the row that was mixed is the cancelled one
-pub cancel_told : (at : ℕ) (up down new : Terms) → pos 0 <ℤ coefficient up at → coefficient down at <ℤ pos 0 → Ascends 0 up → Ascends 0 down → Ascends 0 new → IsCancelOf at up down new → new ≡ cancelled_row at up down
+pub cancel_told : (at : ℕ) (up down new : Terms) → pos 0 <ℤ coefficient up at → coefficient down at <ℤ pos 0 → Ascends 0 up → Ascends 0 down
+    → Ascends 0 new → IsCancelOf at up down new → new ≡ cancelled_row at up down
 cancel_told at up down new h k a b c is =
     let f = factors at up down h k in
     told_rising 0 new (cancelled_row at up down) (ascends_rise 0 new c)
-    (rises-cancelled_row at up down (factor_above f.common (times_up at up down) (neg_ℤ (coefficient down at)) f.up_is (omega (arith, ints))) (factor_above f.common (times_down at up down) (coefficient up at) f.down_is h) a b)
+    (rises-cancelled_row at up down (factor_above f.common (times_up at up down) (neg_ℤ (coefficient down at)) f.up_is
+    (omega (arith, ints))) (factor_above f.common (times_down at up down) (coefficient up at) f.down_is h) a b)
     (λ d. is.same d ∙ sym (coefficient-cancelled_row at up down d))
 
 pub where_fault : {F P Q : Type 0} → (F → P) → (P → Q) → F → Q

@@ -36,18 +36,21 @@ added-set xs i x y h e w = record {
 below_none : (first : ℕ) (xs : List ℤ) (c : ℕ) → c < first → coefficient (terms_from first xs) c ≡ pos 0
 below_none first [] c h = refl
 below_none first (x ∷ xs) c h = coefficient-append (single_term first x) (terms_from (first + 1) xs) c
-    ∙ ap₂ (λ a b. a +ℤ b) (coefficient-single_term first x c ∙ ap (λ b. cond b x (pos 0)) (ne_eqb first c (λ e. omega arith))) (below_none (first + 1) xs c (omega arith))
+    ∙ ap₂ (λ a b. a +ℤ b) (coefficient-single_term first x c ∙ ap (λ b. cond b x (pos 0)) (ne_eqb first c (λ e. omega arith)))
+    (below_none (first + 1) xs c (omega arith))
 
 pub terms_at : (first : ℕ) (xs : List ℤ) (i : ℕ) → coefficient (terms_from first xs) (first + i) ≡ number_at xs i
 terms_at first [] i = refl
 terms_at first (x ∷ xs) zero =
     let e : first + 0 ≡ first = omega arith in
     ap (coefficient (terms_from first (x ∷ xs))) e ∙ coefficient-append (single_term first x) (terms_from (first + 1) xs) first
-    ∙ ap₂ (λ a b. a +ℤ b) (coefficient-single_term first x first ∙ ap (λ b. cond b x (pos 0)) (eq-eqb first first refl)) (below_none (first + 1) xs first (omega arith)) ∙ omega (arith, ints)
+    ∙ ap₂ (λ a b. a +ℤ b) (coefficient-single_term first x first ∙ ap (λ b. cond b x (pos 0)) (eq-eqb first first refl))
+    (below_none (first + 1) xs first (omega arith)) ∙ omega (arith, ints)
 terms_at first (x ∷ xs) (suc i) =
     let e : first + suc i ≡ first + 1 + i = omega arith in
     ap (coefficient (terms_from first (x ∷ xs))) e ∙ coefficient-append (single_term first x) (terms_from (first + 1) xs) (first + 1 + i)
-    ∙ ap₂ (λ a b. a +ℤ b) (coefficient-single_term first x (first + 1 + i) ∙ ap (λ b. cond b x (pos 0)) (ne_eqb first (first + 1 + i) (λ e. omega arith))) (terms_at (first + 1) xs i) ∙ omega (arith, ints)
+    ∙ ap₂ (λ a b. a +ℤ b) (coefficient-single_term first x (first + 1 + i)
+    ∙ ap (λ b. cond b x (pos 0)) (ne_eqb first (first + 1 + i) (λ e. omega arith))) (terms_at (first + 1) xs i) ∙ omega (arith, ints)
 
 -- from place 0, and from place 1
 pub terms_from_zero : (xs : List ℤ) (c : ℕ) → coefficient (terms_from 0 xs) c ≡ number_at xs c
@@ -55,7 +58,8 @@ terms_from_zero xs c = let e : c ≡ 0 + c = omega arith in ap (coefficient (ter
 
 pub terms_from_one : (xs : List ℤ) (c : ℕ) → 0 < c → coefficient (terms_from 1 (drop 1 xs)) c ≡ number_at xs c
 terms_from_one xs zero h = absurd (omega arith)
-terms_from_one xs (suc c) h = let e : suc c ≡ 1 + c = omega arith in ap (coefficient (terms_from 1 (drop 1 xs))) e ∙ terms_at 1 (drop 1 xs) c ∙ number_after_first xs
+terms_from_one xs (suc c) h = let e : suc c ≡ 1 + c = omega arith in ap (coefficient (terms_from 1 (drop 1 xs))) e
+    ∙ terms_at 1 (drop 1 xs) c ∙ number_after_first xs
   where
     number_after_first : (xs : List ℤ) → number_at (drop 1 xs) c ≡ number_at xs (suc c)
     number_after_first [] = refl
@@ -63,7 +67,8 @@ terms_from_one xs (suc c) h = let e : suc c ≡ 1 + c = omega arith in ap (coeff
 
 pub terms_ascend : (first : ℕ) (xs : List ℤ) → All IsWithin xs → Ascends first (terms_from first xs)
 terms_ascend first [] v = tt
-terms_ascend first (x ∷ xs) v = ascends-single_term first first x (terms_from (first + 1) xs) (omega arith) (All-head IsWithin x xs v) (terms_ascend (first + 1) xs (All-tail IsWithin x xs v))
+terms_ascend first (x ∷ xs) v = ascends-single_term first first x (terms_from (first + 1) xs) (omega arith) (All-head IsWithin x xs v)
+    (terms_ascend (first + 1) xs (All-tail IsWithin x xs v))
 
 -- and their places are those of the list
 pub terms_up_to : (size first : ℕ) (xs : List ℤ) → 1 ≤ first → first + length xs ≤ size + 1 → IsOver size (terms_from first xs)

@@ -71,7 +71,8 @@ pub value-row_multiple : (a : ℕ) (ts : Terms) (p : ℕ → ℤ) → value (row
 value-row_multiple a [] p = omega (arith, ints)
 value-row_multiple a (t ∷ ts) p = omega (arith, zring, value-row_multiple a ts p)
 
-pub value-cancelled_row : (at : ℕ) (up down : Terms) (p : ℕ → ℤ) → value (cancelled_row at up down) p ≡ pos (times_up at up down) *ℤ value up p +ℤ pos (times_down at up down) *ℤ value down p
+pub value-cancelled_row : (at : ℕ) (up down : Terms) (p : ℕ → ℤ) → value (cancelled_row at up down) p
+    ≡ pos (times_up at up down) *ℤ value up p +ℤ pos (times_down at up down) *ℤ value down p
 unfolding cancelled_row
 value-cancelled_row at up down p = value-row_sum (row_multiple (times_up at up down) up) (row_multiple (times_down at up down) down) p
     ∙ omega (arith, ints, value-row_multiple (times_up at up down) up p, value-row_multiple (times_down at up down) down p)
@@ -109,7 +110,8 @@ ascends-negated_terms from (t ∷ ts) a = (a.0, λ e. a.1 (zero_negation t.1 e),
 
 -- ---- cancelled rows
 
-pub coefficient-cancelled_row : (at : ℕ) (up down : Terms) (c : ℕ) → coefficient (cancelled_row at up down) c ≡ mix (times_up at up down) up (times_down at up down) down c
+pub coefficient-cancelled_row : (at : ℕ) (up down : Terms) (c : ℕ) → coefficient (cancelled_row at up down) c
+    ≡ mix (times_up at up down) up (times_down at up down) down c
 coefficient-cancelled_row at up down c = sym (value-one_at (cancelled_row at up down) c) ∙ value-cancelled_row at up down (one_at c)
     ∙ omega (arith, ints, ap (λ z. pos (times_up at up down) *ℤ z) (value-one_at up c), ap (λ z. pos (times_down at up down) *ℤ z) (value-one_at down c))
 
@@ -141,13 +143,15 @@ rises-with_term lo c x (t ∷ ts) h a = by_test (nat_lt c t.0) (nat_eq c t.0) re
 
 rises-row_sum : (lo : ℕ) (xs ys : Terms) → Rises lo xs → Rises lo ys → Rises lo (row_sum xs ys)
 rises-row_sum lo [] ys a b = b
-rises-row_sum lo (x ∷ xs) ys a b = rises-with_term lo x.0 x.1 (row_sum xs ys) a.0 (rises-row_sum lo xs ys (rises_lower lo (x.0 + 1) xs (omega (arith, a.0)) a.2) b)
+rises-row_sum lo (x ∷ xs) ys a b = rises-with_term lo x.0 x.1 (row_sum xs ys) a.0
+    (rises-row_sum lo xs ys (rises_lower lo (x.0 + 1) xs (omega (arith, a.0)) a.2) b)
 
 rises-row_multiple : (lo k : ℕ) (ts : Terms) → 0 < k → Rises lo ts → Rises lo (row_multiple k ts)
 rises-row_multiple lo k [] h a = tt
 rises-row_multiple lo k (t ∷ ts) h a = (a.0, (λ e. a.1 (zero_by_multiple k t.1 h e)), rises-row_multiple (t.0 + 1) k ts h a.2)
 
-pub rises-cancelled_row : (at : ℕ) (up down : Terms) → 0 < times_up at up down → 0 < times_down at up down → Ascends 0 up → Ascends 0 down → Rises 0 (cancelled_row at up down)
+pub rises-cancelled_row : (at : ℕ) (up down : Terms) → 0 < times_up at up down → 0 < times_down at up down → Ascends 0 up → Ascends 0 down
+    → Rises 0 (cancelled_row at up down)
 unfolding cancelled_row
 rises-cancelled_row at up down h k a b = rises-row_sum 0 (row_multiple (times_up at up down) up) (row_multiple (times_down at up down) down)
     (rises-row_multiple 0 (times_up at up down) up h (ascends_rise 0 up a)) (rises-row_multiple 0 (times_down at up down) down k (ascends_rise 0 down b))

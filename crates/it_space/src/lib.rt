@@ -1,4 +1,4 @@
-//! Sets of variables; spaces of entropies and rates with their coordinates, rows and points; and the problems and answers
+//! Sets of variables; spaces of entropies and rates with their coordinates, rows and points; and the answers
 //! made of these.
 #![tactic(auto)]
 
@@ -7,7 +7,6 @@ mod cancelling;
 mod divisors;
 mod faults;
 mod points;
-mod problems;
 mod rows;
 mod sets;
 mod spaces;
@@ -19,7 +18,6 @@ pub use cancelling::cancel;
 pub use divisors::normal;
 pub use faults::RowFault;
 pub use points::Point;
-pub use problems::{Constraint, Kind, Origin, Problem, System};
 pub use rows::{Row, push_some};
 pub use sets::VarSet;
 pub use spaces::Space;

@@ -6,7 +6,7 @@ use Rattle.std.proofs.lemmas.List.{take-append-drop, drop_more, length-drop, len
 use Rattle.std.proofs.lemmas.List.Elements.{All-append, All-cons, All-drop, All-take}
 use Rattle.it_space.specs.declared.spaces.Space.{Space}
 use Rattle.it_space.proofs.ListLemmas.{drop_item}
-use Rattle.it_space.specs.Problems.{IsProblem}
+use Rattle.it_problems.specs.Problems.{IsProblem}
 use Rattle.it_space.specs.Rows.{Terms, IsOver, value}
 use Rattle.it_space.specs.Spaces.{IsSpace, size_of}
 use Rattle.it_eliminate.specs.Projections.{IsPointOf}
@@ -35,7 +35,8 @@ all-remove P xs i a = All-append P (take i xs) (drop (suc i) xs) (All-take P i x
 all_with : {X : Type 0} (P : X → Type 0) (xs : List X) (i : ℕ) (d : X) → i < length xs → P (get_or xs i d) → All P (remove xs i) → All P xs
 all_with P xs i d l own rest = subst (λ ys. All P ys) parts
     (All-append P (take i xs) (get_or xs i d ∷ drop (i + 1) xs) (all_front P (take i xs) (drop (suc i) xs) rest)
-    (All-cons P (get_or xs i d) (drop (i + 1) xs) own (subst (λ n. All P (drop n xs)) (let e : suc i ≡ i + 1 = omega arith in e) (all_back P (take i xs) (drop (suc i) xs) rest))))
+    (All-cons P (get_or xs i d) (drop (i + 1) xs) own (subst (λ n. All P (drop n xs)) (let e : suc i ≡ i + 1 = omega arith in e)
+    (all_back P (take i xs) (drop (suc i) xs) rest))))
   where
     parts : take i xs ++ get_or xs i d ∷ drop (i + 1) xs ≡ xs
     parts = ap (λ ys. take i xs ++ ys) (sym (drop_more xs i d l)) ∙ take-append-drop i xs
@@ -49,7 +50,8 @@ fewer-remove xs i l =
 
 -- ---- one drop
 
-module _ (s : Space) (h : IsSpace s) (rows : List Terms) (d : DropView) (over : All (IsOver (size_of s)) rows) (few : length rows ≤ 65535) (listed : d.row < length rows) where
+module _ (s : Space) (h : IsSpace s) (rows : List Terms) (d : DropView) (over : All (IsOver (size_of s)) rows) (few : length rows ≤ 65535)
+    (listed : d.row < length rows) where
   abbrev others : List Terms
   others = remove rows d.row
 
@@ -58,7 +60,8 @@ module _ (s : Space) (h : IsSpace s) (rows : List Terms) (d : DropView) (over : 
 
   -- the problem under which the row is judged
   drop_problem : IsProblem (with_rows (constants s) others)
-  drop_problem = problem_limits (constants s) others (constants_are_problem s h) (let k = few_constants s h in omega (arith, k)) (let k = fewer-remove rows d.row listed in omega (arith, k, few)) (all-remove (IsOver (size_of s)) rows d.row over)
+  drop_problem = problem_limits (constants s) others (constants_are_problem s h) (let k = few_constants s h in omega (arith, k))
+      (let k = fewer-remove rows d.row listed in omega (arith, k, few)) (all-remove (IsOver (size_of s)) rows d.row over)
 
   rows_alike : drop_verdict s rows d ≡ Valid → (x : ℕ → ℤ) → IsZeroAtSets s.variables x → IsPointOf rows x ↔ IsPointOf others x
   rows_alike valid x zero = (λ a. all-remove (RowHolds x) rows d.row a, λ a. all_with (RowHolds x) rows d.row [] listed (own_holds a) a)
@@ -67,10 +70,13 @@ module _ (s : Space) (h : IsSpace s) (rows : List Terms) (d : DropView) (over : 
       own_holds a =
           let met = rates_meet (constants s) x (constants_speak_of_sets s) zero in
           let certified = (valid_yes_is (with_rows (constants s) others) own d.proof drop_problem (over d.row [] listed)).0 valid in
-          yes_is_true (with_rows (constants s) others) own d.proof drop_problem (over d.row [] listed) certified.0 x met.0 (problem_is_met x (constants s) others met.1 a)
+          yes_is_true (with_rows (constants s) others) own d.proof drop_problem (over d.row [] listed) certified.0 x met.0
+          (problem_is_met x (constants s) others met.1 a)
 
-  pub drop_leaves_hull : (kept : List ℕ) (rays : List (List ℤ)) → AreNoSets s.variables kept → drop_verdict s rows d ≡ Valid → IsHull kept rows rays → IsHull kept others rays
-  drop_leaves_hull kept rays rates valid hull = reduced_is_hull s.variables kept rows others rays rates (all-remove (UsesOnly kept) rows d.row hull.over) (rows_alike valid) hull
+  pub drop_leaves_hull : (kept : List ℕ) (rays : List (List ℤ)) → AreNoSets s.variables kept → drop_verdict s rows d ≡ Valid
+      → IsHull kept rows rays → IsHull kept others rays
+  drop_leaves_hull kept rays rates valid hull = reduced_is_hull s.variables kept rows others rays rates
+      (all-remove (UsesOnly kept) rows d.row hull.over) (rows_alike valid) hull
 
 -- ---- drops one after the other
 
@@ -86,7 +92,8 @@ is_valid ray number (UnmetConstraint i x) e = absurd (cc)
 is_valid ray number (NotViolated x) e = absurd (cc)
 
 -- a drop without a fault is of a row of the list, and valid
-no_fault : (s : Space) (ray number : ℕ) (rows : List Terms) (d : DropView) → drop_fault s ray number rows d ≡ None → (d.row < length rows) × (drop_verdict s rows d ≡ Valid)
+no_fault : (s : Space) (ray number : ℕ) (rows : List Terms) (d : DropView) → drop_fault s ray number rows d ≡ None
+    → (d.row < length rows) × (drop_verdict s rows d ≡ Valid)
 no_fault s ray number rows d e = by_test (nat_lt d.row (length rows)) refl e
   where
     by_test : (b : Bool) → nat_lt d.row (length rows) ≡ b → (if b then verdict_fault ray number (drop_verdict s rows d) else Some (NoRow ray number)) ≡ None
@@ -98,7 +105,8 @@ abbrev left_by : List Terms → Result (List Terms) Fault
 left_by rows = Ok rows
 
 -- what holds of the rows, and still holds when a row is dropped, holds of the rows that drops leave
-pub drops_keep : (s : Space) (ray : ℕ) (P : List Terms → Type 0) → ((rows : List Terms) (d : DropView) → P rows → d.row < length rows → drop_verdict s rows d ≡ Valid → P (remove rows d.row))
+pub drops_keep : (s : Space) (ray : ℕ) (P : List Terms → Type 0) → ((rows : List Terms) (d : DropView) → P rows → d.row < length rows
+    → drop_verdict s rows d ≡ Valid → P (remove rows d.row))
     → (number : ℕ) (rows : List Terms) (ds : List DropView) (left : List Terms) → P rows → after_drops s ray number rows ds ≡ Ok left → P left
 drops_keep s ray P goes number rows [] left p e = subst P (same_rows rows left e) p
   where
@@ -128,7 +136,8 @@ module _ (s : Space) (ray : ℕ) (begun rows : List Terms) (drops : List RowDrop
     next_drop : fault_or (drop_fault s ray i rows (drop_view d)) later ≡ after_drops s ray 0 begun (map drop_view drops)
     next_drop = sym (ap (λ (ds : List RowDrop). after_drops s ray i rows (map drop_view ds)) (drop_item drops i d l at)) ∙ u.leads
 
-    pub drop_goes : (f : Option Fault) (left : List Terms) → f ≡ drop_fault s ray i rows (drop_view d) → is_some f ≡ false → IfNone f (left ≡ remove rows d.row) → AreUnderWay s ray begun drops (i + 1) left
+    pub drop_goes : (f : Option Fault) (left : List Terms) → f ≡ drop_fault s ray i rows (drop_view d) → is_some f ≡ false
+        → IfNone f (left ≡ remove rows d.row) → AreUnderWay s ray begun drops (i + 1) left
     drop_goes (Some fault) left e n gone = absurd (cc)
     drop_goes None left e n gone =
         let own = no_fault s ray i rows (drop_view d) (sym e) in

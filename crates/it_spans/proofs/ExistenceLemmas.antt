@@ -77,7 +77,8 @@ within_or_not z = below_or_not (unsigned_abs z) (2 ^ 127)
 mix_or_not : (a x b y : ℤ) → MixFits a x b y ⊎ ¬ (MixFits a x b y)
 mix_or_not a x b y = by_each (within_or_not (a *ℤ x)) (within_or_not (b *ℤ y)) (within_or_not (a *ℤ x +ℤ b *ℤ y))
   where
-    by_each : IsWithin (a *ℤ x) ⊎ ¬ (IsWithin (a *ℤ x)) → IsWithin (b *ℤ y) ⊎ ¬ (IsWithin (b *ℤ y)) → IsWithin (a *ℤ x +ℤ b *ℤ y) ⊎ ¬ (IsWithin (a *ℤ x +ℤ b *ℤ y)) → MixFits a x b y ⊎ ¬ (MixFits a x b y)
+    by_each : IsWithin (a *ℤ x) ⊎ ¬ (IsWithin (a *ℤ x)) → IsWithin (b *ℤ y) ⊎ ¬ (IsWithin (b *ℤ y))
+        → IsWithin (a *ℤ x +ℤ b *ℤ y) ⊎ ¬ (IsWithin (a *ℤ x +ℤ b *ℤ y)) → MixFits a x b y ⊎ ¬ (MixFits a x b y)
     by_each (inl f) (inl g) (inl h) = inl (record { left = f; right = g; sum = h })
     by_each (inl f) (inl g) (inr n) = inr (λ m. n m.sum)
     by_each (inl f) (inr n) h = inr (λ m. n m.right)
@@ -102,7 +103,8 @@ in_or_out : (ts : Terms) (c : ℕ) → Member c (map (λ t. t.0) ts) ⊎ Every (
 in_or_out [] c = inr tt
 in_or_out (t ∷ ts) c = by_both (same_or_not t.0 c) (in_or_out ts c)
   where
-    by_both : (t.0 ≡ c) ⊎ (t.0 ≢ c) → Member c (map (λ t. t.0) ts) ⊎ Every (λ t. t.0 ≢ c) ts → Member c (map (λ t. t.0) (t ∷ ts)) ⊎ Every (λ t. t.0 ≢ c) (t ∷ ts)
+    by_both : (t.0 ≡ c) ⊎ (t.0 ≢ c) → Member c (map (λ t. t.0) ts) ⊎ Every (λ t. t.0 ≢ c) ts
+        → Member c (map (λ t. t.0) (t ∷ ts)) ⊎ Every (λ t. t.0 ≢ c) (t ∷ ts)
     by_both (inl e) rest = inl (inl (sym e))
     by_both (inr n) (inl m) = inl (inr m)
     by_both (inr n) (inr out) = inr (n, out)
@@ -117,7 +119,9 @@ module _ (at : ℕ) (up down : Terms) where
   mixes_or_not : (c : ℕ) → MixesAt c ⊎ ¬ (MixesAt c)
   mixes_or_not c = by_both (same_or_not c at) (mix_or_not (pos (times_up at up down)) (coefficient up c) (pos (times_down at up down)) (coefficient down c))
     where
-      by_both : (c ≡ at) ⊎ (c ≢ at) → MixFits (pos (times_up at up down)) (coefficient up c) (pos (times_down at up down)) (coefficient down c) ⊎ ¬ (MixFits (pos (times_up at up down)) (coefficient up c) (pos (times_down at up down)) (coefficient down c))
+      by_both : (c ≡ at) ⊎ (c ≢ at) → MixFits (pos (times_up at up down)) (coefficient up c) (pos (times_down at up down))
+          (coefficient down c) ⊎ ¬ (MixFits (pos (times_up at up down)) (coefficient up c) (pos (times_down at up down))
+          (coefficient down c))
           → MixesAt c ⊎ ¬ (MixesAt c)
       by_both (inl e) mix = inl (λ n. absurd (n e))
       by_both (inr n) (inl f) = inl (λ k. f)
@@ -130,7 +134,8 @@ module _ (at : ℕ) (up down : Terms) where
           → MixFits (pos (times_up at up down)) (coefficient up c) (pos (times_down at up down)) (coefficient down c)
       by_both (inl m) two = every_member MixesAt (map (λ t. t.0) up) c ups m other
       by_both (inr out) (inl m) = every_member MixesAt (map (λ t. t.0) down) c downs m other
-      by_both (inr out) (inr none) = zero_mix (pos (times_up at up down)) (coefficient up c) (pos (times_down at up down)) (coefficient down c) (no_coefficient up c out) (no_coefficient down c none)
+      by_both (inr out) (inr none) = zero_mix (pos (times_up at up down)) (coefficient up c) (pos (times_down at up down))
+          (coefficient down c) (no_coefficient up c out) (no_coefficient down c none)
 
   cancels_or_not : CancelFits at up down ⊎ ¬ (CancelFits at up down)
   cancels_or_not = by_both (every_or_not MixesAt mixes_or_not (map (λ t. t.0) up)) (every_or_not MixesAt mixes_or_not (map (λ t. t.0) down))
@@ -139,7 +144,9 @@ module _ (at : ℕ) (up down : Terms) where
       at_each f [] = tt
       at_each f (c ∷ cs) = (f c, at_each f cs)
 
-      by_both : Every MixesAt (map (λ t. t.0) up) ⊎ ¬ (Every MixesAt (map (λ t. t.0) up)) → Every MixesAt (map (λ t. t.0) down) ⊎ ¬ (Every MixesAt (map (λ t. t.0) down)) → CancelFits at up down ⊎ ¬ (CancelFits at up down)
+      by_both : Every MixesAt (map (λ t. t.0) up) ⊎ ¬ (Every MixesAt (map (λ t. t.0) up))
+          → Every MixesAt (map (λ t. t.0) down) ⊎ ¬ (Every MixesAt (map (λ t. t.0) down))
+          → CancelFits at up down ⊎ ¬ (CancelFits at up down)
       by_both (inl ups) (inl downs) = inl (mixes_everywhere ups downs)
       by_both (inl ups) (inr n) = inr (λ f. n (at_each f (map (λ t. t.0) down)))
       by_both (inr n) downs = inr (λ f. n (at_each f (map (λ t. t.0) up)))
@@ -159,7 +166,9 @@ module _ (at : ℕ) (up down : Terms) where
   pair_or_not : IsPairFit ⊎ ¬ IsPairFit
   pair_or_not = by_each (positive_or_not (coefficient up at)) (negative_or_not (coefficient down at)) cancels_or_not
     where
-      by_each : (pos 0 <ℤ coefficient up at) ⊎ ¬ (pos 0 <ℤ coefficient up at) → (coefficient down at <ℤ pos 0) ⊎ ¬ (coefficient down at <ℤ pos 0) → CancelFits at up down ⊎ ¬ (CancelFits at up down) → IsPairFit ⊎ ¬ IsPairFit
+      by_each : (pos 0 <ℤ coefficient up at) ⊎ ¬ (pos 0 <ℤ coefficient up at)
+          → (coefficient down at <ℤ pos 0) ⊎ ¬ (coefficient down at <ℤ pos 0) → CancelFits at up down ⊎ ¬ (CancelFits at up down)
+          → IsPairFit ⊎ ¬ IsPairFit
       by_each (inl p) (inl n) (inl f) = inl (λ a b. f)
       by_each (inl p) (inl n) (inr m) = inr (λ all. m (all p n))
       by_each (inl p) (inr none) f = inl (λ a b. absurd (none b))
@@ -169,8 +178,10 @@ pairs_fit_or_not : (at : ℕ) (rows : List Terms) → PairsFit at rows ⊎ ¬ (P
 pairs_fit_or_not at rows = by_all (every_or_not (λ up. Every (IsPairFit at up) rows) (λ up. every_or_not (IsPairFit at up) (pair_or_not at up) rows) rows)
   where
     by_all : Every (λ up. Every (IsPairFit at up) rows) rows ⊎ ¬ (Every (λ up. Every (IsPairFit at up) rows) rows) → PairsFit at rows ⊎ ¬ (PairsFit at rows)
-    by_all (inl all) = inl (λ up down u d. every_member (IsPairFit at up) rows down (every_member (λ up. Every (IsPairFit at up) rows) rows up all (member_of rows up u)) (member_of rows down d))
-    by_all (inr n) = inr (λ f. n (member_every (λ up. Every (IsPairFit at up) rows) rows (λ up u. member_every (IsPairFit at up) rows (λ down d. f up down (contains_of rows up u) (contains_of rows down d)))))
+    by_all (inl all) = inl (λ up down u d. every_member (IsPairFit at up) rows down
+        (every_member (λ up. Every (IsPairFit at up) rows) rows up all (member_of rows up u)) (member_of rows down d))
+    by_all (inr n) = inr (λ f. n (member_every (λ up. Every (IsPairFit at up) rows) rows
+        (λ up u. member_every (IsPairFit at up) rows (λ down d. f up down (contains_of rows up u) (contains_of rows down d)))))
 
 -- ---- ends
 
@@ -186,7 +197,8 @@ ray_end_there base most ray rate rows = by_values (all_fit_or_not (point_of ray)
     list : List Terms
     list = ordered_rows (rows_with_multiplier (base + rate) (point_of ray) rows)
 
-    by_count : ValuesFit ray rows → PairsFit at list → (most < length (next_list at list)) ⊎ (length (next_list at list) ≤ most) → RayEndThere base most ray rate rows
+    by_count : ValuesFit ray rows → PairsFit at list → (most < length (next_list at list)) ⊎ (length (next_list at list) ≤ most)
+        → RayEndThere base most ray rate rows
     by_count f p (inl l) = (Rows rate, inr (f, inr (inl (p, l, refl))))
     by_count f p (inr l) = (Region (next_list at list), inr (f, inr (inr (p, l, refl))))
 
@@ -204,7 +216,8 @@ steps_there f ray rows (s ∷ steps) =
     let left = ray_end_there (2 ^ f.space.variables) f.rows s.ray f.spare rows in
     by_first (step_end f.space ray s.drops left.0) (left.0, left.1, refl) (λ next. steps_there f (ray + 1) next steps)
   where
-    by_first : (first : Result (List Terms) Fault) → StepEnds f ray rows s first → ((next : List Terms) → (end : Result (List Terms) Fault) × StepsEnd f (ray + 1) next steps end)
+    by_first : (first : Result (List Terms) Fault) → StepEnds f ray rows s first
+        → ((next : List Terms) → (end : Result (List Terms) Fault) × StepsEnd f (ray + 1) next steps end)
         → (end : Result (List Terms) Fault) × StepsEnd f ray rows (s ∷ steps) end
     by_first (Ok next) e later = let rest = later next in (rest.0, (Ok next, e, rest.1))
     by_first (Err fault) e later = (Err fault, (Err fault, e, refl))

@@ -1,6 +1,6 @@
 -- Laws of the hull that a judge makes.
 use Rattle.std.specs.Prelude.{◌≡◌, ◌↔◌, ℕ, ◌+◌, ◌^◌, ◌≤◌, ◌<◌, ℤ, List, length, All, Contains, Result, Ok, Err}
-use Rattle.it_space.specs.Rows.{Terms}
+use Rattle.it_space.specs.Rows.{Terms, most_system_rows}
 use Rattle.it_space.specs.Spaces.{IsSpace, size_of}
 use Rattle.it_hull.specs.Hulls.{IsHull}
 use Rattle.it_spans.specs.declared.types.Fault.{Fault}
@@ -14,7 +14,7 @@ use Rattle.it_spans.specs.Verdicts.{VerdictIs}
 pub record IsFrame (f : Frame) : Type 0 where
   pub space : IsSpace f.space
   pub spare : f.spare < f.space.rates
-  pub few_rows : f.rows ≤ 65535
+  pub few_rows : f.rows ≤ most_system_rows
 
 -- the kept coordinates that functions accept: those of rates, without the one of the multipliers
 pub record AreKept (f : Frame) (kept : List ℕ) : Type 0 where

@@ -1,7 +1,7 @@
 //! Drops of rows from the list of a hull.
 ghost use Rattle.std.specs.Prelude.{◌≡◌, ◌<◌, ◌≤◌, length, map, All, IfOk, IfNone, OnOk};
 ghost use Rattle.std.specs.List.{remove};
-ghost use Rattle.it_space.specs.Rows.{IsOver};
+ghost use Rattle.it_space.specs.Rows.{IsOver, most_system_rows};
 ghost use Rattle.it_space.specs.Spaces.{size_of};
 ghost use Rattle.it_hull.specs.Constants.{constants};
 ghost use Rattle.it_spans.specs.Drops.{after_drops, drop_fault, drop_verdict, drop_view, fault_or, verdict_fault};
@@ -9,7 +9,8 @@ ghost use Rattle.it_spans.specs.Drops.{after_drops, drop_fault, drop_verdict, dr
 use crate::types::{Fault, RowDrop};
 use it_check::{Verdict, check_yes};
 use it_eliminate::problem_with;
-use it_space::{Problem, Row};
+use it_problems::Problem;
+use it_space::Row;
 use std::alloc::{AllocError, Global};
 
 /// Removes the row of `drop` from `rows`, and returns the verdict on its certificate that the row follows from those that are left.
@@ -21,7 +22,7 @@ fn take_row(
 ) -> Result<Verdict, AllocError>
     requires givens { givens.now ≡ constants givens.now.space }
     requires over { All (IsOver (size_of givens.now.space)) rows.old.items }
-    requires few { length rows.old.items ≤ 65535 }
+    requires few { length rows.old.items ≤ most_system_rows }
     requires listed { drop.now.row < length rows.old.items }
     ensures verdict { IfOk result (λ v. v ≡ drop_verdict givens.now.space rows.old.items (drop_view drop.now)) }
     ensures rows { rows.new.items ≡ remove rows.old.items drop.now.row }
@@ -57,7 +58,7 @@ fn drop_row(
 ) -> Result<Option<Fault>, AllocError>
     requires givens { givens.now ≡ constants givens.now.space }
     requires over { All (IsOver (size_of givens.now.space)) rows.old.items }
-    requires few { length rows.old.items ≤ 65535 }
+    requires few { length rows.old.items ≤ most_system_rows }
     ensures fault { IfOk result (λ f. f ≡ drop_fault givens.now.space ray number rows.old.items (drop_view drop.now)) }
     ensures rows { IfOk result (λ f. IfNone f (rows.new.items ≡ remove rows.old.items drop.now.row)) }
 {
@@ -78,7 +79,7 @@ pub fn drop_rows(
 ) -> Result<Option<Fault>, AllocError>
     requires givens { givens.now ≡ constants givens.now.space }
     requires over { All (IsOver (size_of givens.now.space)) rows.old.items }
-    requires few { length rows.old.items ≤ 65535 }
+    requires few { length rows.old.items ≤ most_system_rows }
     ensures { IfOk result (λ f. after_drops givens.now.space ray 0 rows.old.items (map drop_view drops.now) ≡ fault_or f (Ok rows.new.items)) }
 {
     for (number, drop) in drops.iter().enumerate() {

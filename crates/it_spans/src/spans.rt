@@ -1,6 +1,6 @@
 //! The hull of rays, one step after the other.
 ghost use Rattle.std.specs.Prelude.{◌≡◌, ◌≤◌, length, map, All, IfOk};
-ghost use Rattle.it_space.specs.Rows.{IsOver};
+ghost use Rattle.it_space.specs.Rows.{IsOver, most_system_rows};
 ghost use Rattle.it_space.specs.Spaces.{size_of};
 ghost use Rattle.it_hull.specs.Constants.{constants};
 ghost use Rattle.it_spans.specs.Drops.{after_drops, drop_view};
@@ -12,7 +12,8 @@ use crate::drops::drop_rows;
 use crate::types::{Fault, Frame, RowDrop, Spanned, Step};
 use it_eliminate::Eliminated;
 use it_hull::{constants, first_rows, with_ray};
-use it_space::{Problem, Row, System};
+use it_problems::{Problem, System};
+use it_space::Row;
 use std::alloc::{AllocError, Global};
 
 /// Consumes the system and returns its rows.
@@ -33,7 +34,7 @@ fn after_drops(
 ) -> Result<Spanned, AllocError>
     requires givens { givens.now ≡ constants givens.now.space }
     requires over { All (IsOver (size_of givens.now.space)) system.rows.items }
-    requires few { length system.rows.items ≤ 65535 }
+    requires few { length system.rows.items ≤ most_system_rows }
     ensures { IfOk result (λ s. spanned_view s ≡ after_drops givens.now.space ray 0 system.rows.items (map drop_view drops.now)) }
 {
     let mut system = system;

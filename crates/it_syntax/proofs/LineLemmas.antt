@@ -22,7 +22,9 @@ suc_minus : (a n : ℕ) → n ≤ a → suc a - n ≡ suc (a - n)
 suc_minus a n h = omega (arith, h)
 
 -- what is left of the letters is what is left of the tokens
-suffix_is_of_tokens : (line : List ℕ) (ts : List Token) (last : Letter) (prefix r : List Letter) (n : ℕ) → letters_until line ts last ≡ prefix ++ r → length r ≡ suc n → (n ≤ length ts) × (r ≡ letters_until line (drop (length ts - n) ts) last)
+suffix_is_of_tokens : (line : List ℕ) (ts : List Token) (last : Letter) (prefix r : List Letter) (n : ℕ)
+    → letters_until line ts last ≡ prefix ++ r → length r ≡ suc n → (n ≤ length ts)
+    × (r ≡ letters_until line (drop (length ts - n) ts) last)
 suffix_is_of_tokens line ts last [] r n e h =
     let same : suc n ≡ suc (length ts) = sym h ∙ ap length (sym e) ∙ until_length line ts last in
     let none : length ts - n ≡ 0 = omega (arith, same) in
@@ -37,21 +39,26 @@ suffix_is_of_tokens line (t ∷ ts) last (l ∷ prefix) r n e h =
     (omega (arith, k.0), k.1 ∙ ap (λ (i : ℕ). letters_until line (drop i (t ∷ ts)) last) (sym (suc_minus (length ts) n k.0)))
 
 -- the letters of a line end with those of its last tokens
-split_letters : (line : List ℕ) (ts : List Token) (last : Letter) (n : ℕ) → (prefix : List Letter) × (letters_until line ts last ≡ prefix ++ letters_until line (drop n ts) last)
+split_letters : (line : List ℕ) (ts : List Token) (last : Letter) (n : ℕ)
+    → (prefix : List Letter) × (letters_until line ts last ≡ prefix ++ letters_until line (drop n ts) last)
 split_letters line ts last zero = ([], refl)
 split_letters line [] last (suc n) = ([], refl)
-split_letters line (t ∷ ts) last (suc n) = let k = split_letters line ts last n in (letter_of line t.start t.end t.kind ∷ k.0, ap (λ (q : List Letter). letter_of line t.start t.end t.kind ∷ q) k.1)
+split_letters line (t ∷ ts) last (suc n) = let k = split_letters line ts last n
+    in (letter_of line t.start t.end t.kind ∷ k.0, ap (λ (q : List Letter). letter_of line t.start t.end t.kind ∷ q) k.1)
 
 -- where n tokens are left
-left_is : (line : List ℕ) (ts : LineTokens) (from n : ℕ) (prefix r : List Letter) → letters_from line ts from ≡ prefix ++ r → length r ≡ suc n → (n ≤ length ts.tokens.items) × (r ≡ letters_from line ts (length ts.tokens.items - n))
+left_is : (line : List ℕ) (ts : LineTokens) (from n : ℕ) (prefix r : List Letter) → letters_from line ts from ≡ prefix ++ r
+    → length r ≡ suc n → (n ≤ length ts.tokens.items) × (r ≡ letters_from line ts (length ts.tokens.items - n))
 left_is line ts from n prefix r e h =
     let last = last_letter ts.misspelling in
     let k = split_letters line ts.tokens.items last from in
     suffix_is_of_tokens line ts.tokens.items last (k.0 ++ prefix) r n (k.1 ∙ ap (λ (q : List Letter). k.0 ++ q) e ∙ sym (append_assoc k.0 prefix r)) h
 
 -- the fault at the letters r has the place of the token from which they come
-fault_at : {A : Type 0} (f : Form A) (line : List ℕ) (ts : LineTokens) (from n : ℕ) (c : Code) (r : List Letter) → FirstFault (spelling f) (letters_from line ts from) c r → length r ≡ suc n
-    → (n ≤ length ts.tokens.items) × FaultAt f line ts from (column_of (drop (length ts.tokens.items - n) ts.tokens.items) (column_after ts.tokens.items ts.misspelling)) c
+fault_at : {A : Type 0} (f : Form A) (line : List ℕ) (ts : LineTokens) (from n : ℕ) (c : Code) (r : List Letter)
+    → FirstFault (spelling f) (letters_from line ts from) c r → length r ≡ suc n
+    → (n ≤ length ts.tokens.items) × FaultAt f line ts from (column_of (drop (length ts.tokens.items - n) ts.tokens.items)
+    (column_after ts.tokens.items ts.misspelling)) c
 fault_at f line ts from n c r w h =
     let k = left_is line ts from n w.prefix r w.parts h in (
       k.0,
@@ -64,16 +71,20 @@ fault_at f line ts from n c r w h =
     )
 
 -- a reading that stopped did so at the first fault, and left tokens of the line
-pub stop_is_fault : {A : Type 0} (f : Form A) (o : Outline) → Has f o → (line : List ℕ) (ts : LineTokens) (from : ℕ) (text : List ℕ) (us : List Token) (last : Letter) (c : Code)
+pub stop_is_fault : {A : Type 0} (f : Form A) (o : Outline) → Has f o
+    → (line : List ℕ) (ts : LineTokens) (from : ℕ) (text : List ℕ) (us : List Token) (last : Letter) (c : Code)
     → read f (letters_from line ts from) ≡ Err (c, letters_until text us last)
-    → (length us ≤ length ts.tokens.items) × FaultAt f line ts from (column_of (drop (length ts.tokens.items - length us) ts.tokens.items) (column_after ts.tokens.items ts.misspelling)) c
-stop_is_fault f o h line ts from text us last c e = fault_at f line ts from (length us) c (letters_until text us last) (first_fault f o h (letters_from line ts from) c (letters_until text us last) e) (until_length text us last)
+    → (length us ≤ length ts.tokens.items) × FaultAt f line ts from (column_of (drop (length ts.tokens.items - length us) ts.tokens.items)
+    (column_after ts.tokens.items ts.misspelling)) c
+stop_is_fault f o h line ts from text us last c e = fault_at f line ts from (length us) c (letters_until text us last)
+    (first_fault f o h (letters_from line ts from) c (letters_until text us last) e) (until_length text us last)
 
 from_length : (line : List ℕ) (ts : LineTokens) (n : ℕ) → length (letters_from line ts n) ≡ suc (length ts.tokens.items - n)
 from_length line ts n = until_length line (drop n ts.tokens.items) (last_letter ts.misspelling) ∙ ap suc (length-drop n ts.tokens.items)
 
 -- two first faults are one
-pub fault_at_one : {A : Type 0} (f : Form A) (line : List ℕ) (ts : LineTokens) (from a b : ℕ) (c d : Code) → FaultAt f line ts from a c → FaultAt f line ts from b d → (a ≡ b) × (c ≡ d)
+pub fault_at_one : {A : Type 0} (f : Form A) (line : List ℕ) (ts : LineTokens) (from a b : ℕ) (c d : Code) → FaultAt f line ts from a c
+    → FaultAt f line ts from b d → (a ≡ b) × (c ≡ d)
 fault_at_one f line ts from a b c d v w =
     let k = one_fault (spelling f) (letters_from line ts from) c d (letters_from line ts v.at) (letters_from line ts w.at) v.first w.first in
     let lengths = sym (from_length line ts v.at) ∙ ap length k.1 ∙ from_length line ts w.at in

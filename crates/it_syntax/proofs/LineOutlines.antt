@@ -32,15 +32,20 @@ names_has env = has_then _ _ _ _ (variable_has env) (λ i. more_names_has env _)
 
 given_set_has : (env : Environment) → Has (given_set env) (one_of (Punctuation Bar ∷ Punctuation RightParen ∷ []))
 unfolding given_set
-given_set_has env = has_if _ _ _ _ _ (λ u. has_then _ _ _ _ (names_has env) (λ c. has_then _ _ _ _ (has_symbol RightParen) (λ u. has_give _) refl) refl) (has_then _ _ _ _ (has_symbol RightParen) (λ u. has_give _) refl) refl
+given_set_has env = has_if _ _ _ _ _ (λ u. has_then _ _ _ _ (names_has env)
+    (λ c. has_then _ _ _ _ (has_symbol RightParen) (λ u. has_give _) refl) refl)
+    (has_then _ _ _ _ (has_symbol RightParen) (λ u. has_give _) refl) refl
 
 entropy_has : (env : Environment) → Has (entropy env) (one_of (Punctuation LeftParen ∷ []))
 unfolding entropy
-entropy_has env = has_then _ _ _ _ (has_symbol LeftParen) (λ u. has_then _ _ _ _ (names_has env) (λ a. has_then _ _ _ _ (given_set_has env) (λ c. has_give _) refl) refl) refl
+entropy_has env = has_then _ _ _ _ (has_symbol LeftParen) (λ u. has_then _ _ _ _ (names_has env)
+    (λ a. has_then _ _ _ _ (given_set_has env) (λ c. has_give _) refl) refl) refl
 
 mutual_information_has : (env : Environment) → Has (mutual_information env) (one_of (Punctuation LeftParen ∷ []))
 unfolding mutual_information
-mutual_information_has env = has_then _ _ _ _ (has_symbol LeftParen) (λ u. has_then _ _ _ _ (names_has env) (λ a. has_then _ _ _ _ (has_symbol Semicolon) (λ u. has_then _ _ _ _ (names_has env) (λ b. has_then _ _ _ _ (given_set_has env) (λ c. has_give _) refl) refl) refl) refl) refl
+mutual_information_has env = has_then _ _ _ _ (has_symbol LeftParen) (λ u. has_then _ _ _ _ (names_has env)
+    (λ a. has_then _ _ _ _ (has_symbol Semicolon) (λ u. has_then _ _ _ _ (names_has env)
+    (λ b. has_then _ _ _ _ (given_set_has env) (λ c. has_give _) refl) refl) refl) refl) refl
 
 abbrev measures : List Kind
 measures = Keyword (codes "H") ∷ Keyword (codes "I") ∷ []
@@ -61,7 +66,8 @@ maybe_atom = record { begins = measures ++ rates_but [] ∷ []; skips = true; go
 
 pub atom_or_nothing_has : (s : Scope) → Has (atom_or_nothing s) maybe_atom
 unfolding atom_or_nothing
-atom_or_nothing_has s = has_if _ _ _ _ _ (λ u. entropy_has s.variables) (has_if _ _ _ _ _ (λ u. mutual_information_has s.variables) (has_if _ _ _ _ _ (λ a. has_give a) (has_give _) refl) refl) refl
+atom_or_nothing_has s = has_if _ _ _ _ _ (λ u. entropy_has s.variables)
+    (has_if _ _ _ _ _ (λ u. mutual_information_has s.variables) (has_if _ _ _ _ _ (λ a. has_give a) (has_give _) refl) refl) refl
 
 abbrev pub a_term : List (List ℕ) → Outline
 a_term ts = record { begins = Zero ∷ Positive ∷ measures ++ rates_but ts ∷ []; skips = false; goes = rates_but [] ∷ Keyword (codes "I") ∷ Keyword (codes "H") ∷ Punctuation Slash ∷ [] }
@@ -73,15 +79,18 @@ denominator_has : (m : ℕ) (s : Scope) (minus : Bool) (n : ℕ) → Has (Then (
 denominator_has m s minus n = has_then _ _ _ _ (has_take _ (Number 1) refl) (λ d. has_then _ _ _ _ (atom_has s) (λ a. has_give _) refl) refl
 
 -- after a number: a denominator and an atom, or else the atom of the number
-over_atom : (m : ℕ) (s : Scope) (minus : Bool) (n : ℕ) → Has (over_or m s minus n (atom s)) (one_or (Punctuation Slash ∷ []) over_a_number (one_then (an_atom []) nothing))
+over_atom : (m : ℕ) (s : Scope) (minus : Bool) (n : ℕ)
+    → Has (over_or m s minus n (atom s)) (one_or (Punctuation Slash ∷ []) over_a_number (one_then (an_atom []) nothing))
 over_atom m s minus n = has_if _ _ _ _ _ (λ u. denominator_has m s minus n) (has_then _ _ _ _ (atom_has s) (λ a. has_give _) refl) refl
 
-over_zero : (m : ℕ) (s : Scope) (minus : Bool) → Has (over_or m s minus 0 (atom_or_nothing s)) (one_or (Punctuation Slash ∷ []) over_a_number (one_then maybe_atom nothing))
+over_zero : (m : ℕ) (s : Scope) (minus : Bool) → Has (over_or m s minus 0 (atom_or_nothing s))
+    (one_or (Punctuation Slash ∷ []) over_a_number (one_then maybe_atom nothing))
 over_zero m s minus = has_if _ _ _ _ _ (λ u. denominator_has m s minus 0) (has_then _ _ _ _ (atom_or_nothing_has s) (λ a. has_give _) refl) refl
 
 term_has : (m : ℕ) (s : Scope) (minus : Bool) → Has (term m s minus) (a_term [])
 unfolding term
-term_has m s minus = has_if _ _ _ _ _ (λ u. over_zero m s minus) (has_if _ _ _ _ _ (λ n. over_atom m s minus n) (has_then _ _ _ _ (atom_has s) (λ a. has_give _) refl) refl) refl
+term_has m s minus = has_if _ _ _ _ _ (λ u. over_zero m s minus) (has_if _ _ _ _ _ (λ n. over_atom m s minus n)
+    (has_then _ _ _ _ (atom_has s) (λ a. has_give _) refl) refl) refl
 
 abbrev further_terms : Outline
 further_terms = repeated signs (one_then (a_term []) nothing)
@@ -116,11 +125,13 @@ a_relation ts = one_then (a_sum ts) (one_then a_comparison (one_then (a_sum []) 
 
 pub relation_has : (s : Scope) → Has (relation s) (a_relation [])
 unfolding relation
-relation_has s = has_then _ _ _ _ (sum_has _ _ s) (λ left. has_then _ _ _ _ compare_has (λ sign. has_then _ _ _ _ (sum_has _ _ s) (λ right. has_give _) refl) refl) refl
+relation_has s = has_then _ _ _ _ (sum_has _ _ s) (λ left. has_then _ _ _ _ compare_has
+    (λ sign. has_then _ _ _ _ (sum_has _ _ s) (λ right. has_give _) refl) refl) refl
 
 -- ---- the constraints of `given` lines
 
-members_has : (d : Symbol) (env : Environment) (sets : List ℕ) → all_apart (Punctuation Comma ∷ []) (Punctuation d ∷ []) ≡ true → Has (more_members d env sets) (repeated (Punctuation d ∷ []) (one_then some_names nothing))
+members_has : (d : Symbol) (env : Environment) (sets : List ℕ) → all_apart (Punctuation Comma ∷ []) (Punctuation d ∷ []) ≡ true
+    → Has (more_members d env sets) (repeated (Punctuation d ∷ []) (one_then some_names nothing))
 unfolding more_members
 members_has d env sets e = has_while _ _ _ _ _ (λ sets u. has_then _ _ _ _ (has_flagged _ _ _ (names_has env)) (λ set. has_give _) refl) e
 
@@ -130,14 +141,16 @@ a_constraint goes = record { begins = WordBut [] ∷ []; skips = false; goes = g
 chain_has : (env : Environment) → Has (chain env) (a_constraint (Punctuation Arrow ∷ Punctuation Comma ∷ Punctuation Comma ∷ []))
 unfolding chain
 chain_has env =
-    has_then _ _ _ _ (names_has env) (λ a. has_then _ _ _ _ (has_symbol Arrow) (λ u. has_then _ _ _ _ (names_has env) (λ b. has_then _ _ _ _ (has_symbol Arrow) (λ u. has_then _ _ _ _ (names_has env) (λ c.
+    has_then _ _ _ _ (names_has env) (λ a. has_then _ _ _ _ (has_symbol Arrow)
+    (λ u. has_then _ _ _ _ (names_has env) (λ b. has_then _ _ _ _ (has_symbol Arrow) (λ u. has_then _ _ _ _ (names_has env) (λ c.
     has_then _ _ _ _ (members_has Arrow env _ refl) (λ sets. has_give _) refl) refl) refl) refl) refl) refl
 
 after_bar_has : (env : Environment) → Has (after_bar env) (one_or (Punctuation Bar ∷ []) some_names nothing)
 unfolding after_bar
 after_bar_has env = has_if _ _ _ _ _ (λ u. names_has env) (has_give _) refl
 
-independence_has : (env : Environment) → Has (independence env) (a_constraint (Punctuation Comma ∷ Punctuation Bar ∷ Punctuation Semicolon ∷ Punctuation Comma ∷ Punctuation Comma ∷ []))
+independence_has : (env : Environment) → Has (independence env) (a_constraint
+    (Punctuation Comma ∷ Punctuation Bar ∷ Punctuation Semicolon ∷ Punctuation Comma ∷ Punctuation Comma ∷ []))
 unfolding independence
 independence_has env =
     has_then _ _ _ _ (names_has env) (λ a. has_then _ _ _ _ (has_symbol Semicolon) (λ u. has_then _ _ _ _ (names_has env) (λ b.
@@ -158,7 +171,8 @@ atom_but s = has_if _ _ _ _ _ (λ u. entropy_has s.variables) (has_if _ _ _ _ _ 
 
 term_but : (m : ℕ) (s : Scope) (minus : Bool) → Has (but forms (term m s minus)) (a_term forms)
 unfolding term but
-term_but m s minus = has_if _ _ _ _ _ (λ u. over_zero m s minus) (has_if _ _ _ _ _ (λ n. over_atom m s minus n) (has_then _ _ _ _ (atom_but s) (λ a. has_give _) refl) refl) refl
+term_but m s minus = has_if _ _ _ _ _ (λ u. over_zero m s minus) (has_if _ _ _ _ _ (λ n. over_atom m s minus n)
+    (has_then _ _ _ _ (atom_but s) (λ a. has_give _) refl) refl) refl
 
 -- the flags of a first letter and its words don't meet
 but_flagged : {A : Type 0} (ts : List (List ℕ)) (m : Option Code) (f : Form A) → but ts (flagged m f) ≡ flagged m (but ts f)
@@ -171,7 +185,8 @@ but_flagged ts m (While ks says step a) = refl
 
 terms_but : (most m : ℕ) (s : Scope) (minus : Bool) → Has (but forms (terms most m s minus)) (some_terms forms)
 unfolding terms but
-terms_but most m s minus = has_then _ _ _ _ (subst (λ (f : Form Term). Has f (a_term forms)) (sym (but_flagged forms _ (term m s minus))) (has_flagged _ _ _ (term_but m s minus))) (λ t. more_terms_has most m s _) refl
+terms_but most m s minus = has_then _ _ _ _ (subst (λ (f : Form Term). Has f (a_term forms)) (sym (but_flagged forms _ (term m s minus)))
+    (has_flagged _ _ _ (term_but m s minus))) (λ t. more_terms_has most m s _) refl
 
 sum_but : (most m : ℕ) (s : Scope) → Has (but forms (sum most m s)) (a_sum forms)
 unfolding sum but
@@ -179,7 +194,8 @@ sum_but most m s = has_if _ _ _ _ _ (λ u. terms_has most m s false) (has_if _ _
 
 relation_but : (s : Scope) → Has (but forms (relation s)) (a_relation forms)
 unfolding relation but
-relation_but s = has_then _ _ _ _ (sum_but _ _ s) (λ left. has_then _ _ _ _ compare_has (λ sign. has_then _ _ _ _ (sum_has _ _ s) (λ right. has_give _) refl) refl) refl
+relation_but s = has_then _ _ _ _ (sum_but _ _ s) (λ left. has_then _ _ _ _ compare_has
+    (λ sign. has_then _ _ _ _ (sum_has _ _ s) (λ right. has_give _) refl) refl) refl
 
 abbrev pub a_given : Outline
 a_given =
@@ -189,4 +205,5 @@ a_given =
 
 pub given_has : (s : Scope) → Has (given s) a_given
 unfolding given
-given_has s = has_if _ _ _ _ _ (λ u. chain_has s.variables) (has_if _ _ _ _ _ (λ u. independence_has s.variables) (has_if _ _ _ _ _ (λ u. function_has s.variables) (has_then _ _ _ _ (relation_but s) (λ r. has_give _) refl) refl) refl) refl
+given_has s = has_if _ _ _ _ _ (λ u. chain_has s.variables) (has_if _ _ _ _ _ (λ u. independence_has s.variables)
+    (has_if _ _ _ _ _ (λ u. function_has s.variables) (has_then _ _ _ _ (relation_but s) (λ r. has_give _) refl) refl) refl) refl

@@ -74,13 +74,21 @@ wrong_one codes.Number d body h k = absurd k
 wrong_one c d body h k = absurd h
 
 wrong_run : (at : ℕ) (bytes : List ℕ) (m : Misspelling) (h : IsMisspellingAt at bytes m) → IsLongestRun is_space bytes (length h.gap)
-wrong_run at bytes m h = subst (λ (b : List ℕ). IsLongestRun is_space b (length h.gap)) (sym h.whole) (run_of_text is_space h.gap h.body h.blank (wrong_stops m.code h.body h.wrong))
+wrong_run at bytes m h = subst (λ (b : List ℕ). IsLongestRun is_space b (length h.gap)) (sym h.whole)
+    (run_of_text is_space h.gap h.body h.blank (wrong_stops m.code h.body h.wrong))
 
 wrong_body : (at : ℕ) (bytes : List ℕ) (m : Misspelling) (h : IsMisspellingAt at bytes m) → drop (length h.gap) bytes ≡ h.body
 wrong_body at bytes m h = ap (λ (b : List ℕ). drop (length h.gap) b) h.whole ∙ drop_at h.gap h.body (length h.gap) refl
 
 blank_or_wrong : (at : ℕ) (bytes : List ℕ) (m : Misspelling) → IsMisspellingAt at bytes m → AreAll is_space bytes → ⊥
-blank_or_wrong at bytes m h k = not_wrong h.body (omega (arith, run_once is_space bytes (length h.gap) (length bytes) (wrong_run at bytes m h) (blank_run is_space bytes k), ap length h.whole, length-append h.gap h.body)) h.wrong
+blank_or_wrong at bytes m h k = not_wrong h.body
+    (omega (
+      arith,
+      run_once is_space bytes (length h.gap) (length bytes) (wrong_run at bytes m h)
+          (blank_run is_space bytes k),
+      ap length h.whole,
+      length-append h.gap h.body,
+    )) h.wrong
   where
     not_wrong : (body : List ℕ) → length body ≡ 0 → IsWrong m.code body → ⊥
     not_wrong [] e w = wrong_some m.code w
@@ -89,7 +97,8 @@ blank_or_wrong at bytes m h k = not_wrong h.body (omega (arith, run_once is_spac
 token_or_wrong : (at : ℕ) (bytes : List ℕ) (m : Misspelling) (t : Token) (rest : List ℕ) → IsMisspellingAt at bytes m → Cut at bytes t rest → ⊥
 token_or_wrong at bytes m t rest h c =
     let f = found_of at (length h.gap) bytes t rest (wrong_run at bytes m h) c in
-    wrong_prefix m.code t.kind (t.end - t.start) h.body h.wrong (subst (λ (b : List ℕ). IsTokenPrefix t.kind (t.end - t.start) b) (wrong_body at bytes m h) f.shape)
+    wrong_prefix m.code t.kind (t.end - t.start) h.body h.wrong (subst (λ (b : List ℕ). IsTokenPrefix t.kind (t.end - t.start) b)
+    (wrong_body at bytes m h) f.shape)
 
 misspelling_at : ℕ → Code → Misspelling
 misspelling_at column code = record { column = column; code = code }
@@ -103,7 +112,8 @@ same_misspelling at bytes m k h g =
     let columns : m.column ≡ k.column = omega (arith, h.column, g.column, gaps) in
     ap (λ (n : ℕ). misspelling_at n m.code) columns ∙ ap (λ (c : Code). misspelling_at k.column c) codes
 
-until_one : (at : ℕ) (bytes : List ℕ) (ts us : List Token) (m k : Option Misspelling) → SpellsUntil at bytes ts m → SpellsUntil at bytes us k → (ts ≡ us) × (m ≡ k)
+until_one : (at : ℕ) (bytes : List ℕ) (ts us : List Token) (m k : Option Misspelling) → SpellsUntil at bytes ts m
+    → SpellsUntil at bytes us k → (ts ≡ us) × (m ≡ k)
 until_one at bytes [] [] None None h g = (refl, refl)
 until_one at bytes [] [] None (Some k) h g = absurd (blank_or_wrong at bytes k g h)
 until_one at bytes [] [] (Some m) None h g = absurd (blank_or_wrong at bytes m h g)
@@ -114,7 +124,8 @@ until_one at bytes (t ∷ ts) [] m None h g = absurd (blank_none at (length h.1.
 until_one at bytes (t ∷ ts) [] m (Some k) h g = absurd (token_or_wrong at bytes k t h.0 g h.1)
 until_one at bytes (t ∷ ts) (u ∷ us) m k h g =
     let one = one_cut at bytes (length h.1.gap) t u h.0 g.0 (gap_run at bytes t h.0 h.1) h.1 g.1 in
-    let rest : SpellsUntil t.end h.0 us k = subst (λ (r : List ℕ). SpellsUntil t.end r us k) (sym one.1) (subst (λ (v : Token). SpellsUntil v.end g.0 us k) (sym one.0) g.2) in
+    let rest : SpellsUntil t.end h.0 us k = subst (λ (r : List ℕ). SpellsUntil t.end r us k) (sym one.1)
+    (subst (λ (v : Token). SpellsUntil v.end g.0 us k) (sym one.0) g.2) in
     let more = until_one t.end h.0 ts us m k h.2 rest in
     (ap (λ (v : Token). v ∷ ts) one.0 ∙ ap (λ (vs : List Token). u ∷ vs) more.0, more.1)
 
@@ -129,17 +140,22 @@ abbrev pub GoesOn : List ℕ → List Token → ℕ → List ℕ → Type 0
 GoesOn line so_far at rest = (ts : List Token) (m : Option Misspelling) → SpellsUntil at rest ts m → SpellsUntil 0 line (so_far ++ ts) m
 
 -- one more token
-pub goes_on_more : (line : List ℕ) (so_far : List Token) (at g n : ℕ) (rest : List ℕ) (t : Token) → IsLongestRun is_space rest g → IsTokenPrefix t.kind n (drop g rest) → t.start ≡ at + g → t.end ≡ t.start + n
+pub goes_on_more : (line : List ℕ) (so_far : List Token) (at g n : ℕ) (rest : List ℕ) (t : Token) → IsLongestRun is_space rest g
+    → IsTokenPrefix t.kind n (drop g rest) → t.start ≡ at + g → t.end ≡ t.start + n
     → GoesOn line so_far at rest → GoesOn line (so_far ++ t ∷ []) t.end (drop n (drop g rest))
 goes_on_more line so_far at g n rest t run shape start end w ts m h =
-    subst (λ (us : List Token). SpellsUntil 0 line us m) (sym (append_assoc so_far (t ∷ []) ts)) (w (t ∷ ts) m (drop n (drop g rest), cut_made at g n rest t run shape start end, h))
+    subst (λ (us : List Token). SpellsUntil 0 line us m) (sym (append_assoc so_far (t ∷ []) ts))
+    (w (t ∷ ts) m (drop n (drop g rest), cut_made at g n rest t run shape start end, h))
 
 -- nothing but spaces is left
-pub ends_blank : (line : List ℕ) (so_far : List Token) (at g : ℕ) (rest : List ℕ) → IsLongestRun is_space rest g → length (drop g rest) ≡ 0 → GoesOn line so_far at rest → SpellsUntil 0 line so_far None
-ends_blank line so_far at g rest run e w = subst (λ (ts : List Token). SpellsUntil 0 line ts None) (append-nil so_far) (w [] None (run_all is_space rest g run.all (omega (arith, length-drop g rest, e))))
+pub ends_blank : (line : List ℕ) (so_far : List Token) (at g : ℕ) (rest : List ℕ) → IsLongestRun is_space rest g → length (drop g rest) ≡ 0
+    → GoesOn line so_far at rest → SpellsUntil 0 line so_far None
+ends_blank line so_far at g rest run e w = subst (λ (ts : List Token). SpellsUntil 0 line ts None) (append-nil so_far)
+    (w [] None (run_all is_space rest g run.all (omega (arith, length-drop g rest, e))))
 
 -- a misspelling is left
-pub ends_wrong : (line : List ℕ) (so_far : List Token) (at g : ℕ) (rest : List ℕ) (m : Misspelling) → IsLongestRun is_space rest g → IsWrong m.code (drop g rest) → m.column ≡ at + g + 1 → GoesOn line so_far at rest → SpellsUntil 0 line so_far (Some m)
+pub ends_wrong : (line : List ℕ) (so_far : List Token) (at g : ℕ) (rest : List ℕ) (m : Misspelling) → IsLongestRun is_space rest g
+    → IsWrong m.code (drop g rest) → m.column ≡ at + g + 1 → GoesOn line so_far at rest → SpellsUntil 0 line so_far (Some m)
 ends_wrong line so_far at g rest m run wrong column w =
     subst (λ (ts : List Token). SpellsUntil 0 line ts (Some m)) (append-nil so_far) (w [] (Some m) (record {
       gap = take g rest;
@@ -155,13 +171,19 @@ ends_wrong line so_far at g rest m run wrong column w =
 
 -- ---- places
 
-until_within : (line : List ℕ) (at : ℕ) (bytes : List ℕ) (ts : List Token) (m : Option Misspelling) → at + length bytes ≡ length line → SpellsUntil at bytes ts m → InLine line ts
+until_within : (line : List ℕ) (at : ℕ) (bytes : List ℕ) (ts : List Token) (m : Option Misspelling) → at + length bytes ≡ length line
+    → SpellsUntil at bytes ts m → InLine line ts
 until_within line at bytes [] m e h = tt
 until_within line at bytes (t ∷ ts) m e h =
     let c = h.1 in
-    let total : length bytes ≡ length c.gap + (length c.text + length h.0) = ap length c.whole ∙ length-append c.gap (c.text ++ h.0) ∙ ap (λ (n : ℕ). length c.gap + n) (length-append c.text h.0) in
-    let end : t.end + length h.0 ≡ length line = omega (arith, c.start, c.end, total, e) in
-    ((omega (arith, c.end), omega (arith, end)), text_length t.kind c.text (t.end - t.start) (omega (arith, c.end)) c.spelled, until_within line t.end h.0 ts m end h.2)
+    let total : length bytes ≡ length c.gap + (length c.text + length h.0) = ap length c.whole ∙ length-append c.gap (c.text ++ h.0)
+    ∙ ap (λ (n : ℕ). length c.gap + n) (length-append c.text h.0) in
+    let end : t.end + length h.0 ≡ length line = omega (arith, c.start, c.end, total, e) in (
+      (omega (arith, c.end), omega (arith, end)),
+      text_length t.kind c.text (t.end - t.start)
+          (omega (arith, c.end)) c.spelled,
+      until_within line t.end h.0 ts m end h.2,
+    )
 
 -- the tokens of a line lie in it
 pub until_in_line : (line : List ℕ) (ts : List Token) (m : Option Misspelling) → SpellsUntil 0 line ts m → InLine line ts

@@ -25,7 +25,8 @@ multiple-append m [] t = refl
 multiple-append m (u ∷ ts) t = multiple-append (lcm m u.denominator) ts t
 
 -- a multiple that goes on with one more term
-pub one_more_multiple : (m so_far next : ℕ) (ts : List Term) (t : Term) → so_far ≡ multiple_from m ts → next ≡ lcm so_far t.denominator → next ≡ multiple_from m (ts ++ t ∷ [])
+pub one_more_multiple : (m so_far next : ℕ) (ts : List Term) (t : Term) → so_far ≡ multiple_from m ts → next ≡ lcm so_far t.denominator
+    → next ≡ multiple_from m (ts ++ t ∷ [])
 one_more_multiple m so_far next ts t e h = h ∙ ap (λ (x : ℕ). lcm x t.denominator) e ∙ sym (multiple-append m ts t)
 
 -- ---- one more denominator
@@ -99,7 +100,8 @@ lcm_parts m d h = let l = lcm_is m d in (pos_of_dvd_of_pos l.0 h, pos_of_dvd_of_
 -- the denominators of terms are at least 1
 pub denominators_some : (m : ℕ) (ts : List Term) → IsMultiple (multiple_from m ts) → All (λ t. 1 ≤ t.denominator) ts
 denominators_some m [] h = All-nil (λ (t : Term). 1 ≤ t.denominator)
-denominators_some m (t ∷ ts) h = All-cons (λ (t : Term). 1 ≤ t.denominator) t ts (lcm_parts m t.denominator (start_limited (lcm m t.denominator) ts h).0).1 (denominators_some (lcm m t.denominator) ts h)
+denominators_some m (t ∷ ts) h = All-cons (λ (t : Term). 1 ≤ t.denominator) t ts
+    (lcm_parts m t.denominator (start_limited (lcm m t.denominator) ts h).0).1 (denominators_some (lcm m t.denominator) ts h)
 
 -- one more denominator is found
 pub multiple_not_none : (m d : ℕ) → 1 ≤ d → lcm m d ≤ 2 ^ 32 → None ≡ multiple_with m d → ⊥
@@ -110,14 +112,17 @@ pub record IsMultipleSoFar (first : ℕ) (ts : List Term) (i m : ℕ) : Type 0 w
   pub same : multiple_from m (drop i ts) ≡ multiple_from first ts
   pub small : IsMultiple (multiple_from first ts)
 
-pub multiple_next : (first : ℕ) (ts : List Term) (i m : ℕ) (t : Term) → i < length ts → t ≡ get_or ts i t → IsMultipleSoFar first ts i m → (1 ≤ m) × (1 ≤ t.denominator) × (lcm m t.denominator ≤ 2 ^ 32)
+pub multiple_next : (first : ℕ) (ts : List Term) (i m : ℕ) (t : Term) → i < length ts → t ≡ get_or ts i t → IsMultipleSoFar first ts i m
+    → (1 ≤ m) × (1 ≤ t.denominator) × (lcm m t.denominator ≤ 2 ^ 32)
 multiple_next first ts i m t l e s =
-    let rest : multiple_from (lcm m t.denominator) (drop (i + 1) ts) ≡ multiple_from first ts = subst (λ xs. multiple_from m xs ≡ multiple_from first ts) (drop_item ts i t l e) s.same in
+    let rest : multiple_from (lcm m t.denominator) (drop (i + 1) ts)
+    ≡ multiple_from first ts = subst (λ xs. multiple_from m xs ≡ multiple_from first ts) (drop_item ts i t l e) s.same in
     let here = start_limited (lcm m t.denominator) (drop (i + 1) ts) (subst IsMultiple (sym rest) s.small) in
     let parts = lcm_parts m t.denominator here.0 in
     (parts.0, parts.1, here.1)
 
-pub multiple_goes_on : (first : ℕ) (ts : List Term) (i m next : ℕ) (t : Term) → i < length ts → t ≡ get_or ts i t → next ≡ lcm m t.denominator → IsMultipleSoFar first ts i m → IsMultipleSoFar first ts (i + 1) next
+pub multiple_goes_on : (first : ℕ) (ts : List Term) (i m next : ℕ) (t : Term) → i < length ts → t ≡ get_or ts i t
+    → next ≡ lcm m t.denominator → IsMultipleSoFar first ts i m → IsMultipleSoFar first ts (i + 1) next
 multiple_goes_on first ts i m next t l e h s = record {
   same = ap (λ x. multiple_from x (drop (i + 1) ts)) h ∙ subst (λ xs. multiple_from m xs ≡ multiple_from first ts) (drop_item ts i t l e) s.same;
   small = s.small;

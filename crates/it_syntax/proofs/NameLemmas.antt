@@ -39,16 +39,20 @@ differs_both_ways xs ys e = by_test (bytes_eq ys xs) refl
         let is : bytes_eq xs ys ≡ true = subst (λ (zs : List ℕ). bytes_eq zs ys ≡ true) same (subst (λ (zs : List ℕ). bytes_eq ys zs ≡ true) (sym same) h) in
         absurd cc
 
-all_insert : (p : List ℕ → Bool) (xs ys : List (List ℕ)) (name : List ℕ) → AllByRecursion (λ y. p y ≡ false) (xs ++ ys) → p name ≡ false → AllByRecursion (λ y. p y ≡ false) (xs ++ name ∷ ys)
+all_insert : (p : List ℕ → Bool) (xs ys : List (List ℕ)) (name : List ℕ) → AllByRecursion (λ y. p y ≡ false) (xs ++ ys) → p name ≡ false
+    → AllByRecursion (λ y. p y ≡ false) (xs ++ name ∷ ys)
 all_insert p [] ys name h e = (e, h)
 all_insert p (x ∷ xs) ys name h e = (h.0, all_insert p xs ys name h.1 e)
 
-all_join : (p : List ℕ → Bool) (xs ys : List (List ℕ)) → AllByRecursion (λ y. p y ≡ false) xs → AllByRecursion (λ y. p y ≡ false) ys → AllByRecursion (λ y. p y ≡ false) (xs ++ ys)
+all_join : (p : List ℕ → Bool) (xs ys : List (List ℕ)) → AllByRecursion (λ y. p y ≡ false) xs → AllByRecursion (λ y. p y ≡ false) ys
+    → AllByRecursion (λ y. p y ≡ false) (xs ++ ys)
 all_join p [] ys h k = k
 all_join p (x ∷ xs) ys h k = (h.0, all_join p xs ys h.1 k)
 
 -- one more name that is none of these
-pub distinct_insert : (xs ys : List (List ℕ)) (name : List ℕ) → IsDistinct bytes_eq (xs ++ ys) → AllByRecursion (λ y. bytes_eq name y ≡ false) xs → AllByRecursion (λ y. bytes_eq name y ≡ false) ys → IsDistinct bytes_eq (xs ++ name ∷ ys)
+pub distinct_insert : (xs ys : List (List ℕ)) (name : List ℕ) → IsDistinct bytes_eq (xs ++ ys)
+    → AllByRecursion (λ y. bytes_eq name y ≡ false) xs → AllByRecursion (λ y. bytes_eq name y ≡ false) ys
+    → IsDistinct bytes_eq (xs ++ name ∷ ys)
 unfolding IsDistinct
 distinct_insert [] ys name d h k = (k, d)
 distinct_insert (x ∷ xs) ys name d h k = (all_insert (bytes_eq x) xs ys name d.0 (differs_both_ways name x h.0), distinct_insert xs ys name d.1 h.1 k)
@@ -61,17 +65,20 @@ abbrev IsShort : List ℕ → Type 0
 IsShort name = (1 ≤ length name) × (length name ≤ 16)
 
 -- ---- one more variable, one more rate, and none
-pub with_variable : (v : NamesView) (name : List ℕ) → AreNames v → IsNew v name → 1 ≤ length name → length name ≤ 16 → length v.variables < 10 → AreNames (record { variables = v.variables ++ name ∷ []; rates = v.rates })
+pub with_variable : (v : NamesView) (name : List ℕ) → AreNames v → IsNew v name → 1 ≤ length name → length name ≤ 16
+    → length v.variables < 10 → AreNames (record { variables = v.variables ++ name ∷ []; rates = v.rates })
 with_variable v name h new some short few =
     let same : v.variables ++ name ∷ v.rates ≡ (v.variables ++ name ∷ []) ++ v.rates = sym (append_assoc v.variables (name ∷ []) v.rates) in
     record {
       few_variables = omega (arith, length-append v.variables (name ∷ []), few);
       few_rates = h.few_rates;
       short = subst (λ (names : List (List ℕ)). All IsShort names) same (short_insert IsShort v.variables v.rates name h.short (some, short));
-      distinct = subst (λ (names : List (List ℕ)). IsDistinct bytes_eq names) same (distinct_insert v.variables v.rates name h.distinct (nowhere_all name v.variables new.0) (nowhere_all name v.rates new.1));
+      distinct = subst (λ (names : List (List ℕ)). IsDistinct bytes_eq names) same
+          (distinct_insert v.variables v.rates name h.distinct (nowhere_all name v.variables new.0) (nowhere_all name v.rates new.1));
     }
 
-pub with_rate : (v : NamesView) (name : List ℕ) → AreNames v → IsNew v name → 1 ≤ length name → length name ≤ 16 → length v.rates < 16 → AreNames (record { variables = v.variables; rates = v.rates ++ name ∷ [] })
+pub with_rate : (v : NamesView) (name : List ℕ) → AreNames v → IsNew v name → 1 ≤ length name → length name ≤ 16 → length v.rates < 16
+    → AreNames (record { variables = v.variables; rates = v.rates ++ name ∷ [] })
 with_rate v name h new some short few =
     let same : (v.variables ++ v.rates) ++ name ∷ [] ≡ v.variables ++ (v.rates ++ name ∷ []) = append_assoc v.variables v.rates (name ∷ []) in
     let all : List (List ℕ) = v.variables ++ v.rates in
@@ -79,8 +86,11 @@ with_rate v name h new some short few =
     record {
       few_variables = h.few_variables;
       few_rates = omega (arith, length-append v.rates (name ∷ []), few);
-      short = subst (λ (names : List (List ℕ)). All IsShort names) same (short_insert IsShort all [] name (subst (λ (names : List (List ℕ)). All IsShort names) (sym whole) h.short) (some, short));
-      distinct = subst (λ (names : List (List ℕ)). IsDistinct bytes_eq names) same (distinct_insert all [] name (subst (λ (names : List (List ℕ)). IsDistinct bytes_eq names) (sym whole) h.distinct) (all_join (bytes_eq name) v.variables v.rates (nowhere_all name v.variables new.0) (nowhere_all name v.rates new.1)) tt);
+      short = subst (λ (names : List (List ℕ)). All IsShort names) same (short_insert IsShort all [] name
+          (subst (λ (names : List (List ℕ)). All IsShort names) (sym whole) h.short) (some, short));
+      distinct = subst (λ (names : List (List ℕ)). IsDistinct bytes_eq names) same
+          (distinct_insert all [] name (subst (λ (names : List (List ℕ)). IsDistinct bytes_eq names) (sym whole) h.distinct)
+          (all_join (bytes_eq name) v.variables v.rates (nowhere_all name v.variables new.0) (nowhere_all name v.rates new.1)) tt);
     }
 
 pub no_names : AreNames (record { variables = []; rates = [] })
@@ -94,14 +104,17 @@ prefix_map p (v ∷ vs) = ap (λ (n : ℕ). cond (not (p v.items)) (1 + n) 0) (p
 -- where a name stands among vectors
 pub position_map : (p : List ℕ → Bool) (vs : List (Vec ℕ Global)) → position p (map (λ v. v.items) vs) ≡ position (λ v. p v.items) vs
 position_map p vs =
-    ap (λ (n : ℕ). place n (length (map (λ (v : Vec ℕ Global). v.items) vs))) (prefix_map p vs) ∙ ap (λ (n : ℕ). place (position_or_len (λ (v : Vec ℕ Global). p v.items) vs) n) (length-map vs (λ (v : Vec ℕ Global). v.items))
+    ap (λ (n : ℕ). place n (length (map (λ (v : Vec ℕ Global). v.items) vs))) (prefix_map p vs)
+    ∙ ap (λ (n : ℕ). place (position_or_len (λ (v : Vec ℕ Global). p v.items) vs) n) (length-map vs (λ (v : Vec ℕ Global). v.items))
 
-none_any : (name : List ℕ) (vs : List (Vec ℕ Global)) → AllByRecursion (λ y. bytes_eq name y ≡ false) (map (λ v. v.items) vs) → list_any (λ v. bytes_eq name v.items) vs ≡ false
+none_any : (name : List ℕ) (vs : List (Vec ℕ Global)) → AllByRecursion (λ y. bytes_eq name y ≡ false) (map (λ v. v.items) vs)
+    → list_any (λ v. bytes_eq name v.items) vs ≡ false
 none_any name [] h = refl
 none_any name (v ∷ vs) h = rw h.0 (none_any name vs h.1)
 
 -- a new name goes last
-pub insert_new : (vs : List (Vec ℕ Global)) (v : Vec ℕ Global) → index_of (map (λ w. w.items) vs) v.items ≡ None → insert_key (λ x y. bytes_eq x.items y.items) vs v ≡ vs ++ v ∷ []
+pub insert_new : (vs : List (Vec ℕ Global)) (v : Vec ℕ Global) → index_of (map (λ w. w.items) vs) v.items ≡ None
+    → insert_key (λ x y. bytes_eq x.items y.items) vs v ≡ vs ++ v ∷ []
 insert_new vs v none = rw (none_any v.items vs (nowhere_all v.items (map (λ (w : Vec ℕ Global). w.items) vs) none)) refl
 
 -- ---- copies
@@ -113,7 +126,8 @@ copied_items (x ∷ xs) [] h = absurd h
 copied_items (x ∷ xs) (y ∷ ys) h = let tails = copied_items xs ys h.1 in rw (h.0, tails) refl
 
 -- copied vectors have the same items
-pub copied_vectors : (vs ws : List (Vec ℕ Global)) → AllZip (λ v w. AllZip (λ x y. y ≡ x) v.items w.items × (vec_len w ≡ vec_len v)) vs ws → map (λ v. v.items) ws ≡ map (λ v. v.items) vs
+pub copied_vectors : (vs ws : List (Vec ℕ Global)) → AllZip (λ v w. AllZip (λ x y. y ≡ x) v.items w.items × (vec_len w ≡ vec_len v)) vs ws
+    → map (λ v. v.items) ws ≡ map (λ v. v.items) vs
 copied_vectors [] [] h = refl
 copied_vectors [] (w ∷ ws) h = absurd h
 copied_vectors (v ∷ vs) [] h = absurd h

@@ -15,7 +15,8 @@ use Rattle.it_syntax.specs.LineForms.{variable, names}
 use Rattle.it_syntax.specs.Scopes.{Environment}
 
 -- where no more is allowed, what begins with a terminal stops at it
-many_at : {A B : Type 0} (t : Terminal A) (g : A → Form B) (ls rest : List Letter) (a : A) → read (Take t) ls ≡ Ok (a, rest) → read (allowed 0 (Then (Take t) g)) ls ≡ Err (Many, ls)
+many_at : {A B : Type 0} (t : Terminal A) (g : A → Form B) (ls rest : List Letter) (a : A) → read (Take t) ls ≡ Ok (a, rest)
+    → read (allowed 0 (Then (Take t) g)) ls ≡ Err (Many, ls)
 unfolding read flagged
 many_at t g [] rest a e = absurd cc
 many_at {A} t g (l ∷ ls) rest a e = by_test (is_among t.kinds l) (t.says l) e
@@ -32,7 +33,8 @@ fault_of x = Err x
 same_fault : {A : Type 0} (x y : Fault) → fault_of {A = A} x ≡ fault_of {A = A} y → x.0 ≡ y.0
 same_fault x y e = let h : x ≡ y = cc in ap (λ (q : Fault). q.0) h
 
-fault_at : {A B : Type 0} (t : Terminal A) (g : A → Form B) (ls rest : List Letter) (c : Code) → read (Take t) ls ≡ Err (c, rest) → read (allowed 0 (Then (Take t) g)) ls ≡ Err (c, ls)
+fault_at : {A B : Type 0} (t : Terminal A) (g : A → Form B) (ls rest : List Letter) (c : Code) → read (Take t) ls ≡ Err (c, rest)
+    → read (allowed 0 (Then (Take t) g)) ls ≡ Err (c, ls)
 unfolding read flagged
 fault_at t g [] rest c e = ap (λ (d : Code). Err (d, [])) (same_fault (_, []) (c, rest) e)
 fault_at {A} t g (l ∷ ls) rest c e = by_test (is_among t.kinds l) (t.says l) e
@@ -43,11 +45,13 @@ fault_at {A} t g (l ∷ ls) rest c e = by_test (is_among t.kinds l) (t.says l) e
     by_test true (Some d, a) e = ap (λ (d : Code). Err (d, l ∷ ls)) (same_fault (d, l ∷ ls) (c, rest) e)
     by_test false p e = ap (λ (d : Code). Err (d, l ∷ ls)) (same_fault (_, l ∷ ls) (c, rest) e)
 
-pub surplus_many : (env : Environment) (ls rest : List Letter) (i : ℕ) → read (variable env) ls ≡ Ok (i, rest) → read (allowed 0 (names env)) ls ≡ Err (Many, ls)
+pub surplus_many : (env : Environment) (ls rest : List Letter) (i : ℕ) → read (variable env) ls ≡ Ok (i, rest)
+    → read (allowed 0 (names env)) ls ≡ Err (Many, ls)
 unfolding names variable
 surplus_many env ls rest i e = many_at _ _ ls rest i e
 
-pub surplus_stops : (env : Environment) (ls rest : List Letter) (stop : Stop) → StopsAs stop rest (read (variable env) ls) → StopsAs stop ls (read (allowed 0 (names env)) ls)
+pub surplus_stops : (env : Environment) (ls rest : List Letter) (stop : Stop) → StopsAs stop rest (read (variable env) ls)
+    → StopsAs stop ls (read (allowed 0 (names env)) ls)
 unfolding names variable
 surplus_stops env ls rest stops.Memory e = tt
 surplus_stops env ls rest (stops.Fault c) e = fault_at _ _ ls rest c e

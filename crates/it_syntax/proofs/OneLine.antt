@@ -46,11 +46,19 @@ over_or_has_no_end m s minus n f h = (refl, λ u. (refl, λ d. (atom_has_no_end 
 
 term_has_no_end : (m : ℕ) (s : Scope) (minus : Bool) → HasNoEnd (term m s minus)
 unfolding term HasNoEnd
-term_has_no_end m s minus = (refl, λ u. over_or_has_no_end m s minus 0 (atom_or_nothing s) (atom_or_nothing_has_no_end s), (refl, λ n. over_or_has_no_end m s minus n (atom s) (atom_has_no_end s), (atom_has_no_end s, λ a. tt)))
+term_has_no_end m s minus = (
+  refl,
+  λ u. over_or_has_no_end m s minus 0 (atom_or_nothing s) (atom_or_nothing_has_no_end s),
+  (refl, λ n. over_or_has_no_end m s minus n (atom s) (atom_has_no_end s), (atom_has_no_end s, λ a. tt)),
+)
 
 terms_has_no_end : (most m : ℕ) (s : Scope) (minus : Bool) → HasNoEnd (terms most m s minus)
 unfolding terms more_terms HasNoEnd
-terms_has_no_end most m s minus = (no_end_flagged _ (term m s minus) (term_has_no_end m s minus), λ t. (refl, λ ts minus. (no_end_flagged _ (term _ s minus) (term_has_no_end _ s minus), λ t. tt)))
+terms_has_no_end most m s minus = (
+  no_end_flagged _ (term m s minus) (term_has_no_end m s minus),
+  λ t.
+      (refl, λ ts minus. (no_end_flagged _ (term _ s minus) (term_has_no_end _ s minus), λ t. tt)),
+)
 
 pub sum_has_no_end : (most m : ℕ) (s : Scope) → HasNoEnd (sum most m s)
 unfolding sum HasNoEnd
@@ -74,7 +82,8 @@ after_bar_has_no_end env = (refl, λ u. names_has_no_end env, tt)
 
 independence_has_no_end : (env : Environment) → HasNoEnd (independence env)
 unfolding independence HasNoEnd
-independence_has_no_end env = let n = names_has_no_end env in (n, λ a. (refl, λ u. (n, λ b. (members_has_no_end _ env _, λ sets. (after_bar_has_no_end env, λ given. tt)))))
+independence_has_no_end env = let n = names_has_no_end env
+    in (n, λ a. (refl, λ u. (n, λ b. (members_has_no_end _ env _, λ sets. (after_bar_has_no_end env, λ given. tt)))))
 
 function_has_no_end : (env : Environment) → HasNoEnd (function env)
 unfolding function HasNoEnd
@@ -82,4 +91,12 @@ function_has_no_end env = (names_has_no_end env, λ value. (refl, λ u. (names_h
 
 pub given_has_no_end : (s : Scope) → HasNoEnd (given s)
 unfolding given HasNoEnd
-given_has_no_end s = (refl, λ u. chain_has_no_end s.variables, (refl, λ u. independence_has_no_end s.variables, (refl, λ u. function_has_no_end s.variables, (no_end_but _ (relation s) (relation_has_no_end s), λ r. tt))))
+given_has_no_end s = (
+  refl,
+  λ u. chain_has_no_end s.variables,
+  (
+    refl,
+    λ u. independence_has_no_end s.variables,
+    (refl, λ u. function_has_no_end s.variables, (no_end_but _ (relation s) (relation_has_no_end s), λ r. tt)),
+  ),
+)

@@ -25,13 +25,15 @@ stops_end f (x ∷ xs) = stops_end f xs
 pub ruleset run_lemmas = (all_more, stops_at, stops_end)
 
 -- one digit more
-pub value_step : (n : ℕ) (ds : List ℕ) (i : ℕ) → i < length ds → is_ascii_digit (get_or ds i 0) ≡ true → value_from n (drop i ds) ≡ value_from (10 * n + (get_or ds i 0 - 48)) (drop (suc i) ds)
+pub value_step : (n : ℕ) (ds : List ℕ) (i : ℕ) → i < length ds → is_ascii_digit (get_or ds i 0) ≡ true
+    → value_from n (drop i ds) ≡ value_from (10 * n + (get_or ds i 0 - 48)) (drop (suc i) ds)
 value_step n [] i lt is = absurd (omega arith)
 value_step n (d ∷ ds) zero lt is = rw is refl
 value_step n (d ∷ ds) (suc i) lt is = value_step n ds i (omega arith) is
 
 -- the next digit is one, and so are those after it
-pub digit_step : (ds : List ℕ) (i : ℕ) → i < length ds → AreAll is_ascii_digit (drop i ds) → (is_ascii_digit (get_or ds i 0) ≡ true) × (48 ≤ get_or ds i 0) × (get_or ds i 0 ≤ 57) × AreAll is_ascii_digit (drop (suc i) ds)
+pub digit_step : (ds : List ℕ) (i : ℕ) → i < length ds → AreAll is_ascii_digit (drop i ds)
+    → (is_ascii_digit (get_or ds i 0) ≡ true) × (48 ≤ get_or ds i 0) × (get_or ds i 0 ≤ 57) × AreAll is_ascii_digit (drop (suc i) ds)
 digit_step [] i lt h = absurd (omega arith)
 digit_step (d ∷ ds) zero lt h = let e = h.0 in (e, digit_low d e, digit_high d e, h.1)
   where
@@ -57,7 +59,8 @@ pub value_digits : (n : ℕ) (ds : List ℕ) (v : ℕ) → value_from n ds ≡ S
 value_digits n [] v e = tt
 value_digits n (d ∷ ds) v e = by_test (is_ascii_digit d) refl e (value_digits (10 * n + (d - 48)) ds v)
   where
-    by_test : (b : Bool) → is_ascii_digit d ≡ b → cond b (value_from (10 * n + (d - 48)) ds) None ≡ Some v → (value_from (10 * n + (d - 48)) ds ≡ Some v → AreAll is_ascii_digit ds) → AreAll is_ascii_digit (d ∷ ds)
+    by_test : (b : Bool) → is_ascii_digit d ≡ b → cond b (value_from (10 * n + (d - 48)) ds) None ≡ Some v
+        → (value_from (10 * n + (d - 48)) ds ≡ Some v → AreAll is_ascii_digit ds) → AreAll is_ascii_digit (d ∷ ds)
     by_test true is h more = (is, more h)
     by_test false is h more = absurd cc
 

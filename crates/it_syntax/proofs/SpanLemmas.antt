@@ -29,7 +29,8 @@ abbrev pub no_token : Token
 no_token = record { kind = kinds.Word; start = 0; end = 0 }
 
 -- each token takes bytes of its line
-pub in_line_at : (line : List ℕ) (ts : List Token) (i : ℕ) (d : Token) → i < length ts → InLine line ts → ((get_or ts i d).start ≤ (get_or ts i d).end) × ((get_or ts i d).end ≤ length line)
+pub in_line_at : (line : List ℕ) (ts : List Token) (i : ℕ) (d : Token) → i < length ts → InLine line ts
+    → ((get_or ts i d).start ≤ (get_or ts i d).end) × ((get_or ts i d).end ≤ length line)
 in_line_at line [] i d lt h = absurd (omega (arith, lt))
 in_line_at line (t ∷ ts) zero d lt h = h.0
 in_line_at line (t ∷ ts) (suc i) d lt h = in_line_at line ts i d (omega (arith, lt)) h.2

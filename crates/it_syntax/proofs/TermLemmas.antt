@@ -9,7 +9,8 @@ use Rattle.it_syntax.specs.Scopes.{Scope, env_of, scope_of}
 use Rattle.it_forms.proofs.ButLemmas.{none_stands, read_but}
 use Rattle.it_syntax.proofs.Loops.{taken_after, other_after}
 
-pub read_at_number : (m : ℕ) (s : Scope) (minus : Bool) (n : ℕ) (ls : List Letter) → read (term m s minus) (Number n ∷ ls) ≡ read (over_or m s minus n (counted_by n s)) ls
+pub read_at_number : (m : ℕ) (s : Scope) (minus : Bool) (n : ℕ) (ls : List Letter)
+    → read (term m s minus) (Number n ∷ ls) ≡ read (over_or m s minus n (counted_by n s)) ls
 unfolding read term
 read_at_number m s minus zero ls = refl
 read_at_number m s minus (suc n) ls = refl

@@ -29,7 +29,9 @@ run_once f [] n m r s = omega (arith, r.within, s.within)
 run_once f (b ∷ bs) zero zero r s = refl
 run_once f (b ∷ bs) zero (suc m) r s = let x = r.stops in let y = s.all.0 in absurd cc
 run_once f (b ∷ bs) (suc n) zero r s = let x = s.stops in let y = r.all.0 in absurd cc
-run_once f (b ∷ bs) (suc n) (suc m) r s = ap suc (run_once f bs n m (record { within = omega (arith, r.within); all = r.all.1; stops = r.stops }) (record { within = omega (arith, s.within); all = s.all.1; stops = s.stops }))
+run_once f (b ∷ bs) (suc n) (suc m) r s = ap suc (run_once f bs n m
+    (record { within = omega (arith, r.within); all = r.all.1; stops = r.stops })
+    (record { within = omega (arith, s.within); all = s.all.1; stops = s.stops }))
 
 pub blank_run : (f : ℕ → Bool) (xs : List ℕ) → AreAll f xs → IsLongestRun f xs (length xs)
 blank_run f [] h = record { within = omega arith; all = tt; stops = tt }
@@ -89,7 +91,8 @@ cond_either : {A : Type 0} (b : Bool) (x y z : A) → cond b x y ≡ z → ((b �
 cond_either true x y z e = inl (refl, e)
 cond_either false x y z e = inr (refl, e)
 
-find_is : (ss : List Symbol) (bytes : List ℕ) (s : Symbol) → find (λ s. starts_with ◌==◌ bytes (symbol_text s)) ss ≡ Some s → starts_with ◌==◌ bytes (symbol_text s) ≡ true
+find_is : (ss : List Symbol) (bytes : List ℕ) (s : Symbol) → find (λ s. starts_with ◌==◌ bytes (symbol_text s)) ss ≡ Some s
+    → starts_with ◌==◌ bytes (symbol_text s) ≡ true
 find_is [] bytes s e = absurd cc
 find_is (x ∷ ss) bytes s e =
     elim (cond_either (starts_with ◌==◌ bytes (symbol_text x)) (Some x) (find (λ s. starts_with ◌==◌ bytes (symbol_text s)) ss) (Some s) e) [
@@ -125,7 +128,9 @@ minus_ends (c ∷ rest) e = by_test (62 == c) rest e
 
 symbol_is : (s : Symbol) (body : List ℕ) → symbol_of body ≡ Some s → body ≡ symbol_text s ++ drop (length (symbol_text s)) body
 unfolding symbol_of
-symbol_is s body e = (starts_is Decides-eqb body (symbol_text s) true (sym (find_is (Arrow ∷ AtLeast ∷ AtMost ∷ Assign ∷ LeftParen ∷ RightParen ∷ Comma ∷ Semicolon ∷ Bar ∷ Plus ∷ Minus ∷ Equal ∷ Slash ∷ []) body s e))).0 refl
+symbol_is s body e = (starts_is Decides-eqb body (symbol_text s) true (sym
+    (find_is (Arrow ∷ AtLeast ∷ AtMost ∷ Assign ∷ LeftParen ∷ RightParen ∷ Comma ∷ Semicolon ∷ Bar ∷ Plus ∷ Minus ∷ Equal ∷ Slash ∷ []) body
+    s e))).0 refl
 
 symbol_ends : (s : Symbol) (rest : List ℕ) → symbol_of (symbol_text s ++ rest) ≡ Some s → EndsToken (kinds.Symbol s) rest
 symbol_ends Minus rest e = minus_ends rest e
@@ -151,10 +156,17 @@ starts_prefix f (b ∷ text) rest h = h
 -- a token and what ends it have a shape
 pub shape_of : (k : TokenKind) (text rest : List ℕ) → IsText k text → EndsToken k rest → IsTokenPrefix k (length text) (text ++ rest)
 shape_of kinds.Word text rest t e = (starts_prefix is_ascii_alphabetic text rest t.0, run_of_text is_word_byte text rest t.1 e, t.2)
-shape_of (kinds.Number v) text rest t e = (starts_prefix is_ascii_digit text rest t.0, run_of_text is_ascii_digit text rest (value_digits 0 text v t.1) e, rw (take_at text rest (length text) refl) t.1, t.2)
+shape_of (kinds.Number v) text rest t e = (
+  starts_prefix is_ascii_digit text rest t.0,
+  run_of_text is_ascii_digit text rest
+      (value_digits 0 text v t.1) e,
+  rw (take_at text rest (length text) refl) t.1,
+  t.2,
+)
 shape_of (kinds.Symbol s) text rest t e = (subst (λ (u : List ℕ). symbol_of (u ++ rest) ≡ Some s) (sym t) (symbol_spelled s rest e), ap length t)
 
-starts_take : (f g : ℕ → Bool) (body : List ℕ) (n : ℕ) → StartsWith f body → IsLongestRun g body n → ((b : ℕ) → f b ≡ true → g b ≡ true) → StartsWith f (take n body)
+starts_take : (f g : ℕ → Bool) (body : List ℕ) (n : ℕ) → StartsWith f body → IsLongestRun g body n → ((b : ℕ) → f b ≡ true → g b ≡ true)
+    → StartsWith f (take n body)
 starts_take f g [] n h r i = elim h [ ]
 starts_take f g (b ∷ body) zero h r i = let x = i b h in let y = r.stops in absurd cc
 starts_take f g (b ∷ body) (suc n) h r i = h
@@ -165,16 +177,31 @@ letter_wordly b h = rw h refl
 
 -- and back
 pub shape_text : (k : TokenKind) (n : ℕ) (body : List ℕ) → IsTokenPrefix k n body → IsText k (take n body) × (EndsToken k (drop n body) × (n ≤ length body))
-shape_text kinds.Word n body h = ((starts_take is_ascii_alphabetic is_word_byte body n h.0 h.1 letter_wordly, h.1.all, omega (arith, length-take n body, h.2)), (h.1.stops, h.1.within))
+shape_text kinds.Word n body h = (
+  (
+    starts_take is_ascii_alphabetic is_word_byte body n h.0 h.1 letter_wordly,
+    h.1.all,
+    omega (arith, length-take n body, h.2),
+  ),
+  (h.1.stops, h.1.within),
+)
 shape_text (kinds.Number v) n body h = ((starts_take is_ascii_digit is_ascii_digit body n h.0 h.1 (λ b e. e), h.2, h.3), (h.1.stops, h.1.within))
 shape_text (kinds.Symbol s) n body h =
     let is : body ≡ symbol_text s ++ drop (length (symbol_text s)) body = symbol_is s body h.0 in
     let there : symbol_of (symbol_text s ++ drop (length (symbol_text s)) body) ≡ Some s = ap symbol_of (sym is) ∙ h.0 in
-    let taken : take (length (symbol_text s)) body ≡ symbol_text s = ap (take (length (symbol_text s))) is ∙ take_at (symbol_text s) _ (length (symbol_text s)) refl in
-    (ap (λ (m : ℕ). take m body) h.1 ∙ taken, (subst (λ (m : ℕ). EndsToken (kinds.Symbol s) (drop m body)) (sym h.1) (symbol_ends s _ there), omega (arith, h.1, ap length is, length-append (symbol_text s) (drop (length (symbol_text s)) body))))
+    let taken : take (length (symbol_text s)) body ≡ symbol_text s = ap (take (length (symbol_text s))) is
+    ∙ take_at (symbol_text s) _ (length (symbol_text s)) refl in (
+      ap (λ (m : ℕ). take m body) h.1 ∙ taken,
+      (
+        subst (λ (m : ℕ). EndsToken (kinds.Symbol s) (drop m body)) (sym h.1)
+            (symbol_ends s _ there),
+        omega (arith, h.1, ap length is, length-append (symbol_text s) (drop (length (symbol_text s)) body)),
+      ),
+    )
 
 -- the kind and the length are those of one token
-first_letter : (f : ℕ → Bool) (s : Symbol) (body : List ℕ) → symbol_of body ≡ Some s → StartsWith f body → StartsWith f (symbol_text s ++ drop (length (symbol_text s)) body)
+first_letter : (f : ℕ → Bool) (s : Symbol) (body : List ℕ) → symbol_of body ≡ Some s → StartsWith f body
+    → StartsWith f (symbol_text s ++ drop (length (symbol_text s)) body)
 first_letter f s body e h = subst (StartsWith f) (symbol_is s body e) h
 
 pub both_starts : (body : List ℕ) → StartsWith is_ascii_alphabetic body → StartsWith is_ascii_digit body → ⊥
@@ -236,20 +263,23 @@ pub record Found (at g : ℕ) (body : List ℕ) (t : Token) (rest : List ℕ) : 
 -- a cut is found after the spaces
 pub found_of : (at g : ℕ) (bytes : List ℕ) (t : Token) (rest : List ℕ) → IsLongestRun is_space bytes g → Cut at bytes t rest → Found at g (drop g bytes) t rest
 found_of at g bytes t rest r c =
-    let gap_run : IsLongestRun is_space bytes (length c.gap) = subst (λ (b : List ℕ). IsLongestRun is_space b (length c.gap)) (sym c.whole) (run_of_text is_space c.gap (c.text ++ rest) c.blank (text_stops t.kind c.text rest c.spelled)) in
+    let gap_run : IsLongestRun is_space bytes (length c.gap) = subst (λ (b : List ℕ). IsLongestRun is_space b (length c.gap)) (sym c.whole)
+    (run_of_text is_space c.gap (c.text ++ rest) c.blank (text_stops t.kind c.text rest c.spelled)) in
     let gap_is : length c.gap ≡ g = run_once is_space bytes (length c.gap) g gap_run r in
     let body_is : drop g bytes ≡ c.text ++ rest = ap (λ (b : List ℕ). drop g b) c.whole ∙ drop_at c.gap (c.text ++ rest) g gap_is in
     let n_is : t.end - t.start ≡ length c.text = omega (arith, c.end) in
     let s : IsTokenPrefix t.kind (length c.text) (c.text ++ rest) = shape_of t.kind c.text rest c.spelled c.ends in
     record {
-      shape = subst (λ (b : List ℕ). IsTokenPrefix t.kind (t.end - t.start) b) (sym body_is) (subst (λ (n : ℕ). IsTokenPrefix t.kind n (c.text ++ rest)) (sym n_is) s);
+      shape = subst (λ (b : List ℕ). IsTokenPrefix t.kind (t.end - t.start) b) (sym body_is)
+          (subst (λ (n : ℕ). IsTokenPrefix t.kind n (c.text ++ rest)) (sym n_is) s);
       start = c.start ∙ ap (λ (n : ℕ). at + n) gap_is;
       end = omega (arith, c.end);
       rest_is = sym (ap (λ (b : List ℕ). drop (t.end - t.start) b) body_is ∙ drop_at c.text rest (t.end - t.start) (sym n_is));
     }
 
 -- a shape after the spaces is a cut
-pub cut_made : (at g n : ℕ) (bytes : List ℕ) (t : Token) → IsLongestRun is_space bytes g → IsTokenPrefix t.kind n (drop g bytes) → t.start ≡ at + g → t.end ≡ t.start + n → Cut at bytes t (drop n (drop g bytes))
+pub cut_made : (at g n : ℕ) (bytes : List ℕ) (t : Token) → IsLongestRun is_space bytes g → IsTokenPrefix t.kind n (drop g bytes)
+    → t.start ≡ at + g → t.end ≡ t.start + n → Cut at bytes t (drop n (drop g bytes))
 cut_made at g n bytes t r s start end =
     let x = shape_text t.kind n (drop g bytes) s in
     record {
@@ -268,10 +298,12 @@ token_at k s e = record { kind = k; start = s; end = e }
 
 same_token : (t u : Token) → t.kind ≡ u.kind → t.start ≡ u.start → t.end ≡ u.end → t ≡ u
 unfolding token_at
-same_token t u p q r = ap (λ (k : TokenKind). token_at k t.start t.end) p ∙ ap (λ (n : ℕ). token_at u.kind n t.end) q ∙ ap (λ (n : ℕ). token_at u.kind u.start n) r
+same_token t u p q r = ap (λ (k : TokenKind). token_at k t.start t.end) p ∙ ap (λ (n : ℕ). token_at u.kind n t.end) q
+    ∙ ap (λ (n : ℕ). token_at u.kind u.start n) r
 
 -- a cut is one
-pub one_cut : (at : ℕ) (bytes : List ℕ) (g : ℕ) (t u : Token) (r s : List ℕ) → IsLongestRun is_space bytes g → Cut at bytes t r → Cut at bytes u s → (t ≡ u) × (r ≡ s)
+pub one_cut : (at : ℕ) (bytes : List ℕ) (g : ℕ) (t u : Token) (r s : List ℕ) → IsLongestRun is_space bytes g → Cut at bytes t r
+    → Cut at bytes u s → (t ≡ u) × (r ≡ s)
 one_cut at bytes g t u r s run c d =
     let f = found_of at g bytes t r run c in
     let h = found_of at g bytes u s run d in
@@ -313,16 +345,24 @@ pub blank_none : (at g : ℕ) (rest : List ℕ) (t : Token) (r : List ℕ) → I
 blank_none at g rest t r run c h =
     let f = found_of at g rest t r run c in
     let e = run_once is_space rest g (length rest) run (blank_run is_space rest h) in
-    omega (arith, length-drop g rest, e, shape_some t.kind (t.end - t.start) (drop g rest) f.shape, (shape_text t.kind (t.end - t.start) (drop g rest) f.shape).1.1)
+    omega (
+      arith,
+      length-drop g rest,
+      e,
+      shape_some t.kind (t.end - t.start) (drop g rest) f.shape,
+      (shape_text t.kind (t.end - t.start) (drop g rest) f.shape).1.1,
+    )
 
 -- a word past the limit in front, and yet no token
-pub word_long : (n : ℕ) (body : List ℕ) → StartsWith is_ascii_alphabetic body → IsLongestRun is_word_byte body n → 16 < n → (k : TokenKind) (m : ℕ) → IsTokenPrefix k m body → ⊥
+pub word_long : (n : ℕ) (body : List ℕ) → StartsWith is_ascii_alphabetic body → IsLongestRun is_word_byte body n → 16 < n
+    → (k : TokenKind) (m : ℕ) → IsTokenPrefix k m body → ⊥
 word_long n body h r lt kinds.Word m s = omega (arith, run_once is_word_byte body n m r s.1, s.2)
 word_long n body h r lt (kinds.Number v) m s = both_starts body h s.0
 word_long n body h r lt (kinds.Symbol x) m s = no_letter x _ (first_letter is_ascii_alphabetic x body s.0 h)
 
 -- a number past the limit in front, and yet no token
-pub number_large : (n : ℕ) (body : List ℕ) → StartsWith is_ascii_digit body → IsLongestRun is_ascii_digit body n → IsSomeAnd (value_from 0 (take n body)) (λ v. 2 ^ 64 ≤ v) → (k : TokenKind) (m : ℕ) → IsTokenPrefix k m body → ⊥
+pub number_large : (n : ℕ) (body : List ℕ) → StartsWith is_ascii_digit body → IsLongestRun is_ascii_digit body n
+    → IsSomeAnd (value_from 0 (take n body)) (λ v. 2 ^ 64 ≤ v) → (k : TokenKind) (m : ℕ) → IsTokenPrefix k m body → ⊥
 number_large n body h r le kinds.Word m s = both_starts body s.0 h
 number_large n body h r le (kinds.Number v) m s =
     let same : value_from 0 (take n body) ≡ Some v = ap (λ (i : ℕ). value_from 0 (take i body)) (run_once is_ascii_digit body n m r s.1) ∙ s.2 in
@@ -337,4 +377,5 @@ empty_len n e = (Decides-eqb n 0).0 (sym e)
 -- ---- the spaces in front
 
 pub gap_run : (at : ℕ) (bytes : List ℕ) (t : Token) (rest : List ℕ) (c : Cut at bytes t rest) → IsLongestRun is_space bytes (length c.gap)
-gap_run at bytes t rest c = subst (λ (b : List ℕ). IsLongestRun is_space b (length c.gap)) (sym c.whole) (run_of_text is_space c.gap (c.text ++ rest) c.blank (text_stops t.kind c.text rest c.spelled))
+gap_run at bytes t rest c = subst (λ (b : List ℕ). IsLongestRun is_space b (length c.gap)) (sym c.whole)
+    (run_of_text is_space c.gap (c.text ++ rest) c.blank (text_stops t.kind c.text rest c.spelled))

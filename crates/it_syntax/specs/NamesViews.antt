@@ -1,6 +1,7 @@
 -- The names of a question's variables and rates, each kind in order of declaration.
 use Rattle.std.specs.Prelude.{◌≡◌, ℕ, ◌≤◌, List, ◌++◌, length, Option, None, All, bytes_eq}
 use Rattle.std.specs.List.{position, IsDistinct}
+use Rattle.it_space.specs.Spaces.{most_variables, most_rates}
 
 -- the names of a question's variables, and of its rates
 pub record NamesView : Type 0 where
@@ -9,8 +10,8 @@ pub record NamesView : Type 0 where
 
 -- at most ten variables and sixteen rates, whose names differ and have 1 to 16 bytes
 pub record AreNames (v : NamesView) : Type 0 where
-  pub few_variables : length v.variables ≤ 10
-  pub few_rates : length v.rates ≤ 16
+  pub few_variables : length v.variables ≤ most_variables
+  pub few_rates : length v.rates ≤ most_rates
   pub short : All (λ name. (1 ≤ length name) × (length name ≤ 16)) (v.variables ++ v.rates)
   pub distinct : IsDistinct bytes_eq (v.variables ++ v.rates)
 

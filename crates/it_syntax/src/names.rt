@@ -1,6 +1,7 @@
 //! The names of variables and rates.
 ghost use Rattle.std.specs.Prelude.{◌≡◌, ◌<◌, ◌≤◌, ◌++◌, [], ◌∷◌, length, Some, slice_get, OnOk, OnErr, IfOk, IfSome, map};
 ghost use Rattle.it_syntax.specs.NamesViews.{index_of, IsNew, AreNames};
+ghost use Rattle.it_space.specs.Spaces.{most_variables, most_rates};
 
 use indexmap::IndexSet;
 use it_space::Space;
@@ -65,7 +66,7 @@ impl Names {
         requires new { IsNew self.old name.now }
         requires some { 1 ≤ length name.now }
         requires short { length name.now ≤ 16 }
-        requires few { length self.old.variables < 10 }
+        requires few { length self.old.variables < most_variables }
         ensures added { OnOk result (self.new ≡ record { variables = self.old.variables ++ name.now ∷ []; rates = self.old.rates }) }
         ensures unchanged { OnErr result (self.new ≡ self.old) }
     {
@@ -79,7 +80,7 @@ impl Names {
         requires new { IsNew self.old name.now }
         requires some { 1 ≤ length name.now }
         requires short { length name.now ≤ 16 }
-        requires few { length self.old.rates < 16 }
+        requires few { length self.old.rates < most_rates }
         ensures added { OnOk result (self.new ≡ record { variables = self.old.variables; rates = self.old.rates ++ name.now ∷ [] }) }
         ensures unchanged { OnErr result (self.new ≡ self.old) }
     {

@@ -18,7 +18,8 @@ pub nothing_is_built : (f : ℕ → Rational) (F : ℕ → Type 0) → IsBuilt f
 nothing_is_built f F = record { entries = λ k l. absurd (omega arith); climbs = omega arith; fits = λ k l. absurd (omega arith) }
 
 -- columns without a number
-pub built_skip : (f : ℕ → Rational) (F : ℕ → Type 0) (next c : ℕ) (out : RowTerms) → next ≤ c → ((k : ℕ) → next ≤ k → k < c → F k × (f k ≡ integer (pos 0))) → IsBuilt f F next out → IsBuilt f F c out
+pub built_skip : (f : ℕ → Rational) (F : ℕ → Type 0) (next c : ℕ) (out : RowTerms) → next ≤ c
+    → ((k : ℕ) → next ≤ k → k < c → F k × (f k ≡ integer (pos 0))) → IsBuilt f F next out → IsBuilt f F c out
 built_skip f F next c out h none m = record {
   entries = λ k l. entry k l (cases_lt k next);
   climbs = climbs_weaker 0 next c out h m.climbs;
@@ -34,7 +35,8 @@ built_skip f F next c out h none m = record {
     column_fits k l (inr a) = (none k a l).0
 
 -- the next column, whose number is appended unless it is 0
-pub built_more : (f : ℕ → Rational) (F : ℕ → Type 0) (c : ℕ) (out new : RowTerms) (v : Rational) → IsAppended out c v new → v ≡ f c → F c → IsBuilt f F c out → IsBuilt f F (c + 1) new
+pub built_more : (f : ℕ → Rational) (F : ℕ → Type 0) (c : ℕ) (out new : RowTerms) (v : Rational) → IsAppended out c v new → v ≡ f c → F c
+    → IsBuilt f F c out → IsBuilt f F (c + 1) new
 built_more f F c out new v a e here m = record {
   entries = λ k l. entry a k l (cases_eq k c);
   climbs = new_climbs a;
@@ -44,8 +46,10 @@ built_more f F c out new v a e here m = record {
     entry : IsAppended out c v new → (k : ℕ) → k < c + 1 → (k ≡ c) ⊎ (k ≡ c → ⊥) → entry_in new k ≡ f k
     entry (inl a) k l (inl x) = ap (λ ts. entry_in ts k) a.1 ∙ climbs_none 0 c out k m.climbs (omega (arith, x)) ∙ sym a.0 ∙ e ∙ ap f (sym x)
     entry (inl a) k l (inr d) = ap (λ ts. entry_in ts k) a.1 ∙ m.entries k (omega arith)
-    entry (inr a) k l (inl x) = ap (λ ts. entry_in ts k) a.2 ∙ number_more 0 c out v k m.climbs ∙ ap (λ b. cond b v (entry_in out k)) (eq-eqb c k (sym x)) ∙ e ∙ ap f (sym x)
-    entry (inr a) k l (inr d) = ap (λ ts. entry_in ts k) a.2 ∙ number_more 0 c out v k m.climbs ∙ ap (λ b. cond b v (entry_in out k)) (ne_eqb c k (λ z. d (sym z))) ∙ m.entries k (omega arith)
+    entry (inr a) k l (inl x) = ap (λ ts. entry_in ts k) a.2 ∙ number_more 0 c out v k m.climbs
+        ∙ ap (λ b. cond b v (entry_in out k)) (eq-eqb c k (sym x)) ∙ e ∙ ap f (sym x)
+    entry (inr a) k l (inr d) = ap (λ ts. entry_in ts k) a.2 ∙ number_more 0 c out v k m.climbs
+        ∙ ap (λ b. cond b v (entry_in out k)) (ne_eqb c k (λ z. d (sym z))) ∙ m.entries k (omega arith)
 
     new_climbs : IsAppended out c v new → Climbs 0 (c + 1) new
     new_climbs (inl a) = subst (Climbs 0 (c + 1)) (sym a.1) (climbs_weaker 0 c (c + 1) out (omega arith) m.climbs)
@@ -63,7 +67,8 @@ pub record IsRest (width : ℕ) (terms : RowTerms) (i next : ℕ) : Type 0 where
 pub rest_is_all : (width : ℕ) (terms : RowTerms) → Climbs 0 width terms → IsRest width terms 0 0
 rest_is_all width terms a = record { same = λ k l. refl; ascends = a }
 
-ascends_from : (from new to : ℕ) (ts : RowTerms) → new ≤ to → Climbs from to ts → ((k : ℕ) → from ≤ k → k < new → entry_in ts k ≡ integer (pos 0)) → Climbs new to ts
+ascends_from : (from new to : ℕ) (ts : RowTerms) → new ≤ to → Climbs from to ts
+    → ((k : ℕ) → from ≤ k → k < new → entry_in ts k ≡ integer (pos 0)) → Climbs new to ts
 ascends_from from new to [] u a h = u
 ascends_from from new to (t ∷ ts) u a h = by_cases (cases_lt t.0 new)
   where

@@ -13,7 +13,8 @@ climbs_upto from to (t ∷ ts) h = let u = climbs_upto (suc t.0) to ts h.3 in om
 -- past its columns a row has no number
 pub climbs_none : (from to : ℕ) (out : RowTerms) (k : ℕ) → Climbs from to out → to ≤ k → entry_in out k ≡ integer (pos 0)
 climbs_none from to [] k h l = refl
-climbs_none from to (t ∷ ts) k h l = ap (λ b. cond b t.1 (entry_in ts k)) (ne_eqb t.0 k (λ e. let u = climbs_upto (suc t.0) to ts h.3 in omega (arith, u, e, l))) ∙ climbs_none (suc t.0) to ts k h.3 l
+climbs_none from to (t ∷ ts) k h l = ap (λ b. cond b t.1 (entry_in ts k))
+    (ne_eqb t.0 k (λ e. let u = climbs_upto (suc t.0) to ts h.3 in omega (arith, u, e, l))) ∙ climbs_none (suc t.0) to ts k h.3 l
 
 -- more columns
 pub climbs_weaker : (from to new : ℕ) (out : RowTerms) → to ≤ new → Climbs from to out → Climbs from new out
@@ -40,7 +41,8 @@ number_more from c (t ∷ ts) x k h = by_cases (cases_eq t.0 k) (number_more (su
 -- below its first column a row has no number
 pub climbs_below : (from to : ℕ) (ts : RowTerms) (k : ℕ) → Climbs from to ts → k < from → entry_in ts k ≡ integer (pos 0)
 climbs_below from to [] k a l = refl
-climbs_below from to (t ∷ ts) k a l = ap (λ b. cond b t.1 (entry_in ts k)) (ne_eqb t.0 k (λ e. let h = a.0 in omega (arith, h, e, l))) ∙ climbs_below (suc t.0) to ts k a.3 (let h = a.0 in omega (arith, h, l))
+climbs_below from to (t ∷ ts) k a l = ap (λ b. cond b t.1 (entry_in ts k)) (ne_eqb t.0 k (λ e. let h = a.0 in omega (arith, h, e, l)))
+    ∙ climbs_below (suc t.0) to ts k a.3 (let h = a.0 in omega (arith, h, l))
 
 -- each number is within the limit
 pub climbs_narrow : (from to : ℕ) (ts : RowTerms) (k : ℕ) → Climbs from to ts → IsNarrow (entry_in ts k)

@@ -23,16 +23,19 @@ division_begins width old p a = record {
 }
 
 module _ (width : ℕ) (old : RowTerms) (p : Rational) (i : ℕ) (out : RowTerms) (m : IsDividing width old p i out) where
-  pub term_is_divided : (new : RowTerms) (v : Rational) → i < length old → IsNarrow (times (number_of_term old i) (inverse p)) → v ≡ times (number_of_term old i) (inverse p) → IsAppended out (column_at old i) v new
+  pub term_is_divided : (new : RowTerms) (v : Rational) → i < length old → IsNarrow (times (number_of_term old i) (inverse p))
+      → v ≡ times (number_of_term old i) (inverse p) → IsAppended out (column_at old i) v new
       → IsDividing width old p (i + 1) new
   term_is_divided new v h w f a =
       let c = column_at old i in
       let here = at_column width old i m.next m.rest h in record {
         next = c + 1;
         rest = rest_next width old i m.next m.rest h;
-        divided = built_more (λ k. times (entry_in old k) (inverse p)) (λ k. IsNarrow (times (entry_in old k) (inverse p))) c out new v a (f ∙ ap (λ y. times y (inverse p)) (sym here))
+        divided = built_more (λ k. times (entry_in old k) (inverse p)) (λ k. IsNarrow (times (entry_in old k) (inverse p))) c out new v a
+            (f ∙ ap (λ y. times y (inverse p)) (sym here))
             (subst (λ (y : Rational). IsNarrow (times y (inverse p))) (sym here) w)
-            (built_skip (λ k. times (entry_in old k) (inverse p)) (λ k. IsNarrow (times (entry_in old k) (inverse p))) m.next c out (column_from width old i m.next m.rest h)
+            (built_skip (λ k. times (entry_in old k) (inverse p)) (λ k. IsNarrow (times (entry_in old k) (inverse p))) m.next c out
+            (column_from width old i m.next m.rest h)
             (λ k x y. quotient_of_null (entry_in old k) p (before_column width old i m.next m.rest h k x y)) m.divided);
       }
 
@@ -48,8 +51,13 @@ module _ (width : ℕ) (old : RowTerms) (p : Rational) (i : ℕ) (out : RowTerms
         by_cases (inr a) = (quotient_of_null (entry_in old k) p (rest_over width old i m.next m.rest h k a)).0
 
     pub division_ends : AreDivided old p width out
-    division_ends = record { entries = λ k. by_cases k (cases_lt k m.next); ascend = climbs_weaker 0 m.next width out (rest_upto width old i m.next m.rest) m.divided.climbs }
+    division_ends = record {
+      entries = λ k. by_cases k (cases_lt k m.next);
+      ascend = climbs_weaker 0 m.next width out
+          (rest_upto width old i m.next m.rest) m.divided.climbs;
+    }
       where
         by_cases : (k : ℕ) → (k < m.next) ⊎ (m.next ≤ k) → entry_in out k ≡ times (entry_in old k) (inverse p)
         by_cases k (inl a) = m.divided.entries k a
-        by_cases k (inr a) = climbs_none 0 m.next out k m.divided.climbs a ∙ sym (quotient_of_null (entry_in old k) p (rest_over width old i m.next m.rest h k a)).1
+        by_cases k (inr a) = climbs_none 0 m.next out k m.divided.climbs a
+            ∙ sym (quotient_of_null (entry_in old k) p (rest_over width old i m.next m.rest h k a)).1

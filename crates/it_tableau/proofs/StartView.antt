@@ -38,8 +38,10 @@ module _ (cs : List ℕ) (columns : List Terms) (target : Terms) where
   entry_past : (k j : ℕ) → k < length cs → length columns + length cs + 1 ≤ j → entry k j ≡ Q.integer (pos 0)
   entry_past k j h l =
       let p : FeasibilityProblem Rational = feasibility_problem cs columns target in
-      ap (λ b. cond b (Q.times (sign rationals p k) (p.column j k)) (cond (eqb j (n + m)) (Q.times (sign rationals p k) (p.target k)) (cond (eqb j (n + k)) (Q.integer (pos 1)) (Q.integer (pos 0))))) (le-ltb j n (omega arith))
-      ∙ ap₂ (λ b d. cond b (Q.times (sign rationals p k) (p.target k)) (cond d (Q.integer (pos 1)) (Q.integer (pos 0)))) (ne_eqb j (n + m) (λ e. omega arith)) (ne_eqb j (n + k) (λ e. omega arith))
+      ap (λ b. cond b (Q.times (sign rationals p k) (p.column j k)) (cond (eqb j (n + m)) (Q.times (sign rationals p k) (p.target k))
+      (cond (eqb j (n + k)) (Q.integer (pos 1)) (Q.integer (pos 0))))) (le-ltb j n (omega arith))
+      ∙ ap₂ (λ b d. cond b (Q.times (sign rationals p k) (p.target k)) (cond d (Q.integer (pos 1)) (Q.integer (pos 0))))
+      (ne_eqb j (n + m) (λ e. omega arith)) (ne_eqb j (n + k) (λ e. omega arith))
 
   module _ (rows : List (List Rational)) (a : AreStartRows cs columns target (length cs) rows) where
     sum_is : (k j : ℕ) → k ≤ length cs → j < length columns + length cs + 1 → column_sum rows j k ≡ sum_to ring_ℚ k (λ i. entry i j)
@@ -55,14 +57,16 @@ module _ (cs : List ℕ) (columns : List Terms) (target : Terms) where
     columns_fit fits j l i q =
         let h : i < length cs = omega (arith, a.rows_are) in
         subst (λ (x : Rational). SumFits x (column_sum rows j i)) (sym ((a.entries_are i h).entries j l))
-        (subst (SumFits (entry i j)) (sym (sum_is i j (omega arith) l)) (sums_fit (length cs) (λ i. entry i j) (λ i q. a.wholes i j q l) (λ k h. fits k j h l) i h))
+        (subst (SumFits (entry i j)) (sym (sum_is i j (omega arith) l)) (sums_fit (length cs) (λ i. entry i j) (λ i q. a.wholes i j q l)
+        (λ k h. fits k j h l) i h))
 
     module _ (cost : List Rational) (s : ListsValues (λ j. Q.minus (column_sum rows j (length rows))) (length columns + length cs + 1) cost) where
       cost_is : (j : ℕ) → j < length columns + length cs + 1 → entry_at cost j ≡ Q.minus (sum_to ring_ℚ (length cs) (λ i. entry i j))
       cost_is j l = s.entries j l ∙ ap (λ k. Q.minus (column_sum rows j k)) a.rows_are ∙ ap Q.minus (sum_is m j (omega arith) l)
 
       cost_past : (j : ℕ) → length columns + length cs + 1 ≤ j → Q.minus (sum_to ring_ℚ (length cs) (λ i. entry i j)) ≡ Q.integer (pos 0)
-      cost_past j l = ap Q.minus (sum_same ring_ℚ m (λ i. entry i j) (λ i. Q.integer (pos 0)) (λ i q. entry_past i j q l) ∙ sum_null ring_ℚ m) ∙ ring ring_ℚ [] (minus nil) nil refl
+      cost_past j l = ap Q.minus (sum_same ring_ℚ m (λ i. entry i j) (λ i. Q.integer (pos 0)) (λ i q. entry_past i j q l)
+          ∙ sum_null ring_ℚ m) ∙ ring ring_ℚ [] (minus nil) nil refl
 
       upper_rows_stay : (i : ℕ) → i < length cs → row_at (rows ++ cost ∷ []) i ≡ row_at rows i
       upper_rows_stay i h = get_or_append_left rows (cost ∷ []) [] i (omega (arith, a.rows_are))
@@ -73,7 +77,8 @@ module _ (cs : List ℕ) (columns : List Terms) (target : Terms) where
       all_length : length (rows ++ cost ∷ []) ≡ length cs + 1
       all_length = length-append rows (cost ∷ []) ∙ (let l = a.rows_are in omega (arith, l))
 
-      entries : (i j : ℕ) → (i < length cs) ⊎ (length cs ≤ i) → (i ≡ length cs) ⊎ (i ≡ length cs → ⊥) → (j < length columns + length cs + 1) ⊎ (length columns + length cs + 1 ≤ j)
+      entries : (i j : ℕ) → (i < length cs) ⊎ (length cs ≤ i) → (i ≡ length cs) ⊎ (i ≡ length cs → ⊥)
+          → (j < length columns + length cs + 1) ⊎ (length columns + length cs + 1 ≤ j)
           → entry_at (row_at (rows ++ cost ∷ []) i) j ≡ (start_of cs columns target).entry i j
       entries i j (inl h) e w = ap (λ r. entry_at r j) (upper_rows_stay i h) ∙ by_cases w
           ∙ ap (λ b. cond b (entry i j) (cond (eqb i m) (Q.minus (sum_to ring_ℚ m (λ k. entry k j))) (Q.integer (pos 0)))) (sym (lt-ltb i m h))
@@ -84,7 +89,8 @@ module _ (cs : List ℕ) (columns : List Terms) (target : Terms) where
       entries i j (inr h) (inl e) w = ap (λ r. entry_at r j) (last_row_is_cost i e) ∙ by_cases w
           ∙ ap₂ (λ b d. cond b (entry i j) (cond d (Q.minus (sum_to ring_ℚ m (λ k. entry k j))) (Q.integer (pos 0)))) (sym (le-ltb i m h)) (sym (eq-eqb i m e))
         where
-          by_cases : (j < length columns + length cs + 1) ⊎ (length columns + length cs + 1 ≤ j) → entry_at cost j ≡ Q.minus (sum_to ring_ℚ (length cs) (λ k. entry k j))
+          by_cases : (j < length columns + length cs + 1) ⊎ (length columns + length cs + 1 ≤ j)
+              → entry_at cost j ≡ Q.minus (sum_to ring_ℚ (length cs) (λ k. entry k j))
           by_cases (inl l) = cost_is j l
           by_cases (inr l) = entry_past_end cost j (omega (arith, s.length_is)) ∙ sym (cost_past j l)
       entries i j (inr h) (inr d) w = entry_past_rows (rows ++ cost ∷ []) i j (omega (arith, all_length))

@@ -55,7 +55,8 @@ module _ {A : Type 0} (R : Ring A) where
           ∙ ap (λ m. R.add (R.add (f n) (sum_to R n f)) (R.add x (R.neg (f m)))) (sym e)
       by_cases (inr l) ih =
           ap₂ (λ b y. R.add (cond b x (f n)) y) (ne_eqb n r (omega arith)) (ih l)
-          ∙ ring R (x ∷ f n ∷ sum_to R n f ∷ f r ∷ []) (plus (v 1) (plus (v 2) (plus (v 0) (minus (v 3))))) (plus (plus (v 1) (v 2)) (plus (v 0) (minus (v 3)))) refl
+          ∙ ring R (x ∷ f n ∷ sum_to R n f ∷ f r ∷ []) (plus (v 1) (plus (v 2) (plus (v 0) (minus (v 3)))))
+          (plus (plus (v 1) (v 2)) (plus (v 0) (minus (v 3)))) refl
 
   -- a sum of one term alone
   pub sum_one : (n : ℕ) (f : ℕ → A) (k : ℕ) → k < n → sum_to R n (λ i. cond (eqb i k) (f i) R.null) ≡ f k
@@ -70,7 +71,8 @@ module _ {A : Type 0} (R : Ring A) where
       for_each i false e = refl
 
   pub sum_unit : (m : ℕ) (f : ℕ → A) (k : ℕ) → k < m → sum_to R m (λ i. R.mul (f i) (cond (eqb i k) R.unit R.null)) ≡ f k
-  sum_unit m f k h = sum_same m (λ i. R.mul (f i) (cond (eqb i k) R.unit R.null)) (λ i. cond (eqb i k) (f i) R.null) (λ i l. for_each i (eqb i k)) ∙ sum_one m f k h
+  sum_unit m f k h = sum_same m (λ i. R.mul (f i) (cond (eqb i k) R.unit R.null)) (λ i. cond (eqb i k) (f i) R.null)
+      (λ i l. for_each i (eqb i k)) ∙ sum_one m f k h
     where
       for_each : (i : ℕ) (b : Bool) → R.mul (f i) (cond b R.unit R.null) ≡ cond b (f i) R.null
       for_each i true = R.mul_comm (f i) R.unit ∙ R.unit-mul (f i)
@@ -85,10 +87,12 @@ module _ {A : Type 0} (F : OrderedField A) where
   -- where terms of at least 0 sum to 0, each is 0
   pub all_null : (n : ℕ) (f : ℕ → A) → ((k : ℕ) → k < n → IsAtLeastZero F (f k)) → sum_to F.ring n f ≡ F.ring.null → (k : ℕ) → k < n → f k ≡ F.ring.null
   all_null zero f h e k l = absurd (omega arith)
-  all_null (suc n) f h e k l = by_cases (eq-or-lt_of_le (le_of_suc-le-suc l)) (all_null n f (λ k l. h k (omega arith)) (sum_is_null (f n) (sum_to F.ring n f) last_null e) k)
+  all_null (suc n) f h e k l = by_cases (eq-or-lt_of_le (le_of_suc-le-suc l))
+      (all_null n f (λ k l. h k (omega arith)) (sum_is_null (f n) (sum_to F.ring n f) last_null e) k)
     where
       second_is_negation : (a b : A) → F.ring.add a b ≡ F.ring.null → b ≡ F.ring.neg a
-      second_is_negation a b e = ring F.ring (a ∷ b ∷ []) (v 1) (plus (plus (v 0) (v 1)) (minus (v 0))) refl ∙ ap (λ z. F.ring.add z (F.ring.neg a)) e ∙ F.ring.null-add (F.ring.neg a)
+      second_is_negation a b e = ring F.ring (a ∷ b ∷ []) (v 1) (plus (plus (v 0) (v 1)) (minus (v 0))) refl
+          ∙ ap (λ z. F.ring.add z (F.ring.neg a)) e ∙ F.ring.null-add (F.ring.neg a)
 
       last_null : f n ≡ F.ring.null
       last_null = F.order.strict (f n) (h n (omega arith)) (rw (← second_is_negation (f n) (sum_to F.ring n f) e) (sum_least n f (λ k l. h k (omega arith))))
@@ -105,7 +109,8 @@ module _ {A : Type 0} (F : OrderedField A) where
   some_below zero f h = absurd (not_both F F.ring.null h (null-least F))
   some_below (suc n) f h = by_test (F.order.is_least (f n)) (F.order.is_least (sum_to F.ring n f)) refl refl (λ b. some_below n f b)
     where
-      by_test : (a b : Bool) → F.order.is_least (f n) ≡ a → F.order.is_least (sum_to F.ring n f) ≡ b → (IsBelowZero F (sum_to F.ring n f) → (k : ℕ) × (k < n) × IsBelowZero F (f k)) → (k : ℕ) × (k < suc n) × IsBelowZero F (f k)
+      by_test : (a b : Bool) → F.order.is_least (f n) ≡ a → F.order.is_least (sum_to F.ring n f) ≡ b
+          → (IsBelowZero F (sum_to F.ring n f) → (k : ℕ) × (k < n) × IsBelowZero F (f k)) → (k : ℕ) × (k < suc n) × IsBelowZero F (f k)
       by_test false b e d g = (n, omega arith, e)
       by_test true false e d g = let p = g d in (p.0, omega (arith, p.1), p.2)
       by_test true true e d g = absurd (not_both F (sum_to F.ring (suc n) f) h (F.order.add-least (f n) (sum_to F.ring n f) e d))

@@ -19,7 +19,11 @@ pub whole_number : (z : ℤ) → IsWithin z → IsWholeNumber (integer z)
 whole_number z h = record { whole_is = (whole_parts z).1; narrow = (whole-narrow z).0 h }
 
 pub minus_number : (q : Rational) → IsWholeNumber q → IsWholeNumber (minus q)
-minus_number q w = record { whole_is = (own_parts (neg_ℤ q.num) q.den q.positive (rw (size_negated q.num) q.lowest)).1 ∙ w.whole_is; narrow = minus-narrow q w.narrow }
+minus_number q w = record {
+  whole_is = (own_parts (neg_ℤ q.num) q.den q.positive (rw (size_negated q.num) q.lowest)).1
+      ∙ w.whole_is;
+  narrow = minus-narrow q w.narrow;
+}
 
 pub zero_number : IsWholeNumber (integer (pos 0))
 zero_number = whole_number (pos 0) (lit< tt)
@@ -31,7 +35,9 @@ one_number = whole_number (pos 1) (lit< tt)
 module _ (m : ℕ) (f : ℕ → Rational) (wholes : (k : ℕ) → k < m → IsWholeNumber (f k)) where
   sum_den : (k : ℕ) → k ≤ m → (sum_to ring_ℚ k f).den ≡ 1
   sum_den zero h = zero_parts.1
-  sum_den (suc k) h = ap (λ (q : Rational). q.den) (sym (whole-sum (f k) (sum_to ring_ℚ k f) (wholes k (omega arith)).whole_is (sum_den k (omega arith)))) ∙ (whole_parts ((f k).num +ℤ (sum_to ring_ℚ k f).num)).1
+  sum_den (suc k) h = ap (λ (q : Rational). q.den) (sym
+      (whole-sum (f k) (sum_to ring_ℚ k f) (wholes k (omega arith)).whole_is (sum_den k (omega arith))))
+      ∙ (whole_parts ((f k).num +ℤ (sum_to ring_ℚ k f).num)).1
 
   -- where all additions fit, all partial sums do
   pub sums_narrow : ((k : ℕ) → k < m → SumFits (f k) (sum_to ring_ℚ k f)) → (k : ℕ) → k ≤ m → IsNarrow (sum_to ring_ℚ k f)
@@ -40,7 +46,8 @@ module _ (m : ℕ) (f : ℕ → Rational) (wholes : (k : ℕ) → k < m → IsWh
       let w = wholes k (omega arith) in
       let d = sum_den k (omega arith) in
       subst IsNarrow (whole-sum (f k) (sum_to ring_ℚ k f) w.whole_is d)
-      ((whole-narrow ((f k).num +ℤ (sum_to ring_ℚ k f).num)).0 ((whole-sum-fits (f k) (sum_to ring_ℚ k f) w.whole_is d w.narrow (sums_narrow fits k (omega arith))).1 (fits k (omega arith))))
+      ((whole-narrow ((f k).num +ℤ (sum_to ring_ℚ k f).num)).0
+      ((whole-sum-fits (f k) (sum_to ring_ℚ k f) w.whole_is d w.narrow (sums_narrow fits k (omega arith))).1 (fits k (omega arith))))
 
   -- and the other way round
   pub sums_fit : ((k : ℕ) → k ≤ m → IsNarrow (sum_to ring_ℚ k f)) → (k : ℕ) → k < m → SumFits (f k) (sum_to ring_ℚ k f)
@@ -48,7 +55,8 @@ module _ (m : ℕ) (f : ℕ → Rational) (wholes : (k : ℕ) → k < m → IsWh
       let w = wholes k h in
       let d = sum_den k (omega arith) in
       (whole-sum-fits (f k) (sum_to ring_ℚ k f) w.whole_is d w.narrow (narrow k (omega arith))).0
-      ((whole-narrow ((f k).num +ℤ (sum_to ring_ℚ k f).num)).1 (subst IsNarrow (sym (whole-sum (f k) (sum_to ring_ℚ k f) w.whole_is d)) (narrow (suc k) (omega arith))))
+      ((whole-narrow ((f k).num +ℤ (sum_to ring_ℚ k f).num)).1 (subst IsNarrow (sym (whole-sum (f k) (sum_to ring_ℚ k f) w.whole_is d))
+      (narrow (suc k) (omega arith))))
 
 -- a whole number with a sign is whole
 pub signed_den : (kept : Bool) (z : ℤ) → (times (cond kept (integer (pos 1)) (minus (integer (pos 1)))) (integer z)).den ≡ 1

@@ -14,17 +14,30 @@ any_err (Err y) w Q q = λ _. q
 -- 0 is subtracted
 pub difference_of_null_entry : (x y q : Rational) → IsNarrow x → y ≡ integer (pos 0) → EntryFits x y q × (plus x (minus (times y q)) ≡ x)
 difference_of_null_entry x y q n e =
-    let z : times y q ≡ integer (pos 0) = zero-product y q (top_of_zero y e) in
-    (record { product = zero-product-narrow y q (top_of_zero y e); difference = difference-zero-fits x (times y q) (top_of_zero (times y q) z) n }, difference-zero x (times y q) (top_of_zero (times y q) z))
+    let z : times y q ≡ integer (pos 0) = zero-product y q (top_of_zero y e) in (
+      record {
+        product = zero-product-narrow y q (top_of_zero y e);
+        difference = difference-zero-fits x (times y q)
+            (top_of_zero (times y q) z) n;
+      },
+      difference-zero x (times y q) (top_of_zero (times y q) z),
+    )
 
 -- and so where the factor is 0
 pub difference_of_null_factor : (x y q : Rational) → IsNarrow x → q ≡ integer (pos 0) → EntryFits x y q × (plus x (minus (times y q)) ≡ x)
 difference_of_null_factor x y q n e =
-    let z : times y q ≡ integer (pos 0) = product-zero y q (top_of_zero q e) in
-    (record { product = product-zero-narrow y q (top_of_zero q e); difference = difference-zero-fits x (times y q) (top_of_zero (times y q) z) n }, difference-zero x (times y q) (top_of_zero (times y q) z))
+    let z : times y q ≡ integer (pos 0) = product-zero y q (top_of_zero q e) in (
+      record {
+        product = product-zero-narrow y q (top_of_zero q e);
+        difference = difference-zero-fits x (times y q)
+            (top_of_zero (times y q) z) n;
+      },
+      difference-zero x (times y q) (top_of_zero (times y q) z),
+    )
 
 -- a product is subtracted from 0
-pub difference_from_null : (x y q : Rational) → x ≡ integer (pos 0) → (IsNarrow (times y q) ↔ EntryFits x y q) × (plus x (minus (times y q)) ≡ minus (times y q))
+pub difference_from_null : (x y q : Rational) → x ≡ integer (pos 0) → (IsNarrow (times y q) ↔ EntryFits x y q)
+    × (plus x (minus (times y q)) ≡ minus (times y q))
 difference_from_null x y q e = (
   ((λ n. record { product = n; difference = zero-difference-fits x (times y q) (top_of_zero x e) (minus-narrow (times y q) n) }), (λ f. f.product)),
   zero-difference x (times y q) (top_of_zero x e),

@@ -45,7 +45,8 @@ pub functions_same : (v : Variable) → joined_texts (codes ", ") false (map (λ
 functions_same v = ap (joined_texts (codes ", ") false) (seen_as (λ f. f.items) function_text v.functions.items)
 
 -- one more variable of a code
-pub variable_step : (names : List (List ℕ)) (variables : List Variable) (i : ℕ) (v : Variable) (name : List ℕ) (some : Bool) (out : List ℕ) → i < length variables → v ≡ get_or variables i v → slice_get names i ≡ Some name
+pub variable_step : (names : List (List ℕ)) (variables : List Variable) (i : ℕ) (v : Variable) (name : List ℕ) (some : Bool) (out : List ℕ)
+    → i < length variables → v ≡ get_or variables i v → slice_get names i ≡ Some name
     → (out ++ (if some then codes ", " else []) ++ variable_text name (functions_of v)) ++ joined_texts (codes ", ") true (variable_texts names (i + 1) (map functions_of (drop (i + 1) variables)))
     ≡ out ++ joined_texts (codes ", ") some (variable_texts names i (map functions_of (drop i variables)))
 variable_step names variables i v name some out h is named =
@@ -54,13 +55,15 @@ variable_step names variables i v name some out h is named =
     ∙ ap (λ xs. out ++ joined_texts (codes ", ") some (variable_texts names i (map functions_of xs))) (sym (drop_item variables i v h is))
 
 -- a code has as many variables as there are names
-pub named_variables : (q : BodyView) (a : AnswerView) (c : ReportedCode) → HasCodedShape q a (reported_code_view c) → length c.code.variables.items ≤ length q.names.variables
+pub named_variables : (q : BodyView) (a : AnswerView) (c : ReportedCode) → HasCodedShape q a (reported_code_view c)
+    → length c.code.variables.items ≤ length q.names.variables
 named_variables q a c h =
     let same : length (map functions_of c.code.variables.items) ≡ length c.code.variables.items = length-map c.code.variables.items functions_of in
     omega (arith, same, h.code.variables)
 
 -- the line of a code below those of an answer
-pub coded_appended : (options : Options) (k : ℕ) (q : BodyView) (a : AnswerView) (c : ReportedCodeView) (answered text : List ℕ) → IsAnsweredText options k q a answered
+pub coded_appended : (options : Options) (k : ℕ) (q : BodyView) (a : AnswerView) (c : ReportedCodeView) (answered text : List ℕ)
+    → IsAnsweredText options k q a answered
     → text ≡ answered ++ indented_line (code_text q.names.variables c) → IsCodedText options k q a c text
 unfolding IsAnsweredText IsCodedText
 coded_appended options k q a c answered text told is =

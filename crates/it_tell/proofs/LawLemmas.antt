@@ -6,7 +6,7 @@ use Rattle.it_outside.specs.Groups.{Groups}
 use Rattle.it_outside.specs.Traffic.{Gains, Gave}
 use Rattle.it_outside.proofs.LawLemmas.{end_comes_last}
 use Rattle.it_space.specs.declared.answers.Mark.{Mark}
-use Rattle.it_space.specs.declared.problems.Kind.TheVariants.{Inequality}
+use Rattle.it_problems.specs.declared.problems.Kind.TheVariants.{Inequality}
 use Rattle.it_space.specs.Answers.{AnswerView, CertificateView}
 use Rattle.it_space.specs.Answers.AnswerView.{Yes, No, Undecided, Region, Contained, Open}
 use Rattle.it_space.specs.Rows.{Terms}
@@ -52,13 +52,21 @@ use Rattle.it_tell.proofs.PrintableLemmas.{not_invalid_is_valid}
 one_asked : (r : Call) (options others : Options) → AsksToTell r options → AsksToTell r others → options ≡ others
 one_asked r options others e f = let same : Some (Tell options) ≡ Some (Tell others) = sym e ∙ f in cc
 
-written : (r : Call) (options : Options) (s : Status) (bytes old new : List ℕ) → AsksToTell r options → HasTold r s → r.left ≡ Some bytes → r.taken ≡ Some old → r.taken_after ≡ Some new
+written : (r : Call) (options : Options) (s : Status) (bytes old new : List ℕ) → AsksToTell r options → HasTold r s → r.left ≡ Some bytes
+    → r.taken ≡ Some old → r.taken_after ≡ Some new
     → (out : List ℕ) × (WholeOutput (tell_mode options) bytes out s × (new ≡ old ++ out))
 written r options s bytes old new asked h left taken taken_after =
     let gave : Gave (Some bytes) r.left_after h.bytes = subst (λ (o : Option (List ℕ)). Gave o r.left_after h.bytes) left h.report.0 in
-    let gained : Gains (Some old) (Some new) h.out = subst (λ (o : Option (List ℕ)). Gains o (Some new) h.out) taken (subst (λ (o : Option (List ℕ)). Gains r.taken o h.out) taken_after h.wrote) in
-    let same : h.options ≡ options = one_asked r h.options options h.asked asked in
-    (h.out, (subst (λ (o : Options). WholeOutput (tell_mode o) bytes h.out s) same (subst (λ (b : List ℕ). WholeOutput (tell_mode h.options) b h.out s) (end_comes_last bytes h.bytes r.left_after gave) h.output), gained))
+    let gained : Gains (Some old) (Some new) h.out = subst (λ (o : Option (List ℕ)). Gains o (Some new) h.out) taken
+    (subst (λ (o : Option (List ℕ)). Gains r.taken o h.out) taken_after h.wrote) in
+    let same : h.options ≡ options = one_asked r h.options options h.asked asked in (
+      h.out,
+      (
+        subst (λ (o : Options). WholeOutput (tell_mode o) bytes h.out s) same
+            (subst (λ (b : List ℕ). WholeOutput (tell_mode h.options) b h.out s) (end_comes_last bytes h.bytes r.left_after gave) h.output),
+        gained,
+      ),
+    )
 
 -- who asks for a telling asks for no text
 no_text_asked : (r : Call) (options : Options) (text : List ℕ) → AsksToTell r options → AsksForText r text → ⊥
@@ -71,15 +79,20 @@ pub headline : Headline
 headline r options s bytes old new asked ends (inl is) left taken taken_after = by_end (subst (Ends r) is ends)
   where
     by_end : Ends r Done → (out : List ℕ) × (WholeOutput (tell_mode options) bytes out s × (new ≡ old ++ out))
-    by_end (faultless, inl told) = subst (λ (t : Status). (out : List ℕ) × (WholeOutput (tell_mode options) bytes out t × (new ≡ old ++ out))) (sym is) (written r options Done bytes old new asked told left taken taken_after)
+    by_end (faultless, inl told) = subst (λ (t : Status). (out : List ℕ)
+        × (WholeOutput (tell_mode options) bytes out t × (new ≡ old ++ out))) (sym is)
+        (written r options Done bytes old new asked told left taken taken_after)
     by_end (faultless, inr shown) = absurd (no_text_asked r options shown.0 asked shown.1.0.asked)
 headline r options s bytes old new asked ends (inr is) left taken taken_after =
-    subst (λ (t : Status). (out : List ℕ) × (WholeOutput (tell_mode options) bytes out t × (new ≡ old ++ out))) (sym is) (written r options Invalid bytes old new asked (subst (Ends r) is ends).1 left taken taken_after)
+    subst (λ (t : Status). (out : List ℕ) × (WholeOutput (tell_mode options) bytes out t × (new ≡ old ++ out))) (sym is)
+    (written r options Invalid bytes old new asked (subst (Ends r) is ends).1 left taken taken_after)
 
 -- ---- each line
 
 module _ {X A : Type 0} (shown : A → List ℕ) (tells : X → A → Type 0) (each : (x : X) → (a : A) × tells x a) where
-  lines_from : (k : ℕ) (items : List X) → (out : List ℕ) × Groups (λ (s : Unit {0}) (x : X) (a : A). tells x a) (λ (s : Unit {0}) (x : X) (a : A). s) (λ (k : ℕ) (x : X) (a : A). shown a) k tt items tt out
+  lines_from : (k : ℕ) (items : List X) → (out : List ℕ)
+      × Groups (λ (s : Unit {0}) (x : X) (a : A). tells x a) (λ (s : Unit {0}) (x : X) (a : A). s)
+      (λ (k : ℕ) (x : X) (a : A). shown a) k tt items tt out
   lines_from k [] = ([], (refl, refl))
   lines_from k (x ∷ xs) = let t = each x in let rest = lines_from (k + 1) xs in (shown t.0 ++ rest.0, (t.0, rest.0, t.1, rest.1, refl))
 
@@ -112,22 +125,28 @@ own_line_there q options parts line =
       record { relation = []; proofs = below.0; says = inr refl; are = below.1; out_is = refl },
     )
 
-contained_there : (q : BodyView) (options : Options) (style : Style) (parts : List ℕ) (ws : List CertificateView) → (out : List ℕ) × AreContainedLines q options style parts ws out
+contained_there : (q : BodyView) (options : Options) (style : Style) (parts : List ℕ) (ws : List CertificateView)
+    → (out : List ℕ) × AreContainedLines q options style parts ws out
 unfolding AreContainedLines
-contained_there q options Plain parts ws = lines_there proof_lines (AreProofTexts q options) (proof_there q options) (zip (answer_forms q (Contained parts ws)) ws)
-contained_there q options Named parts ws = lines_there (λ lines. lines) (AreOwnLineTexts q options parts) (own_line_there q options parts) (own_lines q parts ws)
-contained_there q options Whole parts ws = lines_there (λ lines. lines) (AreOwnLineTexts q options parts) (own_line_there q options parts) (own_lines q parts ws)
+contained_there q options Plain parts ws = lines_there proof_lines (AreProofTexts q options) (proof_there q options)
+    (zip (answer_forms q (Contained parts ws)) ws)
+contained_there q options Named parts ws = lines_there (λ lines. lines) (AreOwnLineTexts q options parts) (own_line_there q options parts)
+    (own_lines q parts ws)
+contained_there q options Whole parts ws = lines_there (λ lines. lines) (AreOwnLineTexts q options parts) (own_line_there q options parts)
+    (own_lines q parts ws)
 
 details_there : (q : BodyView) (options : Options) (a : AnswerView) → (out : List ℕ) × AreDetails q options a out
 unfolding AreDetails
 details_there q options (Yes proofs) = lines_there proof_lines (AreProofTexts q options) (proof_there q options) (zip (answer_forms q (Yes proofs)) proofs)
 details_there q options (No back values) = let point = point_there q values in (indented_line point.0, (point.0, (point.1, refl)))
 details_there q options (Undecided cause) = ([], refl)
-details_there q options (Region rows) = lines_there indented_line (IsMarkedRowText q options.style) (row_there q options.style) (told_rows options.style (variable_count q) rows)
+details_there q options (Region rows) = lines_there indented_line (IsMarkedRowText q options.style) (row_there q options.style)
+    (told_rows options.style (variable_count q) rows)
 details_there q options (Contained parts proofs) = contained_there q options options.style parts proofs
 details_there q options (Open tried) = ([], refl)
 
-reading_there : (options : Options) (line : List ℕ) (v : LineVerdict) → IsVerdict line v → is_invalid v ≡ false → (x : Reading) → ReadsReport line (Ok x) → (telling : Telling) × IsTelling options line telling
+reading_there : (options : Options) (line : List ℕ) (v : LineVerdict) → IsVerdict line v → is_invalid v ≡ false → (x : Reading)
+    → ReadsReport line (Ok x) → (telling : Telling) × IsTelling options line telling
 reading_there options line v is accepted (reports.Answered source a) reads =
     let details = details_there (asked source).body options a in
     (Answered source a details.0, (record { verdict = v; is = is; accepted = accepted; reads = reads }, details.1))
@@ -137,8 +156,10 @@ reading_there options line v is accepted (reports.Coded source a c) reads =
 reading_there options line v is accepted (reports.Derived source a ws) reads =
     let details = details_there (asked source).body options a in
     (tellings.Derived source a ws details.0, (record { verdict = v; is = is; accepted = accepted; reads = reads }, details.1))
-reading_there options line v is accepted (reports.Factored source best) reads = (tellings.Factored source best, record { verdict = v; is = is; accepted = accepted; reads = reads })
-reading_there options line v is accepted (reports.Bounded source b) reads = (tellings.Bounded source b, record { verdict = v; is = is; accepted = accepted; reads = reads })
+reading_there options line v is accepted (reports.Factored source best) reads
+    = (tellings.Factored source best, record { verdict = v; is = is; accepted = accepted; reads = reads })
+reading_there options line v is accepted (reports.Bounded source b) reads
+    = (tellings.Bounded source b, record { verdict = v; is = is; accepted = accepted; reads = reads })
 reading_there options line v is accepted reports.Misfit reads = (tellings.Misfit, reads)
 
 pub each_line_is_told : EachLineIsTold
@@ -206,10 +227,12 @@ told_codes_are_true options line source back values code details (h, lines) = by
   where
     on_code : (v : LineVerdict) (r : HasReading line v) → IsCodedVerdict (asked source).body (No back values) code v
     on_code v r =
-        let same = same_read r.reading (reports.Coded source (No back values) code) (one_reading line (Ok r.reading) (Ok (reports.Coded source (No back values) code)) r.reads h.reads) in
+        let same = same_read r.reading (reports.Coded source (No back values) code)
+        (one_reading line (Ok r.reading) (Ok (reports.Coded source (No back values) code)) r.reads h.reads) in
         subst (λ (x : Reading). IsReadingVerdict x v) same r.verdict
 
-    by_verdict : (v : LineVerdict) → IsVerdict line v → is_invalid v ≡ false → IsClaimTrue (asked source).body (No back values) × AreEntropies code.code code.times values
+    by_verdict : (v : LineVerdict) → IsVerdict line v → is_invalid v ≡ false
+        → IsClaimTrue (asked source).body (No back values) × AreEntropies code.code code.times values
     by_verdict NotJson is accepted = absurd (true≢false accepted)
     by_verdict (Shape key) is accepted = absurd (true≢false accepted)
     by_verdict (OtherCode names s) is accepted = absurd (true≢false accepted)
@@ -217,5 +240,6 @@ told_codes_are_true options line source back values code details (h, lines) = by
     by_verdict (Weighed names v) is accepted = absurd (on_code (Weighed names v) is)
     by_verdict (Hulled v) is accepted = absurd (on_code (Hulled v) is)
     by_verdict (Judged names v) is accepted =
-        let true_code = valid_code_is_true line names source back values code (subst (λ (w : Verdict). IsVerdict line (Judged names w)) (not_invalid_is_valid v accepted) is) h.reads in
+        let true_code = valid_code_is_true line names source back values code
+        (subst (λ (w : Verdict). IsVerdict line (Judged names w)) (not_invalid_is_valid v accepted) is) h.reads in
         (true_code.0, true_code.3)

@@ -28,7 +28,8 @@ use Rattle.it_tell.specs.declared.settings.Options.{Options}
 
 -- ---- an invalid line
 
-pub invalid_line : (options : Options) (k : ℕ) (line text : List ℕ) (invalid : Bool) → IsJudgedLine k line text invalid → invalid ≡ true → IsToldLine options k line text true
+pub invalid_line : (options : Options) (k : ℕ) (line text : List ℕ) (invalid : Bool) → IsJudgedLine k line text invalid → invalid ≡ true
+    → IsToldLine options k line text true
 invalid_line options k line text invalid judged is = record {
   telling = Invalid judged.verdict;
   is = (judged.is, sym judged.told.1 ∙ is);
@@ -78,11 +79,13 @@ module _ (line : List ℕ) (source : Source) (a : AnswerView) (reads : ReadsRepo
   -- the verdict is on the answer that was read
   pub on_answer : (h : HasVerdict line) → IsAnswerVerdict (asked source).body a h.verdict
   on_answer h =
-      let same = same_read h.said.reading (reports.Answered source a) (one_reading line (Ok h.said.reading) (Ok (reports.Answered source a)) h.said.reads reads) in
+      let same = same_read h.said.reading (reports.Answered source a) (one_reading line (Ok h.said.reading)
+      (Ok (reports.Answered source a)) h.said.reads reads) in
       subst (λ x. IsReadingVerdict x h.verdict) same h.said.verdict
 
 -- the verdict on a no with a code is that on the no, where it isn't an invalid one
-pub on_coded : (line : List ℕ) (source : Source) (a : AnswerView) (c : ReportedCodeView) → ReadsReport line (Ok (reports.Coded source a c)) → (h : HasVerdict line) → IsAnswerVerdict (asked source).body a h.verdict
+pub on_coded : (line : List ℕ) (source : Source) (a : AnswerView) (c : ReportedCodeView) → ReadsReport line (Ok (reports.Coded source a c))
+    → (h : HasVerdict line) → IsAnswerVerdict (asked source).body a h.verdict
 on_coded line source a c reads h = by_verdict h.verdict h.accepted (subst (λ x. IsReadingVerdict x h.verdict) same h.said.verdict)
   where
     same : h.said.reading ≡ reports.Coded source a c
@@ -97,7 +100,8 @@ on_coded line source a c reads h = by_verdict h.verdict h.accepted (subst (λ x.
     by_verdict (Weighed names v) accepted is = absurd is
     by_verdict (Hulled v) accepted is = absurd is
 
-pub accepts_best : (line : List ℕ) (source : Source) (b : BestView) → ReadsReport line (Ok (reports.Factored source b)) → HasVerdict line → IsAcceptedBest line source b
+pub accepts_best : (line : List ℕ) (source : Source) (b : BestView) → ReadsReport line (Ok (reports.Factored source b)) → HasVerdict line
+    → IsAcceptedBest line source b
 accepts_best line source b reads h = record { verdict = h.verdict; is = h.is; accepted = h.accepted; reads = reads }
 
 pub can_be_printed : (line : List ℕ) (r : Reported) → Reports line (Ok r) → KeepsLimits r → HasVerdict line → CanBePrinted r
@@ -107,7 +111,8 @@ can_be_printed line r read limits h = by_reading read.0 r read.1 read.2 limits
     by_reading (reports.Answered source a) (variants.Answered q answer) same reads limits =
         let small = subst (λ (x : QuestionView). QuestionHasSmallNumbers x.body) same.0 (small_numbers line source a reads) in
         let verdict : IsAnswerVerdict (question_body q) (answer_view answer) h.verdict =
-        subst (λ b. IsAnswerVerdict (question_body q) b h.verdict) same.1 (subst (λ (x : QuestionView). IsAnswerVerdict x.body a h.verdict) same.0 (on_answer line source a reads h)) in
+        subst (λ b. IsAnswerVerdict (question_body q) b h.verdict) same.1 (subst
+        (λ (x : QuestionView). IsAnswerVerdict x.body a h.verdict) same.0 (on_answer line source a reads h)) in
         printable (question_body q) limits.0 (question_poses (question_body q) limits.0 small) h.verdict h.accepted answer limits.1 verdict
     by_reading (reports.Answered source a) (variants.Coded q answer code) same reads limits = absurd same
     by_reading (reports.Answered source a) (variants.Derived q answer origins) same reads limits = absurd same
@@ -118,7 +123,8 @@ can_be_printed line r read limits h = by_reading read.0 r read.1 read.2 limits
     by_reading (reports.Coded source a c) (variants.Coded q answer code) same reads limits =
         let small = subst (λ (x : QuestionView). QuestionHasSmallNumbers x.body) same.0 (coded_numbers line source a c reads) in
         let verdict : IsAnswerVerdict (question_body q) (answer_view answer) h.verdict =
-        subst (λ b. IsAnswerVerdict (question_body q) b h.verdict) same.1 (subst (λ (x : QuestionView). IsAnswerVerdict x.body a h.verdict) same.0 (on_coded line source a c reads h)) in
+        subst (λ b. IsAnswerVerdict (question_body q) b h.verdict) same.1 (subst
+        (λ (x : QuestionView). IsAnswerVerdict x.body a h.verdict) same.0 (on_coded line source a c reads h)) in
         printable (question_body q) limits.0 (question_poses (question_body q) limits.0 small) h.verdict h.accepted answer limits.1.answered verdict
     by_reading (reports.Coded source a c) (variants.Derived q answer origins) same reads limits = absurd same
     by_reading (reports.Coded source a c) (variants.Factored q best) same reads limits = absurd same
@@ -128,7 +134,8 @@ can_be_printed line r read limits h = by_reading read.0 r read.1 read.2 limits
     by_reading (reports.Derived source a ws) (variants.Coded q answer code) same reads limits = absurd same
     by_reading (reports.Derived source a ws) (variants.Derived q answer origins) same reads limits =
         let small = subst (λ (x : QuestionView). QuestionHasSmallNumbers x.body) same.0 (derived_numbers line source a ws reads) in
-        printable (question_body q) limits.0 (question_poses (question_body q) limits.0 small) Skipped refl answer limits.1.answered (region_skipped (question_body q) (answer_view answer) limits.1.region)
+        printable (question_body q) limits.0 (question_poses (question_body q) limits.0 small) Skipped refl answer limits.1.answered
+        (region_skipped (question_body q) (answer_view answer) limits.1.region)
     by_reading (reports.Derived source a ws) (variants.Factored q best) same reads limits = absurd same
     by_reading (reports.Derived source a ws) (variants.Bounded q bounds) same reads limits = absurd same
     by_reading (reports.Derived source a ws) variants.Misfit same reads limits = absurd same
@@ -151,14 +158,17 @@ can_be_printed line r read limits h = by_reading read.0 r read.1 read.2 limits
     by_reading reports.Misfit (variants.Bounded q bounds) same reads limits = absurd same
     by_reading reports.Misfit variants.Misfit same reads limits = tt
 
-pub reported_line : (options : Options) (k : ℕ) (line text : List ℕ) (r : Reported) → Reports line (Ok r) → HasVerdict line → IsReportedText options k r text → IsToldLine options k line text false
+pub reported_line : (options : Options) (k : ℕ) (line text : List ℕ) (r : Reported) → Reports line (Ok r) → HasVerdict line
+    → IsReportedText options k r text → IsToldLine options k line text false
 unfolding IsAnsweredText IsCodedText
 reported_line options k line text r read h told = by_reading read.0 r read.1 read.2 told
   where
-    by_reading : (x : Reading) (r : Reported) → IsReported x r → ReadsReport line (Ok x) → IsReportedText options k r text → IsToldLine options k line text false
+    by_reading : (x : Reading) (r : Reported) → IsReported x r → ReadsReport line (Ok x) → IsReportedText options k r text
+        → IsToldLine options k line text false
     by_reading (reports.Answered source a) (variants.Answered q answer) same reads told =
         let back : IsAnsweredText options k (asked source).body a text =
-        subst (λ b. IsAnsweredText options k (asked source).body b text) (sym same.1) (subst (λ (x : QuestionView). IsAnsweredText options k x.body (answer_view answer) text) (sym same.0) told) in
+        subst (λ b. IsAnsweredText options k (asked source).body b text) (sym same.1)
+        (subst (λ (x : QuestionView). IsAnsweredText options k x.body (answer_view answer) text) (sym same.0) told) in
         record { telling = tellings.Answered source a back.0; is = (accepts line source a reads h, back.1.0); text_is = back.1.1; invalid_is = refl }
     by_reading (reports.Answered source a) (variants.Coded q answer code) same reads told = absurd same
     by_reading (reports.Answered source a) (variants.Derived q answer origins) same reads told = absurd same
@@ -185,7 +195,8 @@ reported_line options k line text r read h told = by_reading read.0 r read.1 rea
     by_reading (reports.Derived source a ws) (variants.Coded q answer code) same reads told = absurd same
     by_reading (reports.Derived source a ws) (variants.Derived q answer origins) same reads told =
         let back : IsAnsweredText options k (asked source).body a text =
-        subst (λ b. IsAnsweredText options k (asked source).body b text) (sym same.1) (subst (λ (x : QuestionView). IsAnsweredText options k x.body (answer_view answer) text) (sym same.0) told) in
+        subst (λ b. IsAnsweredText options k (asked source).body b text) (sym same.1)
+        (subst (λ (x : QuestionView). IsAnsweredText options k x.body (answer_view answer) text) (sym same.0) told) in
         record {
           telling = tellings.Derived source a ws back.0;
           is = (record { verdict = h.verdict; is = h.is; accepted = h.accepted; reads = reads }, back.1.0);
@@ -198,7 +209,13 @@ reported_line options k line text r read h told = by_reading read.0 r read.1 rea
     by_reading (reports.Factored source b) (variants.Answered q answer) same reads told = absurd same
     by_reading (reports.Factored source b) (variants.Coded q answer code) same reads told = absurd same
     by_reading (reports.Factored source b) (variants.Derived q answer origins) same reads told = absurd same
-    by_reading (reports.Factored source b) (variants.Factored q best) same reads told = record { telling = tellings.Factored source b; is = accepts_best line source b reads h; text_is = told ∙ ap (λ x. numbered_line k (best_words x)) (sym same.1); invalid_is = refl }
+    by_reading (reports.Factored source b) (variants.Factored q best) same reads told = record {
+      telling = tellings.Factored source b;
+      is = accepts_best line source b reads h;
+      text_is = told
+          ∙ ap (λ x. numbered_line k (best_words x)) (sym same.1);
+      invalid_is = refl;
+    }
     by_reading (reports.Factored source b) (variants.Bounded q bounds) same reads told = absurd same
     by_reading (reports.Factored source b) variants.Misfit same reads told = absurd same
     by_reading (reports.Bounded source b) (variants.Answered q answer) same reads told = absurd same

@@ -41,10 +41,12 @@ end_before (x ∷ xs) [] (suc i) h k = before_nothing (drop i xs) ∙ sym (le-lt
 end_before (x ∷ xs) (y ∷ ys) (suc i) h k = end_before xs ys i (omega arith) (omega arith) ∙ less_by_both (length xs) (length ys)
 
 -- where both have the same number, what stands behind it decides
-pub before_by_rest : (xs ys : List ℕ) (i : ℕ) → i < length xs → i < length ys → get_or xs i 0 ≡ get_or ys i 0 → is_before (drop i xs) (drop i ys) ≡ is_before (drop (i + 1) xs) (drop (i + 1) ys)
+pub before_by_rest : (xs ys : List ℕ) (i : ℕ) → i < length xs → i < length ys → get_or xs i 0 ≡ get_or ys i 0
+    → is_before (drop i xs) (drop i ys) ≡ is_before (drop (i + 1) xs) (drop (i + 1) ys)
 before_by_rest xs ys i h k e = rw add-one (same_first xs ys i h k e)
   where
-    same_first : (xs ys : List ℕ) (i : ℕ) → i < length xs → i < length ys → get_or xs i 0 ≡ get_or ys i 0 → is_before (drop i xs) (drop i ys) ≡ is_before (drop (suc i) xs) (drop (suc i) ys)
+    same_first : (xs ys : List ℕ) (i : ℕ) → i < length xs → i < length ys → get_or xs i 0 ≡ get_or ys i 0
+        → is_before (drop i xs) (drop i ys) ≡ is_before (drop (suc i) xs) (drop (suc i) ys)
     same_first [] ys i h k e = absurd (omega arith)
     same_first (x ∷ xs) [] i h k e = absurd (omega arith)
     same_first (x ∷ xs) (y ∷ ys) zero h k e = ap₂ (λ t u. t || (u && is_before xs ys)) (le-ltb x y (omega arith)) (eq-eqb x y e)
@@ -55,7 +57,8 @@ or_false true = refl
 or_false false = refl
 
 -- where both have other numbers, these decide
-pub before_by_number : (xs ys : List ℕ) (i : ℕ) → i < length xs → i < length ys → get_or xs i 0 ≢ get_or ys i 0 → is_before (drop i xs) (drop i ys) ≡ nat_lt (get_or xs i 0) (get_or ys i 0)
+pub before_by_number : (xs ys : List ℕ) (i : ℕ) → i < length xs → i < length ys → get_or xs i 0 ≢ get_or ys i 0
+    → is_before (drop i xs) (drop i ys) ≡ nat_lt (get_or xs i 0) (get_or ys i 0)
 before_by_number [] ys i h k n = absurd (omega arith)
 before_by_number (x ∷ xs) [] i h k n = absurd (omega arith)
 before_by_number (x ∷ xs) (y ∷ ys) zero h k n = ap (λ (t : Bool). nat_lt x y || (t && is_before xs ys)) (ne_eqb x y n) ∙ or_false (nat_lt x y)
@@ -64,31 +67,40 @@ before_by_number (x ∷ xs) (y ∷ ys) (suc i) h k n = before_by_number xs ys i 
 -- ---- rows
 
 -- the rows up to a place stay before a row that doesn't come before them
-pub place_goes_on : (n : ℕ) (row other : Mark × Terms) (rows : List (Mark × Terms)) (i : ℕ) → i < length rows → get_or rows i other ≡ other → is_before (order_key n row.1) (order_key n other.1) ≡ false
-    → put_in_order n row rows ≡ take i rows ++ put_in_order n row (drop i rows) → put_in_order n row rows ≡ take (i + 1) rows ++ put_in_order n row (drop (i + 1) rows)
+pub place_goes_on : (n : ℕ) (row other : Mark × Terms) (rows : List (Mark × Terms)) (i : ℕ) → i < length rows → get_or rows i other ≡ other
+    → is_before (order_key n row.1) (order_key n other.1) ≡ false
+    → put_in_order n row rows ≡ take i rows ++ put_in_order n row (drop i rows)
+    → put_in_order n row rows ≡ take (i + 1) rows ++ put_in_order n row (drop (i + 1) rows)
 place_goes_on n row other rows i h read later e = e ∙ rw add-one (more rows i h read)
   where
-    more : (rows : List (Mark × Terms)) (i : ℕ) → i < length rows → get_or rows i other ≡ other → take i rows ++ put_in_order n row (drop i rows) ≡ take (suc i) rows ++ put_in_order n row (drop (suc i) rows)
+    more : (rows : List (Mark × Terms)) (i : ℕ) → i < length rows → get_or rows i other ≡ other
+        → take i rows ++ put_in_order n row (drop i rows) ≡ take (suc i) rows ++ put_in_order n row (drop (suc i) rows)
     more [] i h read = absurd (omega arith)
-    more (r ∷ rows) zero h read = ap (λ (t : Bool). if t then row ∷ r ∷ rows else r ∷ put_in_order n row rows) (ap (λ (x : Mark × Terms). is_before (order_key n row.1) (order_key n x.1)) read ∙ later)
+    more (r ∷ rows) zero h read = ap (λ (t : Bool). if t then row ∷ r ∷ rows else r ∷ put_in_order n row rows)
+        (ap (λ (x : Mark × Terms). is_before (order_key n row.1) (order_key n x.1)) read ∙ later)
     more (r ∷ rows) (suc i) h read = ap (λ (rs : List (Mark × Terms)). r ∷ rs) (more rows i (omega arith) read)
 
 -- a row is put before the first one before which it comes
-pub place_found : (n : ℕ) (row other : Mark × Terms) (rows : List (Mark × Terms)) (i : ℕ) → i < length rows → get_or rows i other ≡ other → is_before (order_key n row.1) (order_key n other.1) ≡ true
+pub place_found : (n : ℕ) (row other : Mark × Terms) (rows : List (Mark × Terms)) (i : ℕ) → i < length rows → get_or rows i other ≡ other
+    → is_before (order_key n row.1) (order_key n other.1) ≡ true
     → put_in_order n row rows ≡ take i rows ++ put_in_order n row (drop i rows) → put_in_order n row rows ≡ insert rows i row
 place_found n row other rows i h read earlier e = e ∙ here rows i h read
   where
-    here : (rows : List (Mark × Terms)) (i : ℕ) → i < length rows → get_or rows i other ≡ other → take i rows ++ put_in_order n row (drop i rows) ≡ insert rows i row
+    here : (rows : List (Mark × Terms)) (i : ℕ) → i < length rows → get_or rows i other ≡ other
+        → take i rows ++ put_in_order n row (drop i rows) ≡ insert rows i row
     here [] i h read = absurd (omega arith)
-    here (r ∷ rows) zero h read = ap (λ (t : Bool). if t then row ∷ r ∷ rows else r ∷ put_in_order n row rows) (ap (λ (x : Mark × Terms). is_before (order_key n row.1) (order_key n x.1)) read ∙ earlier)
+    here (r ∷ rows) zero h read = ap (λ (t : Bool). if t then row ∷ r ∷ rows else r ∷ put_in_order n row rows)
+        (ap (λ (x : Mark × Terms). is_before (order_key n row.1) (order_key n x.1)) read ∙ earlier)
     here (r ∷ rows) (suc i) h read = ap (λ (rs : List (Mark × Terms)). r ∷ rs) (here rows i (omega arith) read)
 
 -- a row that comes before none is put behind all
-pub place_behind : (n : ℕ) (row : Mark × Terms) (rows : List (Mark × Terms)) (i : ℕ) → length rows ≤ i → i ≤ length rows → put_in_order n row rows ≡ take i rows ++ put_in_order n row (drop i rows)
+pub place_behind : (n : ℕ) (row : Mark × Terms) (rows : List (Mark × Terms)) (i : ℕ) → length rows ≤ i → i ≤ length rows
+    → put_in_order n row rows ≡ take i rows ++ put_in_order n row (drop i rows)
     → put_in_order n row rows ≡ insert rows (length rows) row
 place_behind n row rows i h k e = e ∙ behind rows i h k
   where
-    behind : (rows : List (Mark × Terms)) (i : ℕ) → length rows ≤ i → i ≤ length rows → take i rows ++ put_in_order n row (drop i rows) ≡ insert rows (length rows) row
+    behind : (rows : List (Mark × Terms)) (i : ℕ) → length rows ≤ i → i ≤ length rows
+        → take i rows ++ put_in_order n row (drop i rows) ≡ insert rows (length rows) row
     behind [] zero h k = refl
     behind [] (suc i) h k = absurd (omega arith)
     behind (r ∷ rows) zero h k = absurd (omega arith)
@@ -101,9 +113,11 @@ map-insert f (y ∷ xs) zero x = refl
 map-insert f (y ∷ xs) (suc i) x = ap (λ (ys : List _). f y ∷ ys) (map-insert f xs i x)
 
 -- one more row in order
-pub rates_more : (n : ℕ) (rows : List (Mark × Terms)) (i : ℕ) (row : Mark × Terms) → i < length rows → get_or rows i row ≡ row → rows_by_rates n (take (i + 1) rows) ≡ put_in_order n row (rows_by_rates n (take i rows))
+pub rates_more : (n : ℕ) (rows : List (Mark × Terms)) (i : ℕ) (row : Mark × Terms) → i < length rows → get_or rows i row ≡ row
+    → rows_by_rates n (take (i + 1) rows) ≡ put_in_order n row (rows_by_rates n (take i rows))
 rates_more n rows i row h read =
-    ap (rows_by_rates n) (take_more rows i row h ∙ ap (λ (r : Mark × Terms). take i rows ++ r ∷ []) read) ∙ fold-append (λ (sorted : List (Mark × Terms)) (r : Mark × Terms). put_in_order n r sorted) [] (take i rows) (row ∷ [])
+    ap (rows_by_rates n) (take_more rows i row h ∙ ap (λ (r : Mark × Terms). take i rows ++ r ∷ []) read)
+    ∙ fold-append (λ (sorted : List (Mark × Terms)) (r : Mark × Terms). put_in_order n r sorted) [] (take i rows) (row ∷ [])
 
 -- ---- what holds of each row holds of each in order
 
@@ -118,7 +132,8 @@ module _ (P : Mark × Terms → Type 0) (n : ℕ) where
 
   all_by_rates : (sorted rows : List (Mark × Terms)) → All P sorted → All P rows → All P (fold (λ sorted row. put_in_order n row sorted) sorted rows)
   all_by_rates sorted [] s all = s
-  all_by_rates sorted (row ∷ rows) s all = all_by_rates (put_in_order n row sorted) rows (all_with row sorted (All-head P row rows all) s) (All-tail P row rows all)
+  all_by_rates sorted (row ∷ rows) s all = all_by_rates (put_in_order n row sorted) rows (all_with row sorted (All-head P row rows all) s)
+      (All-tail P row rows all)
 
   pub all_told : (style : Style) (rows : List (Mark × Terms)) → All P rows → All P (told_rows style n rows)
   all_told Plain rows all = all
@@ -134,37 +149,49 @@ rows_at refs = map (λ r. r.now) refs
 pub in_rows : (refs : List (Bor (Mark × Terms))) (i : ℕ) → i < length refs → i < length (rows_at refs)
 in_rows refs i h = simp length-map h
 
-pub row_read : (refs : List (Bor (Mark × Terms))) (i : ℕ) (d : Bor (Mark × Terms)) → i < length refs → get_or (rows_at refs) i (get_or refs i d).now ≡ (get_or refs i d).now
+pub row_read : (refs : List (Bor (Mark × Terms))) (i : ℕ) (d : Bor (Mark × Terms)) → i < length refs
+    → get_or (rows_at refs) i (get_or refs i d).now ≡ (get_or refs i d).now
 row_read refs i d h = get_or-map (λ (r : Bor (Mark × Terms)). r.now) refs i d (get_or refs i d).now h
 
-pub next_place : (n : ℕ) (row : Mark × Terms) (refs : List (Bor (Mark × Terms))) (i : ℕ) (d : Bor (Mark × Terms)) (here : Bool) → i < length refs → here ≡ is_before (order_key n row.1) (order_key n (get_or refs i d).now.1) → here ≡ false
-    → put_in_order n row (rows_at refs) ≡ take i (rows_at refs) ++ put_in_order n row (drop i (rows_at refs)) → put_in_order n row (rows_at refs) ≡ take (i + 1) (rows_at refs) ++ put_in_order n row (drop (i + 1) (rows_at refs))
+pub next_place : (n : ℕ) (row : Mark × Terms) (refs : List (Bor (Mark × Terms))) (i : ℕ) (d : Bor (Mark × Terms)) (here : Bool)
+    → i < length refs → here ≡ is_before (order_key n row.1) (order_key n (get_or refs i d).now.1) → here ≡ false
+    → put_in_order n row (rows_at refs) ≡ take i (rows_at refs) ++ put_in_order n row (drop i (rows_at refs))
+    → put_in_order n row (rows_at refs) ≡ take (i + 1) (rows_at refs) ++ put_in_order n row (drop (i + 1) (rows_at refs))
 next_place n row refs i d here h is not e = place_goes_on n row (get_or refs i d).now (rows_at refs) i (in_rows refs i h) (row_read refs i d h) (sym is ∙ not) e
 
-pub this_place : (n : ℕ) (row : Mark × Terms) (refs : List (Bor (Mark × Terms))) (i : ℕ) (d : Bor (Mark × Terms)) (here : Bool) → i < length refs → here ≡ is_before (order_key n row.1) (order_key n (get_or refs i d).now.1) → here ≡ true
-    → put_in_order n row (rows_at refs) ≡ take i (rows_at refs) ++ put_in_order n row (drop i (rows_at refs)) → put_in_order n row (rows_at refs) ≡ insert (rows_at refs) i row
+pub this_place : (n : ℕ) (row : Mark × Terms) (refs : List (Bor (Mark × Terms))) (i : ℕ) (d : Bor (Mark × Terms)) (here : Bool)
+    → i < length refs → here ≡ is_before (order_key n row.1) (order_key n (get_or refs i d).now.1) → here ≡ true
+    → put_in_order n row (rows_at refs) ≡ take i (rows_at refs) ++ put_in_order n row (drop i (rows_at refs))
+    → put_in_order n row (rows_at refs) ≡ insert (rows_at refs) i row
 this_place n row refs i d here h is so e = place_found n row (get_or refs i d).now (rows_at refs) i (in_rows refs i h) (row_read refs i d h) (sym is ∙ so) e
 
-pub last_place : (n : ℕ) (row : Mark × Terms) (refs : List (Bor (Mark × Terms))) (i : ℕ) → length refs ≤ i → i ≤ length refs → put_in_order n row (rows_at refs) ≡ take i (rows_at refs) ++ put_in_order n row (drop i (rows_at refs))
+pub last_place : (n : ℕ) (row : Mark × Terms) (refs : List (Bor (Mark × Terms))) (i : ℕ) → length refs ≤ i → i ≤ length refs
+    → put_in_order n row (rows_at refs) ≡ take i (rows_at refs) ++ put_in_order n row (drop i (rows_at refs))
     → put_in_order n row (rows_at refs) ≡ insert (rows_at refs) (length refs) row
 last_place n row refs i h k e =
     let counted : length (rows_at refs) ≡ length refs = length-map refs (λ (r : Bor (Mark × Terms)). r.now) in
     place_behind n row (rows_at refs) i (omega (arith, counted)) (omega (arith, counted)) e ∙ ap (λ (k : ℕ). insert (rows_at refs) k row) counted
 
 -- a reference put in its place
-pub row_put : (n : ℕ) (row : Bor (Mark × Terms)) (old shown new : List (Bor (Mark × Terms))) (i : ℕ) → shown ≡ old → put_in_order n row.now (rows_at shown) ≡ insert (rows_at shown) i row.now → new ≡ insert old i row
+pub row_put : (n : ℕ) (row : Bor (Mark × Terms)) (old shown new : List (Bor (Mark × Terms))) (i : ℕ) → shown ≡ old
+    → put_in_order n row.now (rows_at shown) ≡ insert (rows_at shown) i row.now → new ≡ insert old i row
     → rows_at new ≡ put_in_order n row.now (rows_at old)
 row_put n row old shown new i same place is =
-    ap rows_at is ∙ map-insert (λ (r : Bor (Mark × Terms)). r.now) old i row ∙ sym (subst (λ (rs : List (Bor (Mark × Terms))). put_in_order n row.now (rows_at rs) ≡ insert (rows_at rs) i row.now) same place)
+    ap rows_at is ∙ map-insert (λ (r : Bor (Mark × Terms)). r.now) old i row
+    ∙ sym (subst (λ (rs : List (Bor (Mark × Terms))). put_in_order n row.now (rows_at rs) ≡ insert (rows_at rs) i row.now) same place)
 
 -- one more reference
-pub turn_more : (rows : List (Mark × Terms)) (row : Bor (Mark × Terms)) (old new : List (Bor (Mark × Terms))) (i : ℕ) → i < length rows → row.now ≡ get_or rows i row.now → new ≡ old ++ row ∷ [] → rows_at old ≡ take i rows → rows_at new ≡ take (i + 1) rows
+pub turn_more : (rows : List (Mark × Terms)) (row : Bor (Mark × Terms)) (old new : List (Bor (Mark × Terms))) (i : ℕ) → i < length rows
+    → row.now ≡ get_or rows i row.now → new ≡ old ++ row ∷ [] → rows_at old ≡ take i rows → rows_at new ≡ take (i + 1) rows
 turn_more rows row old new i h read is before =
-    ap rows_at is ∙ map-append (λ (r : Bor (Mark × Terms)). r.now) old (row ∷ []) ∙ ap₂ (λ (xs ys : List (Mark × Terms)). xs ++ ys) before (ap (λ (r : Mark × Terms). r ∷ []) read) ∙ sym (take_more rows i row.now h)
+    ap rows_at is ∙ map-append (λ (r : Bor (Mark × Terms)). r.now) old (row ∷ [])
+    ∙ ap₂ (λ (xs ys : List (Mark × Terms)). xs ++ ys) before (ap (λ (r : Mark × Terms). r ∷ []) read) ∙ sym (take_more rows i row.now h)
 
 -- each row that is told is over the names that all are over
-pub told_is_over : (v : NamesView) (style : Style) (n : ℕ) (rows : List (Mark × Terms)) (refs : List (Bor (Mark × Terms))) (i : ℕ) (d : Bor (Mark × Terms)) → All (λ row. IsRowOver v row.1) rows → rows_at refs ≡ told_rows style n rows → i < length refs
+pub told_is_over : (v : NamesView) (style : Style) (n : ℕ) (rows : List (Mark × Terms)) (refs : List (Bor (Mark × Terms))) (i : ℕ)
+    (d : Bor (Mark × Terms)) → All (λ row. IsRowOver v row.1) rows → rows_at refs ≡ told_rows style n rows → i < length refs
     → IsRowOver v (get_or refs i d).now.1
 told_is_over v style n rows refs i d all are h =
     let P : Mark × Terms → Type 0 = λ (row : Mark × Terms). IsRowOver v row.1 in
-    subst P (row_read refs i d h) (All-get_or P (rows_at refs) i (get_or refs i d).now (in_rows refs i h) (subst (All P) (sym are) (all_told P n style rows all)))
+    subst P (row_read refs i d h) (All-get_or P (rows_at refs) i (get_or refs i d).now (in_rows refs i h)
+    (subst (All P) (sym are) (all_told P n style rows all)))

@@ -7,11 +7,11 @@ use Rattle.std.proofs.lemmas.Bool.{true≢false}
 use Rattle.it_outside.specs.Groups.{Groups}
 use Rattle.it_space.specs.declared.spaces.Space.{Space}
 use Rattle.it_space.specs.declared.answers.Certificate.{Certificate}
-use Rattle.it_space.specs.declared.problems.Constraint.{Constraint}
-use Rattle.it_space.specs.declared.problems.Kind.{Kind}
-use Rattle.it_space.specs.declared.problems.Kind.TheVariants.{Inequality, Equation}
-use Rattle.it_space.specs.declared.problems.Origin.{Origin}
-use Rattle.it_space.specs.Problems.{IsMet, IsProblem, ProblemView}
+use Rattle.it_problems.specs.declared.problems.Constraint.{Constraint}
+use Rattle.it_problems.specs.declared.problems.Kind.{Kind}
+use Rattle.it_problems.specs.declared.problems.Kind.TheVariants.{Inequality, Equation}
+use Rattle.it_problems.specs.declared.problems.Origin.{Origin}
+use Rattle.it_problems.specs.Problems.{IsMet, IsProblem, ProblemView}
 use Rattle.it_space.specs.Answers.{CertificateView, certificate_view}
 use Rattle.it_space.specs.Answers.AnswerView.{Contained}
 use Rattle.it_space.specs.Rows.{IsOver, Terms, value}
@@ -61,14 +61,17 @@ free_problem q p question space none = record {
 pub valid_is_by_shannon : (p : ProblemView) (row : Terms) (w : CertificateView) (v : Verdict) → IsProblem p → p.constraints ≡ [] → IsOver (size_of p.space) row
     → v ≡ yes_verdict (generators p) (size_of p.space) row w → v ≡ Valid → IsByShannon p.space.variables (value row)
 valid_is_by_shannon p row w v posed none over is valid q k =
-    yes_is_true p row w posed over ((valid_yes_is p row w posed over).0 (sym is ∙ valid)).0 q k (subst (λ (cs : List Constraint). All (IsMet q) cs) (sym none) (All-nil (IsMet q)))
+    yes_is_true p row w posed over ((valid_yes_is p row w posed over).0 (sym is ∙ valid)).0 q k
+    (subst (λ (cs : List Constraint). All (IsMet q) cs) (sym none) (All-nil (IsMet q)))
 
 -- such an obligation has no lines
-pub obligation_free : (q : BodyView) (options : Options) (s : Space) (row : Terms) (w : CertificateView) (old : List ℕ) → s ≡ space_of (problem_names q) → IsByShannon s.variables (value row) → AppendsObligation q options (value row, w) old old
+pub obligation_free : (q : BodyView) (options : Options) (s : Space) (row : Terms) (w : CertificateView) (old : List ℕ)
+    → s ≡ space_of (problem_names q) → IsByShannon s.variables (value row) → AppendsObligation q options (value row, w) old old
 unfolding AppendsObligation
 obligation_free q options s row w old e is = (None, (subst (λ (t : Space). IsByShannon t.variables (value row)) e is, sym (append-nil old)))
 
-pub obligation_proved : (q : BodyView) (options : Options) (row : Terms) (w : CertificateView) (old new : List ℕ) → AppendsProof q options (value row, w) old new → AppendsObligation q options (value row, w) old new
+pub obligation_proved : (q : BodyView) (options : Options) (row : Terms) (w : CertificateView) (old new : List ℕ)
+    → AppendsProof q options (value row, w) old new → AppendsObligation q options (value row, w) old new
 unfolding AppendsObligation
 obligation_proved q options row w old new h = (Some h.texts, (h.are, h.new_is))
 
@@ -79,7 +82,8 @@ pub sets_more : (variables names : List (List ℕ)) (sets : List ℕ) (from i : 
     → mid ≡ out ++ (if i == 0 then codes " with" else codes ",") → new ≡ mid ++ part_for variables (get_or names (from + i) []) (get_or sets i 0) → out ++ sets_with (i == 0) variables (drop (from + i) names) (drop i sets) ≡ all
     → new ++ sets_with (i + 1 == 0) variables (drop (from + (i + 1)) names) (drop (i + 1) sets) ≡ all
 sets_more variables names sets from i out mid new all named set m n e =
-    ap (λ (t : List ℕ). new ++ t) rest_is ∙ ap (λ (t : List ℕ). t ++ rest) (n ∙ ap (λ (t : List ℕ). t ++ here) m) ∙ append_assoc (out ++ before) here rest ∙ append_assoc out before (here ++ rest)
+    ap (λ (t : List ℕ). new ++ t) rest_is ∙ ap (λ (t : List ℕ). t ++ rest) (n ∙ ap (λ (t : List ℕ). t ++ here) m)
+    ∙ append_assoc (out ++ before) here rest ∙ append_assoc out before (here ++ rest)
     ∙ ap (λ (t : List ℕ). out ++ t) (sym (append_assoc before here rest) ∙ sym next) ∙ e
   where
     before : List ℕ
@@ -104,7 +108,8 @@ sets_more variables names sets from i out mid new all named set m n e =
 -- ---- a line
 
 -- forms are at least 0 where their rows are
-forms_by_rows : (s : Space) (p : ℕ → ℤ) → p 0 ≡ pos 0 → (fs : List Form) (rows : List Terms) → ArePulledRows s fs rows → All (λ (f : Form). pos 0 ≤ℤ f p) (map value rows) ↔ All (λ (f : Form). pos 0 ≤ℤ f p) fs
+forms_by_rows : (s : Space) (p : ℕ → ℤ) → p 0 ≡ pos 0 → (fs : List Form) (rows : List Terms) → ArePulledRows s fs rows
+    → All (λ (f : Form). pos 0 ≤ℤ f p) (map value rows) ↔ All (λ (f : Form). pos 0 ≤ℤ f p) fs
 forms_by_rows s p z [] [] a = (λ h. h, λ h. h)
 forms_by_rows s p z [] (row ∷ rows) a = absurd a
 forms_by_rows s p z (f ∷ fs) [] a = absurd a
@@ -112,12 +117,14 @@ forms_by_rows s p z (f ∷ fs) (row ∷ rows) a =
     let P : Form → Type 0 = λ (g : Form). pos 0 ≤ℤ g p in
     let same : value row p ≡ f p = a.0.same p z in
     let more = forms_by_rows s p z fs rows a.1 in (
-      λ h. All-cons P f fs (subst (λ (x : ℤ). pos 0 ≤ℤ x) same (All-head P (value row) (map value rows) h)) (more.0 (All-tail P (value row) (map value rows) h)),
+      λ h. All-cons P f fs (subst (λ (x : ℤ). pos 0 ≤ℤ x) same (All-head P (value row) (map value rows) h))
+          (more.0 (All-tail P (value row) (map value rows) h)),
       λ h. All-cons P (value row) (map value rows) (subst (λ (x : ℤ). pos 0 ≤ℤ x) (sym same) (All-head P f fs h)) (more.1 (All-tail P f fs h)),
     )
 
 -- what a text says of rows, it says of their forms
-says_of_forms : (v : NamesView) (forms : List Form) (rows : List Terms) (text : List ℕ) → AreRowsFor forms rows → SaysOrNothing v (map value rows) text → TellsForms v forms text ⊎ (text ≡ [])
+says_of_forms : (v : NamesView) (forms : List Form) (rows : List Terms) (text : List ℕ) → AreRowsFor forms rows
+    → SaysOrNothing v (map value rows) text → TellsForms v forms text ⊎ (text ≡ [])
 unfolding AreRowsFor SaysOrNothing
 says_of_forms v forms rows text are (inl t) = inl (record {
   relation = t.relation;
@@ -133,15 +140,25 @@ zip_front (x ∷ xs) [] = refl
 zip_front (x ∷ xs) (y ∷ ys) = ap (λ (ps : List _). (x, y) ∷ ps) (zip_front xs ys)
 
 -- the comment of a line is appended, and below it its proofs
-pub own_line_appended : (q : BodyView) (options : Options) (parts : List ℕ) (origin : Origin) (rows : List Terms) (ws : List CertificateView) (relation below comment old mid new : List ℕ)
-    → SaysOrNothing (problem_names q) (map value rows) relation → AppendsOwnProofs q options rows ws [] below → comment ≡ own_line_comment q parts origin relation (length below == 0) → mid ≡ old ++ indented_line comment
+pub own_line_appended : (q : BodyView) (options : Options) (parts : List ℕ) (origin : Origin) (rows : List Terms)
+    (ws : List CertificateView) (relation below comment old mid new : List ℕ)
+    → SaysOrNothing (problem_names q) (map value rows) relation → AppendsOwnProofs q options rows ws [] below
+    → comment ≡ own_line_comment q parts origin relation (length below == 0) → mid ≡ old ++ indented_line comment
     → new ≡ mid ++ below → AppendsOwnLine q options parts origin rows ws old new
 unfolding AppendsEach AppendsOwnLine AppendsOwnProofs
 own_line_appended q options parts origin rows ws relation below comment old mid new says proved c m n = λ forms are. (
   indented_line (own_line_comment q parts origin relation (length below == 0)) ++ below,
   (
-    record { relation = relation; proofs = below; says = says_of_forms (problem_names q) forms rows relation are says; are = proofs_are forms are; out_is = refl },
-    n ∙ ap (λ (t : List ℕ). t ++ below) (m ∙ ap (λ (t : List ℕ). old ++ indented_line t) c) ∙ append_assoc old (indented_line (own_line_comment q parts origin relation (length below == 0))) below,
+    record {
+      relation = relation;
+      proofs = below;
+      says = says_of_forms (problem_names q) forms rows relation are says;
+      are = proofs_are
+          forms are;
+      out_is = refl;
+    },
+    n ∙ ap (λ (t : List ℕ). t ++ below) (m ∙ ap (λ (t : List ℕ). old ++ indented_line t) c)
+        ∙ append_assoc old (indented_line (own_line_comment q parts origin relation (length below == 0))) below,
   ),
 )
   where
@@ -155,7 +172,9 @@ own_line_appended q options parts origin rows ws relation below comment old mid 
 
 module _ {X A : Type 0} (shown : A → List ℕ) (tells : X → A → Type 0) where
   -- what is shown doesn't depend on the items' numbers
-  renumbered : (j k : ℕ) (items : List X) (out : List ℕ) → Groups (λ (s : Unit {0}) (x : X) (a : A). tells x a) (λ (s : Unit {0}) (x : X) (a : A). s) (λ (k : ℕ) (x : X) (a : A). shown a) j tt items tt out
+  renumbered : (j k : ℕ) (items : List X) (out : List ℕ)
+      → Groups (λ (s : Unit {0}) (x : X) (a : A). tells x a) (λ (s : Unit {0}) (x : X) (a : A). s)
+      (λ (k : ℕ) (x : X) (a : A). shown a) j tt items tt out
       → Groups (λ (s : Unit {0}) (x : X) (a : A). tells x a) (λ (s : Unit {0}) (x : X) (a : A). s) (λ (k : ℕ) (x : X) (a : A). shown a) k tt items tt out
   renumbered j k [] out g = g
   renumbered j k (x ∷ xs) out g = (g.0, g.1, g.2, renumbered (j + 1) (k + 1) xs g.1 g.3, g.4)
@@ -164,13 +183,22 @@ module _ {X A : Type 0} (shown : A → List ℕ) (tells : X → A → Type 0) wh
   unfolding AppendsEach
   none_told old = ([], ((refl, refl), sym (append-nil old)))
 
-  first_told : (x : X) (a : A) (xs : List X) (old now new : List ℕ) → tells x a → now ≡ old ++ shown a → AppendsEach shown tells xs now new → AppendsEach shown tells (x ∷ xs) old new
+  first_told : (x : X) (a : A) (xs : List X) (old now new : List ℕ) → tells x a → now ≡ old ++ shown a → AppendsEach shown tells xs now new
+      → AppendsEach shown tells (x ∷ xs) old new
   unfolding AppendsEach
-  first_told x a xs old now new t e h = (shown a ++ h.0, ((a, h.0, t, renumbered 1 (1 + 1) xs h.0 h.1.0, refl), h.1.1 ∙ ap (λ (b : List ℕ). b ++ h.0) e ∙ append_assoc old (shown a) h.0))
+  first_told x a xs old now new t e h = (
+    shown a ++ h.0,
+    (
+      (a, h.0, t, renumbered 1 (1 + 1) xs h.0 h.1.0, refl),
+      h.1.1
+          ∙ ap (λ (b : List ℕ). b ++ h.0) e ∙ append_assoc old (shown a) h.0,
+    ),
+  )
 
 -- ---- all lines
 
-zip_halves : {X Y : Type 0} (R : X → Y → Type 0) (xs us : List X) (ys : List Y) → AllZip R (xs ++ us) ys → AllZip R xs (take (length xs) ys) × AllZip R us (drop (length xs) ys)
+zip_halves : {X Y : Type 0} (R : X → Y → Type 0) (xs us : List X) (ys : List Y) → AllZip R (xs ++ us) ys
+    → AllZip R xs (take (length xs) ys) × AllZip R us (drop (length xs) ys)
 zip_halves R [] us ys a = (tt, a)
 zip_halves R (x ∷ xs) us [] a = absurd a
 zip_halves R (x ∷ xs) us (y ∷ ys) a = let more = zip_halves R xs us ys a.1 in ((a.0, more.0), more.1)
@@ -195,26 +223,32 @@ obliged_counted f d k e = by_kind d.kind ∙ ap obliged (sym e)
 abbrev line_with : List Form → Origin → List CertificateView → OwnLine
 line_with forms origin proofs = record { origin = origin; forms = forms; proofs = proofs }
 
-pub no_line : (q : BodyView) (options : Options) (parts : List ℕ) (rows : List Terms) (ws : List CertificateView) (old : List ℕ) → AppendsEachOwnLine q options parts [] rows ws old old
+pub no_line : (q : BodyView) (options : Options) (parts : List ℕ) (rows : List Terms) (ws : List CertificateView) (old : List ℕ)
+    → AppendsEachOwnLine q options parts [] rows ws old old
 unfolding AppendsEachOwnLine
 no_line q options parts rows ws old = λ s t f os ds are pulled. by_lines s f os ds are
   where
-    by_lines : (s : Space) (f : ℕ → ℕ) (os : List Origin) (ds : List Demand) → AreStated s os ds [] → AppendsEach (λ lines. lines) (AreOwnLineTexts q options parts) (own_lines_by f os ds ws) old old
+    by_lines : (s : Space) (f : ℕ → ℕ) (os : List Origin) (ds : List Demand) → AreStated s os ds []
+        → AppendsEach (λ lines. lines) (AreOwnLineTexts q options parts) (own_lines_by f os ds ws) old old
     by_lines s f [] [] are = none_told (λ lines. lines) (AreOwnLineTexts q options parts) old
     by_lines s f [] (d ∷ ds) are = absurd are.stated
     by_lines s f (o ∷ os) ds are = absurd are.placed
 
 -- the first line, and then the others
-pub line_more : (q : BodyView) (options : Options) (parts : List ℕ) (c : Constraint) (cs : List Constraint) (rows : List Terms) (proofs : List Certificate) (old now new : List ℕ)
+pub line_more : (q : BodyView) (options : Options) (parts : List ℕ) (c : Constraint) (cs : List Constraint) (rows : List Terms)
+    (proofs : List Certificate) (old now new : List ℕ)
     → AppendsOwnLine q options parts c.origin (take (obliged c.kind) rows) (map certificate_view (take (obliged c.kind) proofs)) old now
-    → AppendsEachOwnLine q options parts cs (drop (obliged c.kind) rows) (map certificate_view (drop (obliged c.kind) proofs)) now new → AppendsEachOwnLine q options parts (c ∷ cs) rows (map certificate_view proofs) old new
+    → AppendsEachOwnLine q options parts cs (drop (obliged c.kind) rows) (map certificate_view (drop (obliged c.kind) proofs)) now new
+    → AppendsEachOwnLine q options parts (c ∷ cs) rows (map certificate_view proofs) old new
 unfolding AppendsEachOwnLine AppendsOwnLine AreRowsFor
 line_more q options parts c cs rows proofs old now new first later = λ s t f os ds are pulled. by_lines s t f os ds are pulled
   where
     ws : List CertificateView
     ws = map certificate_view proofs
 
-    by_lines : (s t : Space) (f : ℕ → ℕ) (os : List Origin) (ds : List Demand) → AreStated s os ds (c ∷ cs) → ArePulledRows t (demand_obligations f ds) rows → AppendsEach (λ lines. lines) (AreOwnLineTexts q options parts) (own_lines_by f os ds ws) old new
+    by_lines : (s t : Space) (f : ℕ → ℕ) (os : List Origin) (ds : List Demand) → AreStated s os ds (c ∷ cs)
+        → ArePulledRows t (demand_obligations f ds) rows
+        → AppendsEach (λ lines. lines) (AreOwnLineTexts q options parts) (own_lines_by f os ds ws) old new
     by_lines s t f [] ds are pulled = absurd are.placed
     by_lines s t f (o ∷ os) [] are pulled = absurd are.stated
     by_lines s t f (o ∷ os) (d ∷ ds) are pulled =
@@ -223,41 +257,57 @@ line_more q options parts c cs rows proofs old now new first later = λ s t f os
         let halves = zip_halves (IsPulledRow t) fs (demand_obligations f ds) rows pulled in
         let told = first fs (t, subst (λ (j : ℕ). ArePulledRows t fs (take j rows)) counted halves.0) in
         let proofs_are : take (length fs) (map certificate_view (take (obliged c.kind) proofs)) ≡ take (length fs) ws =
-        subst (λ (j : ℕ). take (length fs) (map certificate_view (take j proofs)) ≡ take (length fs) ws) counted (front_of_front certificate_view (length fs) proofs) in
-        let line_is : own_line c.origin fs (map certificate_view (take (obliged c.kind) proofs)) ≡ own_line o fs ws = ap₂ (line_with fs) are.placed.0 proofs_are in
-        let rest_is : map certificate_view (drop (obliged c.kind) proofs) ≡ drop (length fs) ws = subst (λ (j : ℕ). map certificate_view (drop j proofs) ≡ drop (length fs) ws) counted (map_rest certificate_view (length fs) proofs) in
-        first_told (λ lines. lines) (AreOwnLineTexts q options parts) (own_line o fs ws) told.0 (own_lines_by f os ds (drop (length fs) ws)) old now new (subst (λ (l : OwnLine). AreOwnLineTexts q options parts l told.0) line_is told.1.0) told.1.1
+        subst (λ (j : ℕ). take (length fs) (map certificate_view (take j proofs)) ≡ take (length fs) ws) counted
+        (front_of_front certificate_view (length fs) proofs) in
+        let line_is : own_line c.origin fs (map certificate_view (take (obliged c.kind) proofs))
+        ≡ own_line o fs ws = ap₂ (line_with fs) are.placed.0 proofs_are in
+        let rest_is : map certificate_view (drop (obliged c.kind) proofs)
+        ≡ drop (length fs) ws = subst (λ (j : ℕ). map certificate_view (drop j proofs) ≡ drop (length fs) ws) counted
+        (map_rest certificate_view (length fs) proofs) in
+        first_told (λ lines. lines) (AreOwnLineTexts q options parts) (own_line o fs ws) told.0
+        (own_lines_by f os ds (drop (length fs) ws)) old now new (subst (λ (l : OwnLine). AreOwnLineTexts q options parts l told.0)
+        line_is told.1.0) told.1.1
         (subst (λ (ps : List CertificateView). AppendsEach (λ lines. lines) (AreOwnLineTexts q options parts) (own_lines_by f os ds ps) now new) rest_is
-        (later s t f os ds (record { placed = are.placed.1; stated = are.stated.1 }) (subst (λ (j : ℕ). ArePulledRows t (demand_obligations f ds) (drop j rows)) counted halves.1)))
+        (later s t f os ds (record { placed = are.placed.1; stated = are.stated.1 })
+        (subst (λ (j : ℕ). ArePulledRows t (demand_obligations f ds) (drop j rows)) counted halves.1)))
 
 -- a list from a place on
 rest_from : {X : Type 0} (xs : List X) (i : ℕ) (x : X) → i < length xs → x ≡ get_or xs i x → drop i xs ≡ x ∷ drop (i + 1) xs
 rest_from {X} xs i x h read = let next : suc i ≡ i + 1 = omega arith in drop-cons xs i x h ∙ ap₂ (λ (y : X) (j : ℕ). y ∷ drop j xs) (sym read) next
 
 -- the line at a place, and then those behind it
-pub lines_go_on : (q : BodyView) (options : Options) (parts : List ℕ) (own : List Constraint) (i : ℕ) (c : Constraint) (rows : List Terms) (proofs : List Certificate) (old now new : List ℕ) → i < length own → c ≡ get_or own i c
+pub lines_go_on : (q : BodyView) (options : Options) (parts : List ℕ) (own : List Constraint) (i : ℕ) (c : Constraint) (rows : List Terms)
+    (proofs : List Certificate) (old now new : List ℕ) → i < length own → c ≡ get_or own i c
     → AppendsOwnLine q options parts c.origin (take (obliged c.kind) rows) (map certificate_view (take (obliged c.kind) proofs)) old now
     → AppendsEachOwnLine q options parts (drop (i + 1) own) (drop (obliged c.kind) rows) (map certificate_view (drop (obliged c.kind) proofs)) now new
     → AppendsEachOwnLine q options parts (drop i own) rows (map certificate_view proofs) old new
 lines_go_on q options parts own i c rows proofs old now new h read first later =
-    subst (λ (cs : List Constraint). AppendsEachOwnLine q options parts cs rows (map certificate_view proofs) old new) (sym (rest_from own i c h read)) (line_more q options parts c (drop (i + 1) own) rows proofs old now new first later)
+    subst (λ (cs : List Constraint). AppendsEachOwnLine q options parts cs rows (map certificate_view proofs) old new)
+    (sym (rest_from own i c h read)) (line_more q options parts c (drop (i + 1) own) rows proofs old now new first later)
 
 -- `lines_go_on` where a call has split the rows and the proofs
-pub lines_after : (q : BodyView) (options : Options) (parts : List ℕ) (own : List Constraint) (i : ℕ) (c : Constraint) (rows front back : List Terms) (proofs proofs_front proofs_back : List Certificate) (count : ℕ) (old now new : List ℕ)
-    → i < length own → c ≡ get_or own i c → count ≡ obliged c.kind → front ≡ take count rows → back ≡ drop count rows → proofs_front ≡ take count proofs → proofs_back ≡ drop count proofs
-    → AppendsOwnLine q options parts c.origin front (map certificate_view proofs_front) old now → AppendsEachOwnLine q options parts (drop (i + 1) own) back (map certificate_view proofs_back) now new
+pub lines_after : (q : BodyView) (options : Options) (parts : List ℕ) (own : List Constraint) (i : ℕ) (c : Constraint)
+    (rows front back : List Terms) (proofs proofs_front proofs_back : List Certificate) (count : ℕ) (old now new : List ℕ)
+    → i < length own → c ≡ get_or own i c → count ≡ obliged c.kind → front ≡ take count rows → back ≡ drop count rows
+    → proofs_front ≡ take count proofs → proofs_back ≡ drop count proofs
+    → AppendsOwnLine q options parts c.origin front (map certificate_view proofs_front) old now
+    → AppendsEachOwnLine q options parts (drop (i + 1) own) back (map certificate_view proofs_back) now new
     → AppendsEachOwnLine q options parts (drop i own) rows (map certificate_view proofs) old new
 lines_after q options parts own i c rows front back proofs proofs_front proofs_back count old now new h read e f b pf pb first later =
     lines_go_on q options parts own i c rows proofs old now new h read
-    (subst₂ (λ (rs : List Terms) (ps : List Certificate). AppendsOwnLine q options parts c.origin rs (map certificate_view ps) old now) (f ∙ ap (λ (k : ℕ). take k rows) e) (pf ∙ ap (λ (k : ℕ). take k proofs) e) first)
-    (subst₂ (λ (rs : List Terms) (ps : List Certificate). AppendsEachOwnLine q options parts (drop (i + 1) own) rs (map certificate_view ps) now new) (b ∙ ap (λ (k : ℕ). drop k rows) e) (pb ∙ ap (λ (k : ℕ). drop k proofs) e) later)
+    (subst₂ (λ (rs : List Terms) (ps : List Certificate). AppendsOwnLine q options parts c.origin rs (map certificate_view ps) old now)
+    (f ∙ ap (λ (k : ℕ). take k rows) e) (pf ∙ ap (λ (k : ℕ). take k proofs) e) first)
+    (subst₂ (λ (rs : List Terms) (ps : List Certificate). AppendsEachOwnLine q options parts (drop (i + 1) own) rs
+    (map certificate_view ps) now new) (b ∙ ap (λ (k : ℕ). drop k rows) e) (pb ∙ ap (λ (k : ℕ). drop k proofs) e) later)
 
 -- the obligations of the constraints from a place on
-pub obligations_go_on : (own : List Constraint) (i : ℕ) (c : Constraint) (count : ℕ) → i < length own → c ≡ get_or own i c → HasObligations (drop i own) count → (obliged c.kind ≤ count) × HasObligations (drop (i + 1) own) (count - obliged c.kind)
+pub obligations_go_on : (own : List Constraint) (i : ℕ) (c : Constraint) (count : ℕ) → i < length own → c ≡ get_or own i c
+    → HasObligations (drop i own) count → (obliged c.kind ≤ count) × HasObligations (drop (i + 1) own) (count - obliged c.kind)
 obligations_go_on own i c count h read all = subst (λ (cs : List Constraint). HasObligations cs count) (rest_from own i c h read) all
 
 -- the obligations of the constraints
-obligations_there : (s t : Space) (f : ℕ → ℕ) (ds : List Demand) (cs : List Constraint) (rows : List Terms) → AllZip (States s) ds cs → ArePulledRows t (demand_obligations f ds) rows → HasObligations cs (length rows)
+obligations_there : (s t : Space) (f : ℕ → ℕ) (ds : List Demand) (cs : List Constraint) (rows : List Terms) → AllZip (States s) ds cs
+    → ArePulledRows t (demand_obligations f ds) rows → HasObligations cs (length rows)
 obligations_there s t f [] [] [] a b = refl
 obligations_there s t f [] [] (row ∷ rows) a b = absurd b
 obligations_there s t f [] (c ∷ cs) rows a b = absurd a
@@ -268,7 +318,8 @@ obligations_there s t f (d ∷ ds) (c ∷ cs) rows a b =
     let all : length rows ≡ length (fs ++ demand_obligations f ds) = zip-length (IsPulledRow t) (fs ++ demand_obligations f ds) rows b in
     let rest : length (drop (length fs) rows) ≡ length rows - obliged c.kind = length-drop (length fs) rows ∙ ap (λ (k : ℕ). length rows - k) counted in (
       omega (arith, all, counted, length-append fs (demand_obligations f ds)),
-      subst (HasObligations cs) rest (obligations_there s t f ds cs (drop (length fs) rows) a.1 (zip_halves (IsPulledRow t) fs (demand_obligations f ds) rows b).1),
+      subst (HasObligations cs) rest (obligations_there s t f ds cs (drop (length fs) rows) a.1
+          (zip_halves (IsPulledRow t) fs (demand_obligations f ds) rows b).1),
     )
 
 -- ---- a containment
@@ -277,24 +328,30 @@ module _ (q : BodyView) (parts : List ℕ) (ws : List CertificateView) (cs : Lis
   pub all_obligations_there : AreOwnConstraints q cs → AreObligations q (Contained parts ws) rows → HasObligations cs (length rows)
   all_obligations_there own are = by_verb q.verb own are
     where
-      by_verb : (verb : VerbView) → AreOwnConstraintsBy verb cs → ArePulledRows (space_of (problem_names q)) (answer_forms_by q verb (Contained parts ws)) rows → HasObligations cs (length rows)
+      by_verb : (verb : VerbView) → AreOwnConstraintsBy verb cs
+          → ArePulledRows (space_of (problem_names q)) (answer_forms_by q verb (Contained parts ws)) rows → HasObligations cs (length rows)
       by_verb (Prove r) own are = absurd own
       by_verb (Eliminate rates) own are = absurd own
       by_verb (Contain a b tries) own are =
-          obligations_there (space_of b.names) (space_of (problem_names q)) (pulled_coordinate (length a.names.variables) (length b.names.variables) (substituted_sets (length q.names.variables) parts))
+          obligations_there (space_of b.names) (space_of (problem_names q))
+          (pulled_coordinate (length a.names.variables) (length b.names.variables) (substituted_sets (length q.names.variables) parts))
           (line_demands (length b.names.variables) b.lines) cs rows own.stated are
 
   -- lines that aren't plain
-  pub lines_details : (options : Options) (old new : List ℕ) → is_plain options.style ≡ false → AreOwnConstraints q cs → AreObligations q (Contained parts ws) rows → AppendsEachOwnLine q options parts cs rows ws old new
+  pub lines_details : (options : Options) (old new : List ℕ) → is_plain options.style ≡ false → AreOwnConstraints q cs
+      → AreObligations q (Contained parts ws) rows → AppendsEachOwnLine q options parts cs rows ws old new
       → AppendsDetails q options (Contained parts ws) old new
   unfolding AppendsDetails AppendsEach AppendsEachOwnLine AreContainedLines AreDetails
   lines_details options old new lines own are h = by_style options.style refl
     where
-      by_verb : (verb : VerbView) → AreOwnConstraintsBy verb cs → ArePulledRows (space_of (problem_names q)) (answer_forms_by q verb (Contained parts ws)) rows → AppendsEach (λ lines. lines) (AreOwnLineTexts q options parts) (verb_lines q verb parts ws) old new
+      by_verb : (verb : VerbView) → AreOwnConstraintsBy verb cs
+          → ArePulledRows (space_of (problem_names q)) (answer_forms_by q verb (Contained parts ws)) rows
+          → AppendsEach (λ lines. lines) (AreOwnLineTexts q options parts) (verb_lines q verb parts ws) old new
       by_verb (Prove r) own are = absurd own
       by_verb (Eliminate rates) own are = absurd own
       by_verb (Contain a b tries) own are =
-          h (space_of b.names) (space_of (problem_names q)) (pulled_coordinate (length a.names.variables) (length b.names.variables) (substituted_sets (length q.names.variables) parts))
+          h (space_of b.names) (space_of (problem_names q)) (pulled_coordinate (length a.names.variables) (length b.names.variables)
+          (substituted_sets (length q.names.variables) parts))
           (line_origins (length b.names.variables) b.lines) (line_demands (length b.names.variables) b.lines) own are
 
       by_style : (style : Style) → options.style ≡ style → (details : List ℕ) × (AreContainedLines q options style parts ws details × (new ≡ old ++ details))
@@ -303,7 +360,9 @@ module _ (q : BodyView) (parts : List ℕ) (ws : List CertificateView) (cs : Lis
       by_style Whole e = by_verb q.verb own are
 
 -- the obligations' rows are over the coordinates of the problem without constraints
-pub rows_over : (q : BodyView) (free : ProblemView) (parts : List ℕ) (ws : List CertificateView) (rows : List Terms) → IsFreeProblem q free → AreObligations q (Contained parts ws) rows → All (IsOver (size_of free.space)) rows
+pub rows_over : (q : BodyView) (free : ProblemView) (parts : List ℕ) (ws : List CertificateView) (rows : List Terms) → IsFreeProblem q free
+    → AreObligations q (Contained parts ws) rows → All (IsOver (size_of free.space)) rows
 rows_over q free parts ws rows is are =
     subst (λ (s : Space). All (IsOver (size_of s)) rows) (sym is.space)
-    (zip-right (IsPulledRow (space_of (problem_names q))) (IsOver (size_of (space_of (problem_names q)))) (λ f row pulled. pulled.coordinates) (answer_forms_by q q.verb (Contained parts ws)) rows are)
+    (zip-right (IsPulledRow (space_of (problem_names q))) (IsOver (size_of (space_of (problem_names q))))
+    (λ f row pulled. pulled.coordinates) (answer_forms_by q q.verb (Contained parts ws)) rows are)

@@ -15,7 +15,7 @@ use Rattle.it_space.specs.declared.answers.Cause.{Cause}
 use Rattle.it_space.specs.declared.answers.Mark.{Mark}
 use Rattle.it_space.specs.Answers.{AnswerView, CertificateView, answer_view, certificate_view}
 use Rattle.it_space.specs.Answers.AnswerView.{Yes, Contained}
-use Rattle.it_space.specs.Problems.{ProblemView}
+use Rattle.it_problems.specs.Problems.{ProblemView}
 use Rattle.it_space.specs.Rows.{Terms, IsOver}
 use Rattle.it_space.specs.Spaces.{size_of}
 use Rattle.it_space.proofs.OptionLemmas.{some_same}
@@ -70,7 +70,8 @@ each_valid v u e = by_test (is_valid v) refl e
     by_test false is e = absurd (true≢false (sym (ap is_valid e) ∙ is))
 
 -- an answer that is judged and not invalid has the verdict `Valid`
-judged_valid : (q : BodyView) (a : AnswerView) (v : LineVerdict) (w : Verdict) → verdict_of q a ≡ Some w → IsAnswerVerdict q a v → is_invalid v ≡ false → w ≡ Valid
+judged_valid : (q : BodyView) (a : AnswerView) (v : LineVerdict) (w : Verdict) → verdict_of q a ≡ Some w → IsAnswerVerdict q a v
+    → is_invalid v ≡ false → w ≡ Valid
 judged_valid q a NotJson w judged is e = absurd is
 judged_valid q a (Shape key) w judged is e = absurd is
 judged_valid q a Skipped w judged is e = let none : Some w ≡ None = sym judged ∙ is in absurd cc
@@ -88,27 +89,34 @@ module _ (q : BodyView) (p : ProblemView) (is : IsProblemOf q p) where
 
   generators_there : (t : Terms) (c : Certificate) → IsOver (size_of p.space) t → proof_verdict p t (certificate_view c) ≡ Valid
       → All (λ (w : ℕ × ℤ). w.0 < length (elementals (variable_count q)) + length (question_demands q)) c.weights.items
-  generators_there t c u e = All-weaker (IsAllowed (forms_of (generators p))) (λ (w : ℕ × ℤ). w.0 < length (elementals (variable_count q)) + length (question_demands q))
+  generators_there t c u e = All-weaker (IsAllowed (forms_of (generators p)))
+      (λ (w : ℕ × ℤ). w.0 < length (elementals (variable_count q)) + length (question_demands q))
       (λ w a. omega (arith, a.0, generators_counted)) c.weights.items ((valid_yes_is p t (certificate_view c) is.limits u).0 e).0.allowed
 
   -- the generators of certificates, one for each row, are there
-  all_listed : (ts : List Terms) (cs : List Certificate) → All (IsOver (size_of p.space)) ts → length cs ≡ length ts → proofs_verdict p ts (map certificate_view cs) ≡ Valid → AreListed (variable_count q) (length (question_demands q)) cs
+  all_listed : (ts : List Terms) (cs : List Certificate) → All (IsOver (size_of p.space)) ts → length cs ≡ length ts
+      → proofs_verdict p ts (map certificate_view cs) ≡ Valid → AreListed (variable_count q) (length (question_demands q)) cs
   unfolding proofs_verdict
-  all_listed ts [] u l e = All-nil (λ (c : Certificate). All (λ (w : ℕ × ℤ). w.0 < length (elementals (variable_count q)) + length (question_demands q)) c.weights.items)
+  all_listed ts [] u l e = All-nil (λ (c : Certificate). All (λ (w : ℕ × ℤ). w.0
+      < length (elementals (variable_count q)) + length (question_demands q)) c.weights.items)
   all_listed [] (c ∷ cs) u l e = absurd (omega (arith, l))
   all_listed (t ∷ ts) (c ∷ cs) u l e =
       let each = each_valid (proof_verdict p t (certificate_view c)) (proofs_verdict p ts (map certificate_view cs)) e in
       All-cons (λ (c : Certificate). All (λ (w : ℕ × ℤ). w.0 < length (elementals (variable_count q)) + length (question_demands q)) c.weights.items) c cs
-      (generators_there t c (All-head (IsOver (size_of p.space)) t ts u) each.0) (all_listed ts cs (All-tail (IsOver (size_of p.space)) t ts u) (omega (arith, l)) each.1)
+      (generators_there t c (All-head (IsOver (size_of p.space)) t ts u) each.0)
+      (all_listed ts cs (All-tail (IsOver (size_of p.space)) t ts u) (omega (arith, l)) each.1)
 
 terms_up_to : (q : BodyView) (fs : List Form) → All (IsOver (size_of (space_of (problem_names q)))) (map (terms_in q) fs)
 terms_up_to q [] = All-nil (IsOver (size_of (space_of (problem_names q))))
-terms_up_to q (f ∷ fs) = All-cons (IsOver (size_of (space_of (problem_names q)))) (terms_in q f) (map (terms_in q) fs) (form_up_to (size_of (space_of (problem_names q))) f) (terms_up_to q fs)
+terms_up_to q (f ∷ fs) = All-cons (IsOver (size_of (space_of (problem_names q)))) (terms_in q f) (map (terms_in q) fs)
+    (form_up_to (size_of (space_of (problem_names q))) f) (terms_up_to q fs)
 
-proofs_listed : (q : BodyView) → IsProblemOf q (problem_of q) → (fs : List Form) (cs : List Certificate) → length fs ≡ length (map certificate_view cs) → proofs_verdict (problem_of q) (map (terms_in q) fs) (map certificate_view cs) ≡ Valid
+proofs_listed : (q : BodyView) → IsProblemOf q (problem_of q) → (fs : List Form) (cs : List Certificate)
+    → length fs ≡ length (map certificate_view cs) → proofs_verdict (problem_of q) (map (terms_in q) fs) (map certificate_view cs) ≡ Valid
     → AreListed (variable_count q) (length (question_demands q)) cs
 proofs_listed q posed fs cs counted valid =
-    all_listed q (problem_of q) posed (map (terms_in q) fs) cs (terms_up_to q fs) (sym (length-map cs certificate_view) ∙ sym counted ∙ sym (length-map fs (terms_in q))) valid
+    all_listed q (problem_of q) posed (map (terms_in q) fs) cs (terms_up_to q fs)
+    (sym (length-map cs certificate_view) ∙ sym counted ∙ sym (length-map fs (terms_in q))) valid
 
 -- ---- how many forms an answer has proofs of
 
@@ -120,7 +128,8 @@ yes_counted q ws h = by_verb q.verb (verb_fits q (Yes ws) q.verb refl h)
     by_verb (Eliminate rates) h = absurd h
     by_verb (Contain first second tries) h = absurd h
 
-pub contained_counted : (q : BodyView) (parts : List ℕ) (ws : List CertificateView) → HasQuestionShape q (Contained parts ws) → length (answer_forms q (Contained parts ws)) ≡ length ws
+pub contained_counted : (q : BodyView) (parts : List ℕ) (ws : List CertificateView) → HasQuestionShape q (Contained parts ws)
+    → length (answer_forms q (Contained parts ws)) ≡ length ws
 contained_counted q parts ws h = by_verb q.verb (verb_fits q (Contained parts ws) q.verb refl h)
   where
     by_verb : (verb : VerbView) → HasVerbShape q.names verb (Contained parts ws) → length (answer_forms_by q verb (Contained parts ws)) ≡ length ws
@@ -143,18 +152,22 @@ rows_over : (v : NamesView) (rows : List (Mark × Terms)) → All (IsRowIn (size
 rows_over v rows h = All-weaker (IsRowIn (size_of (space_of v))) (λ (row : Mark × Terms). IsRowOver v row.1) (λ row r. row_over v row.1 r.coordinates) rows h
 
 -- the parts are as many as the names of auxiliary variables
-parts_named : (q : BodyView) (first second : RegionView) (tries : List (List ℕ)) (parts : List ℕ) → q.verb ≡ Contain first second tries → IsQuestion q → length parts ≡ second.auxiliaries → length parts ≡ length (auxiliary_names q.names q.verb)
+parts_named : (q : BodyView) (first second : RegionView) (tries : List (List ℕ)) (parts : List ℕ) → q.verb ≡ Contain first second tries
+    → IsQuestion q → length parts ≡ second.auxiliaries → length parts ≡ length (auxiliary_names q.names q.verb)
 parts_named q first second tries parts about k each =
     let region = (subst (IsVerbOver q.names) about k.verb).1 in
-    each ∙ region.counted ∙ ap length (sym (ap (auxiliary_names q.names) about ∙ ap (drop (length q.names.variables)) region.variables ∙ drop-append_seam q.names.variables region.own))
+    each ∙ region.counted ∙ ap length (sym (ap (auxiliary_names q.names) about ∙ ap (drop (length q.names.variables)) region.variables
+    ∙ drop-append_seam q.names.variables region.own))
 
 module _ (q : BodyView) (k : IsQuestion q) (posed : IsProblemOf q (problem_of q)) (v : LineVerdict) (accepted : is_invalid v ≡ false) where
-  printable_relation : (r : RelationView) (a : Answer) → q.verb ≡ Prove r → HasQuestionShape q (answer_view a) → IsAnswerVerdict q (answer_view a) v → HasVerbShape q.names (Prove r) (answer_view a)
+  printable_relation : (r : RelationView) (a : Answer) → q.verb ≡ Prove r → HasQuestionShape q (answer_view a)
+      → IsAnswerVerdict q (answer_view a) v → HasVerbShape q.names (Prove r) (answer_view a)
       → IsPrintable q (length (question_demands q)) a
   printable_relation r (answers.Yes proofs) about fits is h =
       let ws = map certificate_view proofs.items in
       let forms = answer_forms q (Yes ws) in
-      proofs_listed q posed forms proofs.items (yes_counted q ws fits) (judged_valid q (Yes ws) v (proofs_verdict (problem_of q) (map (terms_in q) forms) ws) refl is accepted)
+      proofs_listed q posed forms proofs.items (yes_counted q ws fits) (judged_valid q (Yes ws) v
+      (proofs_verdict (problem_of q) (map (terms_in q) forms) ws) refl is accepted)
   printable_relation r (answers.No back point) about fits is h =
       let own : problem_names q ≡ q.names = ap (names_under q.names) about in
       let size : length point ≡ size_of (space_of (problem_names q)) = subst (λ (ns : NamesView). length point ≡ size_of (space_of ns)) (sym own) h.0 in
@@ -162,22 +175,27 @@ module _ (q : BodyView) (k : IsQuestion q) (posed : IsProblemOf q (problem_of q)
       let few_rates : length (problem_names q).rates ≤ 16 = subst (λ (ns : NamesView). length ns.rates ≤ 16) (sym own) k.few_rates in
       (omega (arith, size, pow_pos (variable_count q)), omega (arith, size, pow_mono {i = variable_count q} {j = 10} few, few_rates))
   printable_relation r (answers.Undecided cause) about fits is h =
-      subst (λ (ns : NamesView). IsCauseOf (length ns.rates) cause) (sym (let own : problem_names q ≡ q.names = ap (names_under q.names) about in own)) (cause_of_rates q.names cause h)
+      subst (λ (ns : NamesView). IsCauseOf (length ns.rates) cause) (sym
+      (let own : problem_names q ≡ q.names = ap (names_under q.names) about in own)) (cause_of_rates q.names cause h)
   printable_relation r (answers.Region rows) about fits is h = absurd h
   printable_relation r (answers.Contained parts proofs) about fits is h = absurd h
   printable_relation r (answers.Open tried) about fits is h = absurd h
 
-  printable_region : (rates : List ℕ) (a : Answer) → q.verb ≡ Eliminate rates → HasVerbShape q.names (Eliminate rates) (answer_view a) → IsPrintable q (length (question_demands q)) a
+  printable_region : (rates : List ℕ) (a : Answer) → q.verb ≡ Eliminate rates → HasVerbShape q.names (Eliminate rates) (answer_view a)
+      → IsPrintable q (length (question_demands q)) a
   printable_region rates (answers.Yes proofs) about h = absurd h
   printable_region rates (answers.No back point) about h = absurd h
   printable_region rates (answers.Undecided cause) about h =
-      subst (λ (ns : NamesView). IsCauseOf (length ns.rates) cause) (sym (let own : problem_names q ≡ q.names = ap (names_under q.names) about in own)) (cause_of_rates q.names cause h)
+      subst (λ (ns : NamesView). IsCauseOf (length ns.rates) cause) (sym
+      (let own : problem_names q ≡ q.names = ap (names_under q.names) about in own)) (cause_of_rates q.names cause h)
   printable_region rates (answers.Region rows) about h =
-      subst (λ (ns : NamesView). All (λ (row : Mark × Terms). IsRowOver ns row.1) rows.items) (sym (let own : problem_names q ≡ q.names = ap (names_under q.names) about in own)) (rows_over q.names rows.items h)
+      subst (λ (ns : NamesView). All (λ (row : Mark × Terms). IsRowOver ns row.1) rows.items)
+      (sym (let own : problem_names q ≡ q.names = ap (names_under q.names) about in own)) (rows_over q.names rows.items h)
   printable_region rates (answers.Contained parts proofs) about h = absurd h
   printable_region rates (answers.Open tried) about h = absurd h
 
-  printable_containment : (first second : RegionView) (tries : List (List ℕ)) (a : Answer) → q.verb ≡ Contain first second tries → HasQuestionShape q (answer_view a) → IsAnswerVerdict q (answer_view a) v
+  printable_containment : (first second : RegionView) (tries : List (List ℕ)) (a : Answer) → q.verb ≡ Contain first second tries
+      → HasQuestionShape q (answer_view a) → IsAnswerVerdict q (answer_view a) v
       → HasVerbShape q.names (Contain first second tries) (answer_view a) → IsPrintable q (length (question_demands q)) a
   printable_containment first second tries (answers.Yes proofs) about fits is h = absurd h
   printable_containment first second tries (answers.No back point) about fits is h = absurd h
@@ -188,7 +206,8 @@ module _ (q : BodyView) (k : IsQuestion q) (posed : IsProblemOf q (problem_of q)
       let a = Contained parts.items ws in
       let forms = answer_forms q a in (
         parts_named q first second tries parts.items about k h.each,
-        proofs_listed q posed forms proofs.items (contained_counted q parts.items ws fits) (judged_valid q a v (proofs_verdict (problem_of q) (map (terms_in q) forms) ws) refl is accepted),
+        proofs_listed q posed forms proofs.items (contained_counted q parts.items ws fits)
+            (judged_valid q a v (proofs_verdict (problem_of q) (map (terms_in q) forms) ws) refl is accepted),
       )
   printable_containment first second tries (answers.Open tried) about fits is h = tt
 
@@ -198,4 +217,5 @@ module _ (q : BodyView) (k : IsQuestion q) (posed : IsProblemOf q (problem_of q)
       by_verb : (verb : VerbView) → q.verb ≡ verb → IsPrintable q (length (question_demands q)) a
       by_verb (Prove r) about = printable_relation r a about fits is (verb_fits q (answer_view a) (Prove r) about fits)
       by_verb (Eliminate rates) about = printable_region rates a about (verb_fits q (answer_view a) (Eliminate rates) about fits)
-      by_verb (Contain first second tries) about = printable_containment first second tries a about fits is (verb_fits q (answer_view a) (Contain first second tries) about fits)
+      by_verb (Contain first second tries) about = printable_containment first second tries a about fits is
+          (verb_fits q (answer_view a) (Contain first second tries) about fits)

@@ -31,14 +31,16 @@ use Rattle.it_terms.specs.Proofs.{constraints_of}
 use Rattle.it_terms.proofs.SameProofs.{proof_of_same, same_constraints, under_of_same_target}
 
 -- the row at a place is that of the form there
-row_at_place : (s : Space) (fs : List Form) (ts : List Terms) (i : ℕ) → ArePulledRows s fs ts → i < length fs → IsPulledRow s (get_or fs i (λ p. pos 0)) (get_or ts i [])
+row_at_place : (s : Space) (fs : List Form) (ts : List Terms) (i : ℕ) → ArePulledRows s fs ts → i < length fs
+    → IsPulledRow s (get_or fs i (λ p. pos 0)) (get_or ts i [])
 row_at_place s [] ts i z h = absurd (omega arith)
 row_at_place s (f ∷ fs) [] i z h = absurd z
 row_at_place s (f ∷ fs) (t ∷ ts) zero z h = z.0
 row_at_place s (f ∷ fs) (t ∷ ts) (suc i) z h = row_at_place s fs ts i z.1 (omega arith)
 
 -- what tells a proof of a form's row tells one of the form
-form_told : (q : BodyView) (s : Space) (f : Form) (row : Terms) (w : CertificateView) (text : List ℕ) → IsPulledRow s f row → IsProofText q (value row, w) text → IsProofText q (f, w) text
+form_told : (q : BodyView) (s : Space) (f : Form) (row : Terms) (w : CertificateView) (text : List ℕ) → IsPulledRow s f row
+    → IsProofText q (value row, w) text → IsProofText q (f, w) text
 unfolding IsProofText
 form_told q s f row w text pulled (inl h) = let g = constraints_of (question_demands q) in inl (record {
   relation = h.relation;
@@ -48,7 +50,8 @@ form_told q s f row w text pulled (inl h) = let g = constraints_of (question_dem
 form_told q s f row w text pulled (inr e) = inr e
 
 -- texts of a proof of a form's row are texts of one of the form
-pub texts_carried : (q : BodyView) (options : Options) (s : Space) (f : Form) (row : Terms) (w : CertificateView) (t : ProofTexts) → IsPulledRow s f row → AreProofTexts q options (value row, w) t → AreProofTexts q options (f, w) t
+pub texts_carried : (q : BodyView) (options : Options) (s : Space) (f : Form) (row : Terms) (w : CertificateView) (t : ProofTexts)
+    → IsPulledRow s f row → AreProofTexts q options (value row, w) t → AreProofTexts q options (f, w) t
 unfolding AreProofTexts
 texts_carried q options s f row w t pulled (inl h) = inl (record {
   lines = h.lines;
@@ -62,13 +65,16 @@ texts_carried q options s f row w t pulled (inl h) = inl (record {
 texts_carried q options s f row w t pulled (inr are) = inr (form_told q s f row w t.proof pulled are.0, are.1)
 
 -- what Shannon's inequalities say of a form's row, they say of the form
-obligation_carried : (q : BodyView) (options : Options) (s : Space) (f : Form) (row : Terms) (w : CertificateView) (t : Option ProofTexts) → IsPulledRow s f row → TellsObligation q options (value row, w) t → TellsObligation q options (f, w) t
+obligation_carried : (q : BodyView) (options : Options) (s : Space) (f : Form) (row : Terms) (w : CertificateView) (t : Option ProofTexts)
+    → IsPulledRow s f row → TellsObligation q options (value row, w) t → TellsObligation q options (f, w) t
 obligation_carried q options s f row w None pulled is = λ p k. subst (λ (x : ℤ). pos 0 ≤ℤ x) (pulled.same p k.empty) (is p k)
 obligation_carried q options s f row w (Some t) pulled are = texts_carried q options s f row w t pulled are
 
 -- ---- rows with certificates
 
-module _ {A : Type 0} (shown : A → List ℕ) (tells : Form × CertificateView → A → Type 0) (carried : (s : Space) (f : Form) (row : Terms) (w : CertificateView) (a : A) → IsPulledRow s f row → tells (value row, w) a → tells (f, w) a) where
+module _ {A : Type 0} (shown : A → List ℕ) (tells : Form × CertificateView → A → Type 0)
+    (carried : (s : Space) (f : Form) (row : Terms) (w : CertificateView) (a : A) → IsPulledRow s f row → tells (value row, w) a
+    → tells (f, w) a) where
   -- the lines of the first i rows are appended, whichever forms these are of
   abbrev pub RowsAppended : List Terms → List CertificateView → List ℕ → List ℕ → ℕ → Type 0
   RowsAppended rows ws old new i = (forms : List Form) → AreRowsFor forms rows → Appended shown tells old new (zip forms ws) i
@@ -76,8 +82,10 @@ module _ {A : Type 0} (shown : A → List ℕ) (tells : Form × CertificateView 
   no_row_appended : (rows : List Terms) (ws : List CertificateView) (old : List ℕ) → RowsAppended rows ws old old 0
   no_row_appended rows ws old forms are = none_appended shown tells old (zip forms ws)
 
-  rows_more : (rows : List Terms) (cs : List Certificate) (row : Terms) (c : Certificate) (a : A) (old now new : List ℕ) (i : ℕ) → RowsAppended rows (map certificate_view cs) old now i → length rows ≡ length cs → i < length cs
-      → row ≡ get_or rows i row → c ≡ get_or cs i c → tells (value row, certificate_view c) a → new ≡ now ++ shown a → RowsAppended rows (map certificate_view cs) old new (i + 1)
+  rows_more : (rows : List Terms) (cs : List Certificate) (row : Terms) (c : Certificate) (a : A) (old now new : List ℕ) (i : ℕ)
+      → RowsAppended rows (map certificate_view cs) old now i → length rows ≡ length cs → i < length cs
+      → row ≡ get_or rows i row → c ≡ get_or cs i c → tells (value row, certificate_view c) a → new ≡ now ++ shown a
+      → RowsAppended rows (map certificate_view cs) old new (i + 1)
   unfolding AreRowsFor
   rows_more rows cs row c a old now new i before as_many within row_read read told new_is forms are =
       appended_more shown tells old now new (zip forms ws) i (form, certificate_view c) a (before forms are) in_zip at_zip form_is_told new_is
@@ -102,7 +110,8 @@ module _ {A : Type 0} (shown : A → List ℕ) (tells : Form × CertificateView 
 
       at_zip : get_or (zip forms ws) i (form, certificate_view c) ≡ (form, certificate_view c)
       at_zip = get_or-zip forms ws i (form, certificate_view c) in_forms in_ws
-          ∙ ap₂ (λ f w. (f, w)) (get_or_default forms i form (λ p. pos 0) in_forms) (get_or-map certificate_view cs i c (certificate_view c) within ∙ ap certificate_view (sym read))
+          ∙ ap₂ (λ f w. (f, w)) (get_or_default forms i form (λ p. pos 0) in_forms)
+          (get_or-map certificate_view cs i c (certificate_view c) within ∙ ap certificate_view (sym read))
 
       row_is : get_or rows i [] ≡ row
       row_is = get_or_default rows i [] row in_rows ∙ sym row_read
@@ -110,22 +119,30 @@ module _ {A : Type 0} (shown : A → List ℕ) (tells : Form × CertificateView 
       form_is_told : tells (form, certificate_view c) a
       form_is_told = carried are.0 form row (certificate_view c) a (subst (IsPulledRow are.0 form) row_is (row_at_place are.0 forms rows i are.1 in_forms)) told
 
-  all_rows : (rows : List Terms) (ws : List CertificateView) (old new : List ℕ) (i : ℕ) → RowsAppended rows ws old new i → length ws ≤ i → (forms : List Form) → AreRowsFor forms rows → AppendsEach shown tells (zip forms ws) old new
+  all_rows : (rows : List Terms) (ws : List CertificateView) (old new : List ℕ) (i : ℕ) → RowsAppended rows ws old new i → length ws ≤ i
+      → (forms : List Form) → AreRowsFor forms rows → AppendsEach shown tells (zip forms ws) old new
   all_rows rows ws old new i u all forms are = all_appended shown tells old new (zip forms ws) i (u forms are) (omega (arith, length-zip forms ws, all))
 
 -- the lines of the first i proofs are appended, whichever forms the rows are of
 abbrev pub ProofsAppended : BodyView → Options → List Terms → List CertificateView → List ℕ → List ℕ → ℕ → Type 0
-ProofsAppended q options rows ws old new i = (forms : List Form) → AreRowsFor forms rows → Appended proof_lines (AreProofTexts q options) old new (zip forms ws) i
+ProofsAppended q options rows ws old new i = (forms : List Form) → AreRowsFor forms rows
+    → Appended proof_lines (AreProofTexts q options) old new (zip forms ws) i
 
-pub no_proof_appended : (q : BodyView) (options : Options) (rows : List Terms) (ws : List CertificateView) (old : List ℕ) → ProofsAppended q options rows ws old old 0
+pub no_proof_appended : (q : BodyView) (options : Options) (rows : List Terms) (ws : List CertificateView) (old : List ℕ)
+    → ProofsAppended q options rows ws old old 0
 no_proof_appended q options = no_row_appended proof_lines (AreProofTexts q options) (texts_carried q options)
 
-pub proofs_more : (q : BodyView) (options : Options) (rows : List Terms) (cs : List Certificate) (row : Terms) (c : Certificate) (old now new : List ℕ) (i : ℕ) → ProofsAppended q options rows (map certificate_view cs) old now i
-    → length rows ≡ length cs → i < length cs → row ≡ get_or rows i row → c ≡ get_or cs i c → AppendsProof q options (value row, certificate_view c) now new → ProofsAppended q options rows (map certificate_view cs) old new (i + 1)
+pub proofs_more : (q : BodyView) (options : Options) (rows : List Terms) (cs : List Certificate) (row : Terms) (c : Certificate)
+    (old now new : List ℕ) (i : ℕ) → ProofsAppended q options rows (map certificate_view cs) old now i
+    → length rows ≡ length cs → i < length cs → row ≡ get_or rows i row → c ≡ get_or cs i c
+    → AppendsProof q options (value row, certificate_view c) now new
+    → ProofsAppended q options rows (map certificate_view cs) old new (i + 1)
 proofs_more q options rows cs row c old now new i before as_many within row_read read told =
-    rows_more proof_lines (AreProofTexts q options) (texts_carried q options) rows cs row c told.texts old now new i before as_many within row_read read told.are told.new_is
+    rows_more proof_lines (AreProofTexts q options) (texts_carried q options) rows cs row c told.texts old now new i before as_many within
+    row_read read told.are told.new_is
 
-pub all_proofs : (q : BodyView) (options : Options) (rows : List Terms) (ws : List CertificateView) (old new : List ℕ) (i : ℕ) → ProofsAppended q options rows ws old new i → length ws ≤ i → AppendsProofs q options rows ws old new
+pub all_proofs : (q : BodyView) (options : Options) (rows : List Terms) (ws : List CertificateView) (old new : List ℕ) (i : ℕ)
+    → ProofsAppended q options rows ws old new i → length ws ≤ i → AppendsProofs q options rows ws old new
 unfolding AppendsProofs
 all_proofs q options = all_rows proof_lines (AreProofTexts q options) (texts_carried q options)
 
@@ -133,35 +150,48 @@ all_proofs q options = all_rows proof_lines (AreProofTexts q options) (texts_car
 
 -- the lines of the first i obligations are appended, without those that Shannon's inequalities say
 abbrev pub ObligationsAppended : BodyView → Options → List Terms → List CertificateView → List ℕ → List ℕ → ℕ → Type 0
-ObligationsAppended q options rows ws old new i = (forms : List Form) → AreRowsFor forms rows → Appended obligation_lines (TellsObligation q options) old new (zip forms ws) i
+ObligationsAppended q options rows ws old new i = (forms : List Form) → AreRowsFor forms rows
+    → Appended obligation_lines (TellsObligation q options) old new (zip forms ws) i
 
-pub no_obligation_appended : (q : BodyView) (options : Options) (rows : List Terms) (ws : List CertificateView) (old : List ℕ) → ObligationsAppended q options rows ws old old 0
+pub no_obligation_appended : (q : BodyView) (options : Options) (rows : List Terms) (ws : List CertificateView) (old : List ℕ)
+    → ObligationsAppended q options rows ws old old 0
 no_obligation_appended q options = no_row_appended obligation_lines (TellsObligation q options) (obligation_carried q options)
 
-pub obligations_more : (q : BodyView) (options : Options) (rows : List Terms) (cs : List Certificate) (row : Terms) (c : Certificate) (old now new : List ℕ) (i : ℕ) → ObligationsAppended q options rows (map certificate_view cs) old now i
-    → length rows ≡ length cs → i < length cs → row ≡ get_or rows i row → c ≡ get_or cs i c → AppendsObligation q options (value row, certificate_view c) now new → ObligationsAppended q options rows (map certificate_view cs) old new (i + 1)
+pub obligations_more : (q : BodyView) (options : Options) (rows : List Terms) (cs : List Certificate) (row : Terms) (c : Certificate)
+    (old now new : List ℕ) (i : ℕ) → ObligationsAppended q options rows (map certificate_view cs) old now i
+    → length rows ≡ length cs → i < length cs → row ≡ get_or rows i row → c ≡ get_or cs i c
+    → AppendsObligation q options (value row, certificate_view c) now new
+    → ObligationsAppended q options rows (map certificate_view cs) old new (i + 1)
 unfolding AppendsObligation
 obligations_more q options rows cs row c old now new i before as_many within row_read read told =
-    rows_more obligation_lines (TellsObligation q options) (obligation_carried q options) rows cs row c told.0 old now new i before as_many within row_read read told.1.0 told.1.1
+    rows_more obligation_lines (TellsObligation q options) (obligation_carried q options) rows cs row c told.0 old now new i before as_many
+    within row_read read told.1.0 told.1.1
 
-pub all_obligations : (q : BodyView) (options : Options) (rows : List Terms) (ws : List CertificateView) (old new : List ℕ) (i : ℕ) → ObligationsAppended q options rows ws old new i → length ws ≤ i → AppendsOwnProofs q options rows ws old new
+pub all_obligations : (q : BodyView) (options : Options) (rows : List Terms) (ws : List CertificateView) (old new : List ℕ) (i : ℕ)
+    → ObligationsAppended q options rows ws old new i → length ws ≤ i → AppendsOwnProofs q options rows ws old new
 unfolding AppendsOwnProofs
 all_obligations q options = all_rows obligation_lines (TellsObligation q options) (obligation_carried q options)
 
 -- ---- a relation and a containment
 
 -- there are as many rows as proofs
-rows_counted : (q : BodyView) (answer : AnswerView) (cs : List Certificate) (rows : List Terms) → length (answer_forms q answer) ≡ length (map certificate_view cs) → AreFormRows q answer rows → length rows ≡ length cs
+rows_counted : (q : BodyView) (answer : AnswerView) (cs : List Certificate) (rows : List Terms)
+    → length (answer_forms q answer) ≡ length (map certificate_view cs) → AreFormRows q answer rows → length rows ≡ length cs
 unfolding AreRowsFor
 rows_counted q answer cs rows counted are = zip-length (IsPulledRow are.0) (answer_forms q answer) rows are.1 ∙ counted ∙ length-map cs certificate_view
 
-pub relation_rows_counted : (q : BodyView) (cs : List Certificate) (rows : List Terms) → HasQuestionShape q (Yes (map certificate_view cs)) → AreFormRows q (Yes (map certificate_view cs)) rows → length rows ≡ length cs
+pub relation_rows_counted : (q : BodyView) (cs : List Certificate) (rows : List Terms) → HasQuestionShape q (Yes (map certificate_view cs))
+    → AreFormRows q (Yes (map certificate_view cs)) rows → length rows ≡ length cs
 relation_rows_counted q cs rows fits are = rows_counted q (Yes (map certificate_view cs)) cs rows (yes_counted q (map certificate_view cs) fits) are
 
-pub obligation_rows_counted : (q : BodyView) (parts : List ℕ) (cs : List Certificate) (rows : List Terms) → HasQuestionShape q (Contained parts (map certificate_view cs)) → AreFormRows q (Contained parts (map certificate_view cs)) rows → length rows ≡ length cs
-obligation_rows_counted q parts cs rows fits are = rows_counted q (Contained parts (map certificate_view cs)) cs rows (contained_counted q parts (map certificate_view cs) fits) are
+pub obligation_rows_counted : (q : BodyView) (parts : List ℕ) (cs : List Certificate) (rows : List Terms)
+    → HasQuestionShape q (Contained parts (map certificate_view cs)) → AreFormRows q (Contained parts (map certificate_view cs)) rows
+    → length rows ≡ length cs
+obligation_rows_counted q parts cs rows fits are = rows_counted q (Contained parts (map certificate_view cs)) cs rows
+    (contained_counted q parts (map certificate_view cs) fits) are
 
-pub yes_details : (q : BodyView) (options : Options) (ws : List CertificateView) (rows : List Terms) (old new : List ℕ) → AreFormRows q (Yes ws) rows → AppendsProofs q options rows ws old new → AppendsDetails q options (Yes ws) old new
+pub yes_details : (q : BodyView) (options : Options) (ws : List CertificateView) (rows : List Terms) (old new : List ℕ)
+    → AreFormRows q (Yes ws) rows → AppendsProofs q options rows ws old new → AppendsDetails q options (Yes ws) old new
 unfolding AppendsDetails AppendsEach AppendsProofs AreDetails
 yes_details q options ws rows old new are h = h (answer_forms q (Yes ws)) are
 
@@ -170,7 +200,8 @@ unfolding AreRowsFor
 form_rows q answer rows are = (space_of (problem_names q), are)
 
 -- plain lines of a containment
-pub contained_details : (q : BodyView) (options : Options) (parts : List ℕ) (ws : List CertificateView) (rows : List Terms) (old new : List ℕ) → is_plain options.style ≡ true → AreFormRows q (Contained parts ws) rows
+pub contained_details : (q : BodyView) (options : Options) (parts : List ℕ) (ws : List CertificateView) (rows : List Terms)
+    (old new : List ℕ) → is_plain options.style ≡ true → AreFormRows q (Contained parts ws) rows
     → AppendsProofs q options rows ws old new → AppendsDetails q options (Contained parts ws) old new
 unfolding AppendsDetails AppendsEach AppendsProofs AreContainedLines AreDetails
 contained_details q options parts ws rows old new plain are h = by_style options.style refl

@@ -35,32 +35,41 @@ pub record IsTold (options : Options) (old new : Option (List ℕ)) (bytes rest 
   pub rest_is : drop k (split_lines bytes) ≡ split_lines rest
   pub counted : k + length rest ≤ length bytes
 
-pub told_more : (options : Options) (a b c : Option (List ℕ)) (bytes rest line after : List ℕ) (k : ℕ) (some_invalid invalid : Bool) (text piece : List ℕ) → IsTold options a b bytes rest k some_invalid
-    → split_lines rest ≡ line ∷ split_lines after → length after < length rest → IsToldLine options (k + 1) line text invalid → piece ≡ text → Gains b c piece → IsTold options a c bytes after (k + 1) (some_invalid || invalid)
+pub told_more : (options : Options) (a b c : Option (List ℕ)) (bytes rest line after : List ℕ) (k : ℕ) (some_invalid invalid : Bool)
+    (text piece : List ℕ) → IsTold options a b bytes rest k some_invalid
+    → split_lines rest ≡ line ∷ split_lines after → length after < length rest → IsToldLine options (k + 1) line text invalid → piece ≡ text
+    → Gains b c piece → IsTold options a c bytes after (k + 1) (some_invalid || invalid)
 told_more options a b c bytes rest line after k some_invalid invalid text piece h split shorter told same wrote =
     let next = item_of_drop k (split_lines bytes) (split_lines after) line (h.rest_is ∙ split) in record {
       tellings = h.tellings ++ told.telling ∷ [];
-      written = replies_more (tell_mode options) a b c (split_lines bytes) k h.tellings line told.telling text piece h.written next.0 next.1 told.is told.text_is same wrote;
+      written = replies_more (tell_mode options) a b c (split_lines bytes) k h.tellings line told.telling text piece h.written next.0 next.1
+          told.is told.text_is same wrote;
       told = any_more tells_invalid h.tellings told.telling ∙ ap₂ (λ x y. x || y) h.told (sym told.invalid_is);
       rest_is = next.2;
       counted = omega (arith, h.counted);
     }
 
-pub told_stops : (options : Options) (a b c : Option (List ℕ)) (bytes rest line after : List ℕ) (k : ℕ) (some_invalid invalid : Bool) (text piece : List ℕ) → IsTold options a b bytes rest k some_invalid
-    → split_lines rest ≡ line ∷ split_lines after → IsToldLine options (k + 1) line text invalid → piece ≡ text → TookPrefix b c piece → WroteInPart (tell_mode options) a c bytes
+pub told_stops : (options : Options) (a b c : Option (List ℕ)) (bytes rest line after : List ℕ) (k : ℕ) (some_invalid invalid : Bool)
+    (text piece : List ℕ) → IsTold options a b bytes rest k some_invalid
+    → split_lines rest ≡ line ∷ split_lines after → IsToldLine options (k + 1) line text invalid → piece ≡ text → TookPrefix b c piece
+    → WroteInPart (tell_mode options) a c bytes
 told_stops options a b c bytes rest line after k some_invalid invalid text piece h split told same took =
     let next = item_of_drop k (split_lines bytes) (split_lines after) line (h.rest_is ∙ split) in
-    replies_stop (tell_mode options) a b c bytes (split_lines bytes) k h.tellings line told.telling text piece refl h.written next.0 next.1 told.is told.text_is same took
+    replies_stop (tell_mode options) a b c bytes (split_lines bytes) k h.tellings line told.telling text piece refl h.written next.0 next.1
+    told.is told.text_is same took
 
-pub told_first : (options : Options) (a b : Option (List ℕ)) (bytes rest : List ℕ) (k : ℕ) (some_invalid : Bool) → IsTold options a b bytes rest k some_invalid → WroteFirst (tell_mode options) a b bytes
+pub told_first : (options : Options) (a b : Option (List ℕ)) (bytes rest : List ℕ) (k : ℕ) (some_invalid : Bool)
+    → IsTold options a b bytes rest k some_invalid → WroteFirst (tell_mode options) a b bytes
 told_first options a b bytes rest k some_invalid h = first_replied (tell_mode options) a b bytes (split_lines bytes) k h.tellings refl h.written
 
-pub told_all : (options : Options) (a b : Option (List ℕ)) (bytes rest : List ℕ) (k : ℕ) (some_invalid : Bool) → true ≡ (length rest == 0) → IsTold options a b bytes rest k some_invalid → WroteWhole (tell_mode options) a b bytes (verdict_status some_invalid)
+pub told_all : (options : Options) (a b : Option (List ℕ)) (bytes rest : List ℕ) (k : ℕ) (some_invalid : Bool) → true ≡ (length rest == 0)
+    → IsTold options a b bytes rest k some_invalid → WroteWhole (tell_mode options) a b bytes (verdict_status some_invalid)
 told_all options a b bytes rest k some_invalid none h = subst (λ (i : Bool). WroteWhole (tell_mode options) a b bytes (verdict_status i)) h.told
     (all_replied (tell_mode options) a b bytes (split_lines bytes) k h.tellings refl h.written
     (none_left k (split_lines bytes) (h.rest_is ∙ ap split_lines (nil_from_length rest (eqb-true (length rest) 0 (sym none))))))
 
-pub status_ends : (options : Options) (a b : Option (List ℕ)) (before now : ℕ) (bytes : List ℕ) (some_invalid : Bool) (s : Status) → s ≡ verdict_status some_invalid → now ≡ before → WroteWhole (tell_mode options) a b bytes (verdict_status some_invalid)
+pub status_ends : (options : Options) (a b : Option (List ℕ)) (before now : ℕ) (bytes : List ℕ) (some_invalid : Bool) (s : Status)
+    → s ≡ verdict_status some_invalid → now ≡ before → WroteWhole (tell_mode options) a b bytes (verdict_status some_invalid)
     → EndOfBytes (tell_mode options) a b before now bytes s
 status_ends options a b before now bytes true s is stayed h = subst (EndOfBytes (tell_mode options) a b before now bytes) (sym is) (stayed, h)
 status_ends options a b before now bytes false s is stayed h = subst (EndOfBytes (tell_mode options) a b before now bytes) (sym is) (stayed, h)

@@ -1,7 +1,7 @@
 -- The lines of a containment's second region, by their obligations where sets stand for the region's auxiliary variables.
 use Rattle.std.specs.Prelude.{ℕ, List, [], ◌∷◌, ◌++◌, length, take, drop, codes, ◌==◌, Bool, true, false, if◌then◌else◌}
 use Rattle.it_space.specs.Answers.{CertificateView}
-use Rattle.it_space.specs.declared.problems.Origin.{Origin}
+use Rattle.it_problems.specs.declared.problems.Origin.{Origin}
 use Rattle.it_polymatroid.specs.Certificates.{Form}
 use Rattle.it_demand.specs.Demands.{Demand}
 use Rattle.it_demand.specs.Targets.{inequalities_of}

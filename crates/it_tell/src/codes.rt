@@ -4,6 +4,7 @@ ghost use Rattle.it_codes.specs.Codes.{functions_of};
 ghost use Rattle.it_certificate.specs.CodeReading.{reported_code_view};
 ghost use Rattle.it_print.specs.Lines.{joined_texts};
 ghost use Rattle.it_tell.specs.CodeTexts.{code_text, function_text, symbol_text, times_text, variable_text, variable_texts};
+ghost use Rattle.it_space.specs.Spaces.{most_variables};
 
 use it_certificate::ReportedCode;
 use it_codes::Variable;
@@ -134,7 +135,7 @@ fn variables_text(
     variables: &[Variable],
 ) -> Result<Vec<u8>, AllocError>
     requires named { length variables.now ≤ length names.now.variables }
-    requires few { length names.now.variables ≤ 10 }
+    requires few { length names.now.variables ≤ most_variables }
     ensures { IfOk result (λ t. t.items ≡ joined_texts (codes ", ") false (variable_texts names.now.variables 0 (map functions_of variables.now))) }
 {
     let mut out = Vec::new(alloc);
@@ -163,7 +164,7 @@ fn write_times(out: &mut Vec<u8>, times: u32) -> Result<(), AllocError>
 #[tactic(auto, unfolding(crate::specs::CodeTexts::code_text))]
 pub fn code_text(alloc: Global, names: &Names, code: &ReportedCode) -> Result<Vec<u8>, AllocError>
     requires named { length code.now.code.variables.items ≤ length names.now.variables }
-    requires few { length names.now.variables ≤ 10 }
+    requires few { length names.now.variables ≤ most_variables }
     ensures { IfOk result (λ t. t.items ≡ code_text names.now.variables (reported_code_view code.now)) }
 {
     let variables = variables_text(alloc, names, code.code.variables.as_slice())?;

@@ -8,8 +8,9 @@ ghost use Rattle.it_report.specs.LineVerdicts.{numbered_line};
 ghost use Rattle.it_tell.specs.Tellings.{head_line};
 
 use it_print::{answer_line, write_number};
+use it_problems::Constraint;
 use it_question::types::Question;
-use it_space::{Answer, Constraint};
+use it_space::Answer;
 use std::alloc::{AllocError, Global};
 
 /// The line `words` about line `k`, with a line feed.

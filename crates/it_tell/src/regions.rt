@@ -1,7 +1,7 @@
 //! The lines below the first one of a region: its rows.
 ghost use Rattle.std.specs.Prelude.{◌≡◌, ◌≤◌, ◌^◌, ◌++◌, length, map, codes, not, nat_lt, All, IfOk, IfSome, OnOk};
 ghost use Rattle.std.specs.List.{insert};
-ghost use Rattle.it_space.specs.declared.problems.Kind.TheVariants.{Inequality};
+ghost use Rattle.it_problems.specs.declared.problems.Kind.TheVariants.{Inequality};
 ghost use Rattle.it_question.specs.Limits.{IsQuestion};
 ghost use Rattle.it_question.specs.Questions.{question_body};
 ghost use Rattle.it_question.specs.ProblemLines.{problem_names};
@@ -10,13 +10,15 @@ ghost use Rattle.it_print.specs.Lines.{IsRowOver, row_text};
 ghost use Rattle.it_tell.specs.SortedRows.{is_before, order_key, put_in_order, rate_coordinates, rows_by_rates};
 ghost use Rattle.it_tell.specs.Steps.{AppendsEach};
 ghost use Rattle.it_tell.specs.Tellings.{IsMarkedRowText, IsPlainRow, IsRowOrigin, IsRowText, IsStyledRow, indented_line, mark_comment, told_rows};
+ghost use Rattle.it_space.specs.Spaces.{most_variables};
 
 use crate::details::write_indented;
 use crate::settings::{Options, Style, is_plain};
 use it_canon::problem_names;
 use it_print::row_text;
+use it_problems::Kind;
 use it_question::types::Question;
-use it_space::{Kind, Mark, Row};
+use it_space::{Mark, Row};
 use it_terms::{PrintedRow, printed_row, row_comment, row_origin, told_row};
 use std::alloc::{AllocError, Global};
 
@@ -133,7 +135,7 @@ fn marked_row(
 
 /// Whether `coordinate` is that of a rate, where there are `variables` variables.
 fn is_rate(coordinate: usize, variables: u8) -> bool
-    requires { variables ≤ 10 }
+    requires { variables ≤ most_variables }
     ensures { result ≡ not (nat_lt coordinate (2 ^ variables)) }
 {
     coordinate >= 1usize << variables
@@ -141,7 +143,7 @@ fn is_rate(coordinate: usize, variables: u8) -> bool
 
 /// The coordinates of the rates of `row`, where there are `variables` variables.
 fn rate_coordinates(alloc: Global, row: &Row, variables: u8) -> Result<Vec<usize>, AllocError>
-    requires { variables ≤ 10 }
+    requires { variables ≤ most_variables }
     ensures { IfOk result (λ v. v.items ≡ rate_coordinates variables row.now) }
 {
     row.terms()
@@ -153,7 +155,7 @@ fn rate_coordinates(alloc: Global, row: &Row, variables: u8) -> Result<Vec<usize
 
 /// The number of the rates of `row`, and then their coordinates.
 fn order_key(alloc: Global, row: &Row, variables: u8) -> Result<Vec<usize>, AllocError>
-    requires { variables ≤ 10 }
+    requires { variables ≤ most_variables }
     ensures { IfOk result (λ v. v.items ≡ order_key variables row.now) }
 {
     let coordinates = rate_coordinates(alloc, row, variables)?;
@@ -180,7 +182,7 @@ fn is_before(numbers: &[usize], others: &[usize]) -> bool
 
 /// Whether a row comes before another one, by its rates.
 fn comes_before(alloc: Global, row: &Row, other: &Row, variables: u8) -> Result<bool, AllocError>
-    requires { variables ≤ 10 }
+    requires { variables ≤ most_variables }
     ensures { IfOk result (λ b. b ≡ is_before (order_key variables row.now) (order_key variables other.now)) }
 {
     let key = order_key(alloc, row, variables)?;
@@ -195,7 +197,7 @@ fn place_of(
     row: &(Mark, Row),
     variables: u8,
 ) -> Result<usize, AllocError>
-    requires { variables ≤ 10 }
+    requires { variables ≤ most_variables }
     ensures within { IfOk result (λ i. i ≤ length sorted.now) }
     ensures place { IfOk result (λ i. put_in_order variables row.now (map (λ r. r.now) sorted.now) ≡ insert (map (λ r. r.now) sorted.now) i row.now) }
 {
@@ -215,7 +217,7 @@ fn put_in_order<'a>(
     row: &'a (Mark, Row),
     variables: u8,
 ) -> Result<(), AllocError>
-    requires { variables ≤ 10 }
+    requires { variables ≤ most_variables }
     ensures { OnOk result (map (λ r. r.now) sorted.new.items ≡ put_in_order variables row.now (map (λ r. r.now) sorted.old.items)) }
 {
     let place = place_of(alloc, sorted.as_slice(), row, variables)?;
@@ -240,7 +242,7 @@ fn rows_by_rates(
     rows: &[(Mark, Row)],
     variables: u8,
 ) -> Result<Vec<&(Mark, Row)>, AllocError>
-    requires { variables ≤ 10 }
+    requires { variables ≤ most_variables }
     ensures { IfOk result (λ v. map (λ r. r.now) v.items ≡ rows_by_rates variables rows.now) }
 {
     let mut sorted = Vec::new(alloc);
@@ -257,7 +259,7 @@ fn told_rows(
     rows: &[(Mark, Row)],
     variables: u8,
 ) -> Result<Vec<&(Mark, Row)>, AllocError>
-    requires { variables ≤ 10 }
+    requires { variables ≤ most_variables }
     ensures { IfOk result (λ v. map (λ r. r.now) v.items ≡ told_rows style variables rows.now) }
 {
     if is_plain(style) {

@@ -19,23 +19,38 @@ moved_spelling k at at' bytes [] e h = h
 moved_spelling k at at' bytes (t ∷ ts) e h =
     let c = h.1 in (
       h.0,
-      record { gap = c.gap; text = c.text; whole = c.whole; blank = c.blank; spelled = c.spelled; ends = c.ends; start = omega (arith, c.start, e); end = omega (arith, c.end) },
+      record {
+        gap = c.gap;
+        text = c.text;
+        whole = c.whole;
+        blank = c.blank;
+        spelled = c.spelled;
+        ends = c.ends;
+        start
+            = omega (arith, c.start, e);
+        end = omega (arith, c.end);
+      },
       moved_spelling k t.end (k + t.end) h.0 ts refl h.2,
     )
 
 drop_prefix : (prefix line : List ℕ) (i : ℕ) → drop (length prefix + i) (prefix ++ line) ≡ drop i line
 drop_prefix [] line i = ap (λ (n : ℕ). drop n line) (let e : 0 + i ≡ i = omega arith in e)
-drop_prefix (b ∷ bs) line i = ap (λ (n : ℕ). drop n (b ∷ (bs ++ line))) (let e : suc (length bs) + i ≡ suc (length bs + i) = omega arith in e) ∙ drop_prefix bs line i
+drop_prefix (b ∷ bs) line i = ap (λ (n : ℕ). drop n (b ∷ (bs ++ line)))
+    (let e : suc (length bs) + i ≡ suc (length bs + i) = omega arith in e) ∙ drop_prefix bs line i
 
-moved_letter : (prefix line : List ℕ) (start end : ℕ) (kind : TokenKind) → letter_of (prefix ++ line) (length prefix + start) (length prefix + end) kind ≡ letter_of line start end kind
-moved_letter prefix line start end kinds.Word = ap Word (ap₂ (λ (n : ℕ) (bytes : List ℕ). take n bytes) (let e : length prefix + end - (length prefix + start) ≡ end - start = omega arith in e) (drop_prefix prefix line start))
+moved_letter : (prefix line : List ℕ) (start end : ℕ) (kind : TokenKind)
+    → letter_of (prefix ++ line) (length prefix + start) (length prefix + end) kind ≡ letter_of line start end kind
+moved_letter prefix line start end kinds.Word = ap Word (ap₂ (λ (n : ℕ) (bytes : List ℕ). take n bytes)
+    (let e : length prefix + end - (length prefix + start) ≡ end - start = omega arith in e) (drop_prefix prefix line start))
 moved_letter prefix line start end (kinds.Number n) = refl
 moved_letter prefix line start end (kinds.Symbol s) = refl
 
-moved_letters : (prefix line : List ℕ) (ts : List Token) (last : Letter) → letters_until (prefix ++ line) (map (moved (length prefix)) ts) last ≡ letters_until line ts last
+moved_letters : (prefix line : List ℕ) (ts : List Token) (last : Letter)
+    → letters_until (prefix ++ line) (map (moved (length prefix)) ts) last ≡ letters_until line ts last
 unfolding moved
 moved_letters prefix line [] last = refl
-moved_letters prefix line (t ∷ ts) last = ap₂ (λ (l : Letter) (ls : List Letter). l ∷ ls) (moved_letter prefix line t.start t.end t.kind) (moved_letters prefix line ts last)
+moved_letters prefix line (t ∷ ts) last = ap₂ (λ (l : Letter) (ls : List Letter). l ∷ ls) (moved_letter prefix line t.start t.end t.kind)
+    (moved_letters prefix line ts last)
 
 pub texts_move : TextsMove
 texts_move v prefix text r h = record {

@@ -2,12 +2,12 @@
 use Rattle.std.proofs.Common.{◌≡◌, ◌≢◌, ℕ, ◌+◌, ◌-◌, ◌<◌, ◌≤◌, ℤ, pos, ◌+ℤ◌, ◌*ℤ◌, inl, inr, List, [], ◌∷◌, length, map, All, refl, sym, ap, ap₂, ◌∙◌, subst, arith}
 use Rattle.std.proofs.lemmas.List.{length-map}
 use Rattle.std.proofs.lemmas.List.Elements.{All-cons, All-head, All-nil, All-tail}
-use Rattle.it_space.specs.declared.problems.Constraint.{Constraint}
-use Rattle.it_space.specs.declared.problems.Kind.TheVariants.{Inequality}
-use Rattle.it_space.specs.declared.problems.Origin.{Origin}
-use Rattle.it_space.specs.declared.problems.Origin.TheVariants.{Rate}
+use Rattle.it_problems.specs.declared.problems.Constraint.{Constraint}
+use Rattle.it_problems.specs.declared.problems.Kind.TheVariants.{Inequality}
+use Rattle.it_problems.specs.declared.problems.Origin.{Origin}
+use Rattle.it_problems.specs.declared.problems.Origin.TheVariants.{Rate}
 use Rattle.it_space.specs.Answers.{CertificateView}
-use Rattle.it_space.specs.Problems.{IsProblem, ProblemView}
+use Rattle.it_problems.specs.Problems.{IsProblem, ProblemView}
 use Rattle.it_space.specs.Rows.{IsOver, Terms, value}
 use Rattle.it_space.specs.Spaces.{size_of}
 use Rattle.it_space.proofs.EveryLemmas.{all_of}
@@ -55,14 +55,18 @@ module _ (n : ℕ) (cs : List Constraint) where
   same_allowed (w ∷ ws) a o =
       let allowed = All-head (IsAllowed (forms_of (generator_list n cs))) w ws a in
       let here = generator_is w.0 (All-head (IsOfConstraint n) w ws o).0 allowed.0 in
-      All-cons (IsAllowed (forms_of (map of_constraint cs))) (by_constraint (length (elementals n)) w) (map (by_constraint (length (elementals n))) ws)
-      (subst (λ (m : ℕ). w.0 - length (elementals n) < m) (sym (length-map cs of_constraint)) here.0, λ e. allowed.1 (ap (λ (g : Generator). is_equation g.kind) here.1 ∙ e))
+      All-cons (IsAllowed (forms_of (map of_constraint cs))) (by_constraint (length (elementals n)) w) (map (by_constraint (length (elementals n))) ws) (
+        subst (λ (m : ℕ). w.0 - length (elementals n) < m) (sym (length-map cs of_constraint)) here.0,
+        λ e. allowed.1
+            (ap (λ (g : Generator). is_equation g.kind) here.1 ∙ e),
+      )
       (same_allowed ws (All-tail (IsAllowed (forms_of (generator_list n cs))) w ws a) (All-tail (IsOfConstraint n) w ws o))
 
   none_is_zero : (ws : List (ℕ × ℤ)) → All (IsOfConstraint n) ws → All (λ w. w.1 ≢ pos 0) (map (by_constraint (length (elementals n))) ws)
   none_is_zero [] o = All-nil (λ w. w.1 ≢ pos 0)
   none_is_zero (w ∷ ws) o =
-      All-cons (λ w. w.1 ≢ pos 0) (by_constraint (length (elementals n)) w) (map (by_constraint (length (elementals n))) ws) (All-head (IsOfConstraint n) w ws o).1
+      All-cons (λ w. w.1 ≢ pos 0) (by_constraint (length (elementals n)) w) (map (by_constraint (length (elementals n))) ws)
+      (All-head (IsOfConstraint n) w ws o).1
       (none_is_zero ws (All-tail (IsOfConstraint n) w ws o))
 
 -- a row is the sum of constraints that its certificate weighs
@@ -79,16 +83,19 @@ sum_of_certificate q row w k over o =
       allowed = same_allowed n q.constraints w.weights c.allowed o.own;
       nonzero = none_is_zero n q.constraints w.weights o.own;
       adds_up = λ p z.
-          adds_up_everywhere (size + 1) (forms_of gs) (value row) w (λ i l. value_linear size (generator_at gs i).row (rows i (record { kind = Inequality; row = [] }) l)) (value_linear size row over) c p z
+          adds_up_everywhere (size + 1) (forms_of gs) (value row) w (λ i l. value_linear size (generator_at gs i).row
+          (rows i (record { kind = Inequality; row = [] }) l)) (value_linear size row over) c p z
           ∙ same_sum n q.constraints p w.weights c.allowed o.own;
     }
 
 -- a row with such a certificate comes from the question's lines
-pub comes_from : (q : BodyView) (p : ProblemView) (row : Terms) (w : CertificateView) (ws : List (ℕ × ℤ)) → IsProblemOf (under_all_lines q) p → IsOver (size_of p.space) row → IsOrigin p row w
+pub comes_from : (q : BodyView) (p : ProblemView) (row : Terms) (w : CertificateView) (ws : List (ℕ × ℤ))
+    → IsProblemOf (under_all_lines q) p → IsOver (size_of p.space) row → IsOrigin p row w
     → ws ≡ map (by_constraint (length (elementals p.space.variables))) w.weights → ComesFrom q row ws
 comes_from q p row w ws posed over o e =
     inr (subst (λ (us : List (ℕ × ℤ)). IsSumOf (constraints_of (question_demands (under_all_lines q))) (value row) us) (sym e)
-    (sum_of_same (forms_of (map of_constraint p.constraints)) (constraints_of (question_demands (under_all_lines q))) (value row) (map (by_constraint (length (elementals p.space.variables))) w.weights)
+    (sum_of_same (forms_of (map of_constraint p.constraints)) (constraints_of (question_demands (under_all_lines q))) (value row)
+    (map (by_constraint (length (elementals p.space.variables))) w.weights)
     (stated_are_same p.space (question_demands (under_all_lines q)) p.constraints posed.constraints.stated) (sum_of_certificate p row w posed.limits over o)))
 
 -- without weights nothing is said of where a row comes from
@@ -96,6 +103,8 @@ pub not_told : (q : BodyView) (row : Terms) (ws : List (ℕ × ℤ)) → ws ≡ 
 not_told q row ws e = inl e
 
 -- the names of a problem's constraints are those of the question's lines
-pub named_lines : (q : BodyView) (p : ProblemView) (weights : List (ℕ × ℤ)) (lines text : List ℕ) → IsProblemOf (under_all_lines q) p → text ≡ row_comment (origins_of p.constraints) weights lines
+pub named_lines : (q : BodyView) (p : ProblemView) (weights : List (ℕ × ℤ)) (lines text : List ℕ) → IsProblemOf (under_all_lines q) p
+    → text ≡ row_comment (origins_of p.constraints) weights lines
     → text ≡ row_comment (question_origins (under_all_lines q)) weights lines
-named_lines q p weights lines text posed e = e ∙ ap (λ (os : List Origin). row_comment os weights lines) (placed_origins (question_origins (under_all_lines q)) p.constraints posed.constraints.placed)
+named_lines q p weights lines text posed e = e ∙ ap (λ (os : List Origin). row_comment os weights lines)
+    (placed_origins (question_origins (under_all_lines q)) p.constraints posed.constraints.placed)

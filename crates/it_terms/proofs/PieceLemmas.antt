@@ -3,9 +3,9 @@ use Rattle.std.proofs.Common.{◌≡◌, ◌≤◌, ℕ, ℤ, pos, false, ◌+�
 use Rattle.std.proofs.lemmas.Int.{ints}
 use Rattle.std.proofs.lemmas.List.Elements.{All-weaker}
 use Rattle.it_space.specs.declared.spaces.Space.{Space}
-use Rattle.it_space.specs.declared.problems.Constraint.{Constraint}
-use Rattle.it_space.specs.declared.problems.Origin.{Origin}
-use Rattle.it_space.specs.Problems.{ProblemView}
+use Rattle.it_problems.specs.declared.problems.Constraint.{Constraint}
+use Rattle.it_problems.specs.declared.problems.Origin.{Origin}
+use Rattle.it_problems.specs.Problems.{ProblemView}
 use Rattle.it_space.specs.Rows.{Terms, value}
 use Rattle.it_polymatroid.specs.Certificates.{Generators, IsAllowed, combination}
 use Rattle.it_elemental.specs.Generators.{forms_of, of_constraint}
@@ -33,8 +33,10 @@ use Rattle.it_terms.proofs.SameProofs.{AreSameConstraints, allowed_in_same, plac
 use Rattle.it_terms.proofs.StepLemmas.{step_of, steps_weaker}
 
 -- an equation whose excess is 0 under functions is true where they hold
-pub equation_by_excess : (s : Space) (lines : List ℕ) (r : RelationView) (named : List (ℕ × ℤ)) (cs : List Constraint) (ds : List Dependence) (row : Terms) → r.sign ≡ Equal → common_denominator r ≡ 1
-    → All (IsAllowed (forms_of (map of_constraint cs))) named → All (IsSaid s.variables (forms_of (map of_constraint cs)) lines) ds → IsExcess s r false cs named row → AreSameUnder s.variables ds (value row) (λ p. pos 0)
+pub equation_by_excess : (s : Space) (lines : List ℕ) (r : RelationView) (named : List (ℕ × ℤ)) (cs : List Constraint)
+    (ds : List Dependence) (row : Terms) → r.sign ≡ Equal → common_denominator r ≡ 1
+    → All (IsAllowed (forms_of (map of_constraint cs))) named → All (IsSaid s.variables (forms_of (map of_constraint cs)) lines) ds
+    → IsExcess s r false cs named row → AreSameUnder s.variables ds (value row) (λ p. pos 0)
     → IsEquationUnder s.variables lines r named (forms_of (map of_constraint cs))
 equation_by_excess s lines r named cs ds row equal one allowed said is none = record {
   equality = equal;
@@ -58,14 +60,18 @@ pub read_under : (v : NamesView) (problem : ProblemView) (lines : List ℕ) (s :
 read_under v problem lines s ds some names space said = record { some = some; names = names; space = space; said = said }
 
 -- a relation of names is one of the space of their problem
-pub relation_read_under : (v : NamesView) (problem : ProblemView) (lines : List ℕ) (s : Space) (ds : List Dependence) (r : RelationView) → AreReadUnder v problem lines s ds → IsRelationOf (length v.variables) (length v.rates) r
+pub relation_read_under : (v : NamesView) (problem : ProblemView) (lines : List ℕ) (s : Space) (ds : List Dependence) (r : RelationView)
+    → AreReadUnder v problem lines s ds → IsRelationOf (length v.variables) (length v.rates) r
     → IsRelationOf problem.space.variables problem.space.rates r
 relation_read_under v problem lines s ds r read h = subst (λ (z : Space). IsRelationOf z.variables z.rates r) (sym read.names) h
 
 -- sides that are an equation where functions hold, with a sum and a piece on the left, are the step of the piece
-pub step_of_piece : (v : NamesView) (cs : List Constraint) (s : Space) (lines : List ℕ) (sum : List Term) (piece : Piece) (left right text : List ℕ) (after : List Term) (named : List (ℕ × ℤ)) (r : RelationView)
-    → s ≡ record { variables = length v.variables; rates = length v.rates } → IsRelationText v (sides_text (or_zero left) right) r → r.left ≡ sum ++ piece_terms piece → named ≡ piece_weights piece
-    → IsEquationUnder s.variables lines r named (forms_of (map of_constraint cs)) → text ≡ sides_text (left ++ named_weights (origins_of cs) (length left == 0) named) right → after ≡ r.right
+pub step_of_piece : (v : NamesView) (cs : List Constraint) (s : Space) (lines : List ℕ) (sum : List Term) (piece : Piece)
+    (left right text : List ℕ) (after : List Term) (named : List (ℕ × ℤ)) (r : RelationView)
+    → s ≡ record { variables = length v.variables; rates = length v.rates } → IsRelationText v (sides_text (or_zero left) right) r
+    → r.left ≡ sum ++ piece_terms piece → named ≡ piece_weights piece
+    → IsEquationUnder s.variables lines r named (forms_of (map of_constraint cs))
+    → text ≡ sides_text (left ++ named_weights (origins_of cs) (length left == 0) named) right → after ≡ r.right
     → ArePieceSteps v (origins_of cs) (forms_of (map of_constraint cs)) lines sum (piece ∷ []) after (text ∷ [])
 step_of_piece v cs s lines sum piece left right text after named r space is begins weights holds text_is rest =
     subst (λ (ts : List Term). ArePieceSteps v (origins_of cs) (forms_of (map of_constraint cs)) lines sum (piece ∷ []) ts (text ∷ [])) (sym rest)
@@ -80,8 +86,10 @@ step_of_piece v cs s lines sum piece left right text after named r space is begi
     }) begins)
 
 -- steps of the pieces of a proof's right side are its steps
-pub steps_of_proof : (v : NamesView) (origins : List Origin) (g : Generators) (lines : List ℕ) (named : List (ℕ × ℤ)) (proof left right : List ℕ) (r : RelationView) (pieces : List Piece) (first total : List Term) (texts : List (List ℕ))
-    → IsRelationText v (sides_text left right) r → proof ≡ named_sides_text origins named left right → pieces ≡ right_pieces right r.right named → first ≡ first_sum right r.right → total ≡ r.left
+pub steps_of_proof : (v : NamesView) (origins : List Origin) (g : Generators) (lines : List ℕ) (named : List (ℕ × ℤ))
+    (proof left right : List ℕ) (r : RelationView) (pieces : List Piece) (first total : List Term) (texts : List (List ℕ))
+    → IsRelationText v (sides_text left right) r → proof ≡ named_sides_text origins named left right
+    → pieces ≡ right_pieces right r.right named → first ≡ first_sum right r.right → total ≡ r.left
     → ArePieceSteps v origins g lines first pieces total texts → TellsPieceSteps v origins g lines named proof texts
 steps_of_proof v origins g lines named proof left right r pieces first total texts is text_is pieces_are first_is total_is tells = record {
   relation = r;
@@ -92,7 +100,8 @@ steps_of_proof v origins g lines named proof left right r pieces first total tex
 
 -- ---- from the lines of a question
 
-equation_of_same : (n : ℕ) (lines : List ℕ) (r : RelationView) (named : List (ℕ × ℤ)) (g k : Generators) → AreSameConstraints g k → IsEquationUnder n lines r named g → IsEquationUnder n lines r named k
+equation_of_same : (n : ℕ) (lines : List ℕ) (r : RelationView) (named : List (ℕ × ℤ)) (g k : Generators) → AreSameConstraints g k
+    → IsEquationUnder n lines r named g → IsEquationUnder n lines r named k
 equation_of_same n lines r named g k s u = record {
   equality = u.equality;
   whole = u.whole;
@@ -105,20 +114,25 @@ equation_of_same n lines r named g k s u = record {
 }
 
 -- a step from a problem's constraints is one from the question's lines
-piece_step_by_lines : (q : BodyView) (lines : List ℕ) (s : Space) (cs : List Constraint) (piece : Piece) (text : List ℕ) (r : RelationView) → AreStated s (question_origins q) (question_demands q) cs
-    → IsPieceStep (problem_names q) (origins_of cs) (forms_of (map of_constraint cs)) lines piece text r → IsPieceStep (problem_names q) (question_origins q) (constraints_of (question_demands q)) lines piece text r
+piece_step_by_lines : (q : BodyView) (lines : List ℕ) (s : Space) (cs : List Constraint) (piece : Piece) (text : List ℕ) (r : RelationView)
+    → AreStated s (question_origins q) (question_demands q) cs
+    → IsPieceStep (problem_names q) (origins_of cs) (forms_of (map of_constraint cs)) lines piece text r
+    → IsPieceStep (problem_names q) (question_origins q) (constraints_of (question_demands q)) lines piece text r
 piece_step_by_lines q lines s cs piece text r are t = record {
   is = record {
     left = t.is.left;
     right = t.is.right;
     is = t.is.is;
-    text_is = t.is.text_is ∙ ap (λ (os : List Origin). sides_text (t.is.left ++ named_weights os (length t.is.left == 0) (piece_weights piece)) t.is.right) (placed_origins (question_origins q) cs are.placed);
+    text_is = t.is.text_is ∙ ap (λ (os : List Origin). sides_text (t.is.left
+        ++ named_weights os (length t.is.left == 0) (piece_weights piece)) t.is.right) (placed_origins (question_origins q) cs are.placed);
   };
-  holds = equation_of_same (variable_count q) lines r (piece_weights piece) (forms_of (map of_constraint cs)) (constraints_of (question_demands q)) (stated_are_same s (question_demands q) cs are.stated) t.holds;
+  holds = equation_of_same (variable_count q) lines r (piece_weights piece) (forms_of (map of_constraint cs))
+      (constraints_of (question_demands q)) (stated_are_same s (question_demands q) cs are.stated) t.holds;
 }
 
 -- steps from a problem's constraints are steps from the question's lines
-pub steps_by_lines : (q : BodyView) (lines : List ℕ) (named : List (ℕ × ℤ)) (proof : List ℕ) (s : Space) (cs : List Constraint) (texts : List (List ℕ)) → AreStated s (question_origins q) (question_demands q) cs
+pub steps_by_lines : (q : BodyView) (lines : List ℕ) (named : List (ℕ × ℤ)) (proof : List ℕ) (s : Space) (cs : List Constraint)
+    (texts : List (List ℕ)) → AreStated s (question_origins q) (question_demands q) cs
     → TellsPieceSteps (problem_names q) (origins_of cs) (forms_of (map of_constraint cs)) lines named proof texts → TellsStepsUnder q lines named proof texts
 steps_by_lines q lines named proof s cs texts are t = record {
   relation = t.relation;
@@ -128,7 +142,8 @@ steps_by_lines q lines named proof s cs texts are t = record {
     is = t.is.is;
     text_is = t.is.text_is ∙ ap (λ (os : List Origin). named_sides_text os named t.is.left t.is.right) (placed_origins (question_origins q) cs are.placed);
   };
-  tells = steps_weaker piece_terms (IsPieceStep (problem_names q) (origins_of cs) (forms_of (map of_constraint cs)) lines) (IsPieceStep (problem_names q) (question_origins q) (constraints_of (question_demands q)) lines)
+  tells = steps_weaker piece_terms (IsPieceStep (problem_names q) (origins_of cs) (forms_of (map of_constraint cs)) lines)
+      (IsPieceStep (problem_names q) (question_origins q) (constraints_of (question_demands q)) lines)
       (λ (p : Piece) (line : List ℕ) (r : RelationView) h. piece_step_by_lines q lines s cs p line r are h)
       (first_sum t.is.right t.relation.right) (right_pieces t.is.right t.relation.right named) t.relation.left texts t.tells;
 }

@@ -3,13 +3,13 @@ use Rattle.std.proofs.Common.{◌≡◌, ℕ, zero, suc, ◌<◌, Option, None, 
 use Rattle.std.proofs.lemmas.List.{length-map}
 use Rattle.std.proofs.lemmas.List.Elements.{All-head, All-tail, All-weaker}
 use Rattle.it_space.specs.declared.spaces.Space.{Space}
-use Rattle.it_space.specs.declared.problems.Constraint.{Constraint}
+use Rattle.it_problems.specs.declared.problems.Constraint.{Constraint}
 use Rattle.it_space.specs.Rows.{value}
 use Rattle.it_polymatroid.specs.Certificates.{Form, Generators, IsAllowed, combination}
 use Rattle.it_elemental.specs.Generators.{forms_of, of_constraint, generator_at, is_equation}
 use Rattle.it_syntax.specs.Meaning.{RelationView}
 use Rattle.it_demand.specs.Demands.{Demand}
-use Rattle.it_space.specs.declared.problems.Origin.{Origin}
+use Rattle.it_problems.specs.declared.problems.Origin.{Origin}
 use Rattle.it_closure.specs.declared.dependences.Dependence.{Dependence}
 use Rattle.it_closure.specs.Collapse.{spread_out}
 use Rattle.it_closure.proofs.Places.{place-zero}
@@ -33,9 +33,11 @@ pub record AreSameConstraints (g k : Generators) : Type 0 where
   pub kinds : (i : ℕ) → i < g.count → g.is_equation i ≡ k.is_equation i
   pub forms : (i : ℕ) → i < g.count → AreSame (g.form i) (k.form i)
 
-pub same_combination : (g k : Generators) → AreSameConstraints g k → (ws : List (ℕ × ℤ)) → All (IsAllowed g) ws → AreSame (λ p. combination ws (λ i. g.form i p)) (λ p. combination ws (λ i. k.form i p))
+pub same_combination : (g k : Generators) → AreSameConstraints g k → (ws : List (ℕ × ℤ)) → All (IsAllowed g) ws
+    → AreSame (λ p. combination ws (λ i. g.form i p)) (λ p. combination ws (λ i. k.form i p))
 same_combination g k s [] a p z = refl
-same_combination g k s (w ∷ ws) a p z = ap₂ (λ (x y : ℤ). w.1 *ℤ x +ℤ y) (s.forms w.0 (All-head (IsAllowed g) w ws a).0 p z) (same_combination g k s ws (All-tail (IsAllowed g) w ws a) p z)
+same_combination g k s (w ∷ ws) a p z = ap₂ (λ (x y : ℤ). w.1 *ℤ x +ℤ y) (s.forms w.0 (All-head (IsAllowed g) w ws a).0 p z)
+    (same_combination g k s ws (All-tail (IsAllowed g) w ws a) p z)
 
 -- weights that may stand with some constraints may with the same ones
 pub allowed_in_same : (g k : Generators) (ws : List (ℕ × ℤ)) → AreSameConstraints g k → All (IsAllowed g) ws → All (IsAllowed k) ws
@@ -67,7 +69,8 @@ sum_of_same g k f ws s t = record {
 
 -- a constraint by its number is what states the demand of this number
 agreeing_at : (s : Space) (ds : List Demand) (cs : List Constraint) (i : ℕ) → i < length cs → AllZip (States s) ds cs
-    → ((is_equation (generator_at (map of_constraint cs) i).kind) ≡ is_equation (demand_at ds i).kind) × AreSame (value (generator_at (map of_constraint cs) i).row) (demand_at ds i).form
+    → ((is_equation (generator_at (map of_constraint cs) i).kind) ≡ is_equation (demand_at ds i).kind)
+    × AreSame (value (generator_at (map of_constraint cs) i).row) (demand_at ds i).form
 agreeing_at s [] [] i h a = absurd (omega arith)
 agreeing_at s [] (c ∷ cs) i h a = absurd a
 agreeing_at s (d ∷ ds) [] i h a = absurd a
@@ -75,7 +78,8 @@ agreeing_at s (d ∷ ds) (c ∷ cs) zero h a = (ap is_equation a.0.kind, a.0.row
 agreeing_at s (d ∷ ds) (c ∷ cs) (suc i) h a = agreeing_at s ds cs i (omega arith) a.1
 
 -- the constraints of a problem are what its lines demand
-pub stated_are_same : (s : Space) (ds : List Demand) (cs : List Constraint) → AllZip (States s) ds cs → AreSameConstraints (forms_of (map of_constraint cs)) (constraints_of ds)
+pub stated_are_same : (s : Space) (ds : List Demand) (cs : List Constraint) → AllZip (States s) ds cs
+    → AreSameConstraints (forms_of (map of_constraint cs)) (constraints_of ds)
 stated_are_same s ds cs a =
     let counted : length (map of_constraint cs) ≡ length cs = length-map cs of_constraint in record {
       count = counted ∙ zip-length (States s) ds cs a;
@@ -84,14 +88,17 @@ stated_are_same s ds cs a =
     }
 
 -- a text that tells a proof from a problem's constraints tells it from the question's lines
-pub told_by_lines : {X : Type 0} (items : X → List ℕ) (q : BodyView) (v : NamesView) (target : Form) (s : Space) (cs : List Constraint) (o : Option X) → v ≡ problem_names q
-    → AllZip (States s) (question_demands q) cs → IfSome o (λ x. TellsProof v target (forms_of (map of_constraint cs)) (items x)) → IfSome o (λ x. TellsForm q target (items x))
+pub told_by_lines : {X : Type 0} (items : X → List ℕ) (q : BodyView) (v : NamesView) (target : Form) (s : Space) (cs : List Constraint)
+    (o : Option X) → v ≡ problem_names q
+    → AllZip (States s) (question_demands q) cs → IfSome o (λ x. TellsProof v target (forms_of (map of_constraint cs)) (items x))
+    → IfSome o (λ x. TellsForm q target (items x))
 told_by_lines items q v target s cs None e are h = tt
 told_by_lines items q v target s cs (Some x) e are h =
     let t = subst (λ (w : NamesView). TellsProof w target (forms_of (map of_constraint cs)) (items x)) e h in record {
       relation = t.relation;
       is = t.is;
-      proves = proof_of_same (variable_count q) t.relation target target (forms_of (map of_constraint cs)) (constraints_of (question_demands q)) (λ p z. refl) (stated_are_same s (question_demands q) cs are) t.proves;
+      proves = proof_of_same (variable_count q) t.relation target target (forms_of (map of_constraint cs))
+          (constraints_of (question_demands q)) (λ p z. refl) (stated_are_same s (question_demands q) cs are) t.proves;
     }
 
 -- what says a function among constraints says it among ones that are the same
@@ -106,7 +113,8 @@ said_by_same n g k lines d s t = record {
   below = t.below;
 }
 
-proof_under_of_same : (n : ℕ) (lines : List ℕ) (r : RelationView) (named : List (ℕ × ℤ)) (target : Form) (g k : Generators) → AreSameConstraints g k → IsProofUnder n lines r named target g
+proof_under_of_same : (n : ℕ) (lines : List ℕ) (r : RelationView) (named : List (ℕ × ℤ)) (target : Form) (g k : Generators)
+    → AreSameConstraints g k → IsProofUnder n lines r named target g
     → IsProofUnder n lines r named target k
 proof_under_of_same n lines r named target g k s u = record {
   equality = u.equality;
@@ -128,7 +136,8 @@ placed_origins [] (c ∷ cs) a = absurd a
 placed_origins (x ∷ places) [] a = absurd a
 placed_origins (x ∷ places) (c ∷ cs) a = ap₂ (λ (o : Origin) (os : List Origin). o ∷ os) a.0 (placed_origins places cs a.1)
 
-under_by_lines : (q : BodyView) (lines : List ℕ) (named : List (ℕ × ℤ)) (target : Form) (s : Space) (cs : List Constraint) (text : List ℕ) → AreStated s (question_origins q) (question_demands q) cs
+under_by_lines : (q : BodyView) (lines : List ℕ) (named : List (ℕ × ℤ)) (target : Form) (s : Space) (cs : List Constraint) (text : List ℕ)
+    → AreStated s (question_origins q) (question_demands q) cs
     → TellsProofUnder (problem_names q) (origins_of cs) lines named target (forms_of (map of_constraint cs)) text → TellsFormUnder q lines named target text
 under_by_lines q lines named target s cs text are t = record {
   relation = t.relation;
@@ -137,7 +146,8 @@ under_by_lines q lines named target s cs text are t = record {
       (stated_are_same s (question_demands q) cs are.stated) t.proves;
 }
 
-printed_from_lines : (q : BodyView) (target : Form) (lines : List ℕ) (named : List (ℕ × ℤ)) (s : Space) (cs : List Constraint) (text whole by : List ℕ) → AreStated s (question_origins q) (question_demands q) cs
+printed_from_lines : (q : BodyView) (target : Form) (lines : List ℕ) (named : List (ℕ × ℤ)) (s : Space) (cs : List Constraint)
+    (text whole by : List ℕ) → AreStated s (question_origins q) (question_demands q) cs
     → ArePrintedFrom (problem_names q) target cs lines named text whole by → ArePrinted q target lines named text whole by
 printed_from_lines q target lines named s cs text whole by are t = record {
   text_tells = under_by_lines q lines named target s cs text are t.text_tells;
@@ -146,8 +156,10 @@ printed_from_lines q target lines named s cs text whole by are t = record {
 }
 
 -- texts that tell a proof from a problem's constraints where functions hold tell it from the question's lines
-pub printed_by_lines : {X : Type 0} (lines : X → List ℕ) (named : X → List (ℕ × ℤ)) (text whole by : X → List ℕ) (q : BodyView) (target : Form) (s : Space) (cs : List Constraint) (o : Option X) → AreStated s (question_origins q) (question_demands q) cs
-    → IfSome o (λ x. ArePrintedFrom (problem_names q) target cs (lines x) (named x) (text x) (whole x) (by x)) → IfSome o (λ x. ArePrinted q target (lines x) (named x) (text x) (whole x) (by x))
+pub printed_by_lines : {X : Type 0} (lines : X → List ℕ) (named : X → List (ℕ × ℤ)) (text whole by : X → List ℕ) (q : BodyView)
+    (target : Form) (s : Space) (cs : List Constraint) (o : Option X) → AreStated s (question_origins q) (question_demands q) cs
+    → IfSome o (λ x. ArePrintedFrom (problem_names q) target cs (lines x) (named x) (text x) (whole x) (by x))
+    → IfSome o (λ x. ArePrinted q target (lines x) (named x) (text x) (whole x) (by x))
 printed_by_lines lines named text whole by q target s cs None are h = tt
 printed_by_lines lines named text whole by q target s cs (Some x) are h = printed_from_lines q target (lines x) (named x) s cs (text x) (whole x) (by x) are h
 
@@ -156,7 +168,8 @@ pub same_constraints : (g : Generators) → AreSameConstraints g g
 same_constraints g = record { count = refl; kinds = λ i h. refl; forms = λ i h p z. refl }
 
 -- a text that tells a proof of a form where functions hold tells one of each form that is the same
-pub under_of_same_target : (q : BodyView) (lines : List ℕ) (named : List (ℕ × ℤ)) (f h : Form) (text : List ℕ) → AreSame f h → TellsFormUnder q lines named f text → TellsFormUnder q lines named h text
+pub under_of_same_target : (q : BodyView) (lines : List ℕ) (named : List (ℕ × ℤ)) (f h : Form) (text : List ℕ) → AreSame f h
+    → TellsFormUnder q lines named f text → TellsFormUnder q lines named h text
 under_of_same_target q lines named f h text e t =
     let u = t.proves in
     let g = constraints_of (question_demands q) in record {

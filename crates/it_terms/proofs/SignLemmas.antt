@@ -20,18 +20,21 @@ use Rattle.it_terms.specs.Signs.{AreLeastTogether}
 use Rattle.it_terms.specs.Tells.{IsRelationText, SaysForms, TellsForms}
 
 -- rows that are the same in lowest terms
-pub least_together : (row other low other_low : Terms) → AreLowestTermsOf row low → AreLowestTermsOf other other_low → low ≡ other_low → AreLeastTogether row other
+pub least_together : (row other low other_low : Terms) → AreLowestTermsOf row low → AreLowestTermsOf other other_low → low ≡ other_low
+    → AreLeastTogether row other
 least_together row other low other_low a b e p = (
   λ h. (b.signs p).positive.1 (subst (λ (t : Terms). pos 0 ≤ℤ value t p) e ((a.signs p).positive.0 h)),
   λ h. (a.signs p).positive.1 (subst (λ (t : Terms). pos 0 ≤ℤ value t p) (sym e) ((b.signs p).positive.0 h)),
 )
 
 -- one more pair of rows
-pub together_more : (rows others : List Terms) (i : ℕ) (row other : Terms) → i < length rows → i < length others → row ≡ get_or rows i row → other ≡ get_or others i other → AreLeastTogether row other
+pub together_more : (rows others : List Terms) (i : ℕ) (row other : Terms) → i < length rows → i < length others → row ≡ get_or rows i row
+    → other ≡ get_or others i other → AreLeastTogether row other
     → AllZip AreLeastTogether (take i rows) (take i others) → AllZip AreLeastTogether (take (i + 1) rows) (take (i + 1) others)
 together_more rows others i row other inside within is other_is here before =
     subst₂ (λ (xs ys : List Terms). AllZip AreLeastTogether xs ys) (sym (take_at_read rows i row inside).1) (sym (take_at_read others i other within).1)
-    (zip-append AreLeastTogether (take i rows) (get_or rows i row ∷ []) (take i others) (get_or others i other ∷ []) before (subst₂ (λ (x y : Terms). AreLeastTogether x y) is other_is here, tt))
+    (zip-append AreLeastTogether (take i rows) (get_or rows i row ∷ []) (take i others) (get_or others i other ∷ []) before
+    (subst₂ (λ (x y : Terms). AreLeastTogether x y) is other_is here, tt))
 
 -- forms are at least 0 where the rows are that have the signs of theirs
 least_by_rows : (s : Space) (p : ℕ → ℤ) → p 0 ≡ pos 0 → (fs : List Form) (own rows : List Terms) → AreRowsOf s fs own → AllZip AreLeastTogether own rows
@@ -46,11 +49,13 @@ least_by_rows s p z (f ∷ fs) (x ∷ own) (row ∷ rows) a b =
     let same : value x p ≡ f p = a.0.same p z in
     let more = least_by_rows s p z fs own rows a.1 b.1 in (
       λ h. All-cons P (value row) (map value rows) ((b.0 p).0 (subst (λ (v : ℤ). pos 0 ≤ℤ v) (sym same) (All-head P f fs h))) (more.0 (All-tail P f fs h)),
-      λ h. All-cons P f fs (subst (λ (v : ℤ). pos 0 ≤ℤ v) same ((b.0 p).1 (All-head P (value row) (map value rows) h))) (more.1 (All-tail P (value row) (map value rows) h)),
+      λ h. All-cons P f fs (subst (λ (v : ℤ). pos 0 ≤ℤ v) same ((b.0 p).1 (All-head P (value row) (map value rows) h)))
+          (more.1 (All-tail P (value row) (map value rows) h)),
     )
 
 -- a relation whose targets have the signs of rows says these to be at least 0
-pub forms_said : (s : Space) (r : RelationView) (own rows : List Terms) → AreRowsOf s (targets s.variables r) own → AllZip AreLeastTogether own rows → SaysForms s.variables r (map value rows)
+pub forms_said : (s : Space) (r : RelationView) (own rows : List Terms) → AreRowsOf s (targets s.variables r) own
+    → AllZip AreLeastTogether own rows → SaysForms s.variables r (map value rows)
 forms_said s r own rows a b p z =
     let n : ℕ = s.variables in
     let m : ℕ = common_denominator r in
@@ -62,5 +67,10 @@ pub forms_told : {E : Type 0} (v : NamesView) (forms : List Form) (text : List �
     → s ≡ record { variables = length v.variables; rates = length v.rates } → IsRelationText v text r
     → IfOk result (λ b. OnTrue b (SaysForms s.variables r forms)) → IfOk result (λ b. OnTrue b (TellsForms v forms text))
 forms_told v forms text s r (Ok b) e is h =
-    OnTrue_from b (TellsForms v forms text) (λ t. record { relation = r; is = is; same = subst (λ (z : Space). SaysForms z.variables r forms) e (OnTrue_at t h) })
+    OnTrue_from b (TellsForms v forms text) (λ t. record {
+      relation = r;
+      is = is;
+      same = subst
+          (λ (z : Space). SaysForms z.variables r forms) e (OnTrue_at t h);
+    })
 forms_told v forms text s r (Err x) e is h = tt

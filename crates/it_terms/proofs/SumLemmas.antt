@@ -23,7 +23,8 @@ use Rattle.it_terms.specs.Proofs.{AreSame}
 use Rattle.it_terms.specs.Sums.{IsPlus}
 
 -- an amount added at its place
-pub plus_from_added : (old new : List ℤ) (at : ℕ) (times x amount : ℤ) → at < length old → amount ≡ times *ℤ x → IsAdded old new at amount → IsPlus old new (λ p. times *ℤ (x *ℤ p at))
+pub plus_from_added : (old new : List ℤ) (at : ℕ) (times x amount : ℤ) → at < length old → amount ≡ times *ℤ x → IsAdded old new at amount
+    → IsPlus old new (λ p. times *ℤ (x *ℤ p at))
 plus_from_added old new at times x amount h e a =
     let f = form_added old new at amount h a in record {
       complete = f.complete;
@@ -51,8 +52,10 @@ pub record IsPartAdded {X : Type 0} (form : List X → Form) (old now : List ℤ
 pub part_added-first : {X : Type 0} (form : List X → Form) (old : List ℤ) (items : List X) → IsPartAdded form old old items 0
 part_added-first form old items = record { complete = refl; within = λ w. w; sum = λ p. refl }
 
-pub part_added-more : {X : Type 0} (form : List X → Form) (one : Form) (old now new : List ℤ) (items : List X) (i : ℕ) (x : X) → i < length items → x ≡ get_or items i x
-    → ((p : ℕ → ℤ) → form (x ∷ drop (i + 1) items) p ≡ one p +ℤ form (drop (i + 1) items) p) → IsPlus now new one → IsPartAdded form old now items i → IsPartAdded form old new items (i + 1)
+pub part_added-more : {X : Type 0} (form : List X → Form) (one : Form) (old now new : List ℤ) (items : List X) (i : ℕ) (x : X)
+    → i < length items → x ≡ get_or items i x
+    → ((p : ℕ → ℤ) → form (x ∷ drop (i + 1) items) p ≡ one p +ℤ form (drop (i + 1) items) p) → IsPlus now new one
+    → IsPartAdded form old now items i → IsPartAdded form old new items (i + 1)
 part_added-more form one old now new items i x h is splits a u = record {
   complete = a.complete ∙ u.complete;
   within = λ w. a.within (u.within w);
@@ -63,12 +66,14 @@ part_added-more form one old now new items i x h is splits a u = record {
     sum_with_rest : (new now old y rest all : ℤ) → new ≡ now +ℤ y → now +ℤ (y +ℤ rest) ≡ old +ℤ all → new +ℤ rest ≡ old +ℤ all
     sum_with_rest new now old y rest all f g = omega (arith, ints, f, g)
 
-pub part_added-all : {X : Type 0} (form : List X → Form) (old now : List ℤ) (items : List X) (i : ℕ) → length items ≤ i → ((p : ℕ → ℤ) → form [] p ≡ pos 0) → IsPartAdded form old now items i
+pub part_added-all : {X : Type 0} (form : List X → Form) (old now : List ℤ) (items : List X) (i : ℕ) → length items ≤ i
+    → ((p : ℕ → ℤ) → form [] p ≡ pos 0) → IsPartAdded form old now items i
     → IsPlus old now (form items)
 part_added-all form old now items i h nothing u = record {
   complete = u.complete;
   within = u.within;
-  sum = λ p. without_rest (dense_form now p) (form (drop i items) p) (dense_form old p +ℤ form items p) (ap (λ xs. form xs p) (drop_all i items h) ∙ nothing p) (u.sum p);
+  sum = λ p. without_rest (dense_form now p) (form (drop i items) p) (dense_form old p +ℤ form items p)
+      (ap (λ xs. form xs p) (drop_all i items h) ∙ nothing p) (u.sum p);
 }
   where
     without_rest : (now rest all : ℤ) → rest ≡ pos 0 → now +ℤ rest ≡ all → now ≡ all
@@ -97,17 +102,20 @@ pair_decides a b =
     ((λ e. let p = d.0 e in ap₂ (λ (x : ℕ) (y : ℤ). (x, y)) p.0 p.1), (λ e. d.1 (ap (λ (t : ℕ × ℤ). t.0) e, ap (λ (t : ℕ × ℤ). t.1) e)))
 
 -- sums at the places of a space are few
-pub places_few : (s : Space) (sums : List ℤ) (places : ℕ) → IsSpace s → places ≡ size_of s + 1 → length sums ≡ length (replicate places (pos 0)) → length sums ≤ 2 ^ 31
+pub places_few : (s : Space) (sums : List ℤ) (places : ℕ) → IsSpace s → places ≡ size_of s + 1
+    → length sums ≡ length (replicate places (pos 0)) → length sums ≤ 2 ^ 31
 places_few s sums places k e h =
     let most : 2 ^ s.variables ≤ 2 ^ 10 = pow-le-pow_right (lit< tt) k.few in
     let count : length (replicate places (pos 0)) ≡ places = length-replicate places (pos 0) in
     omega (arith, count, e, h, most, k.few_rates)
 
-pub same_as_added : {E : Type 0} (row : Terms) (old new : List ℤ) (places : ℕ) (form : Form) (result : Result Bool E) → old ≡ replicate places (pos 0) → IsPlus old new form
+pub same_as_added : {E : Type 0} (row : Terms) (old new : List ℤ) (places : ℕ) (form : Form) (result : Result Bool E)
+    → old ≡ replicate places (pos 0) → IsPlus old new form
     → IfOk result (λ b. OnTrue b (AreSame (value row) (dense_form new))) → IfOk result (λ b. OnTrue b (AreSame (value row) form))
 same_as_added row old new places form (Ok b) zeros plus h =
     OnTrue_from b (AreSame (value row) form) (λ e p z.
-    sum_from_zero (value row p) (dense_form new p) (dense_form old p) (form p) (OnTrue_at e h p z) (plus.sum p) (ap (λ (xs : List ℤ). dense_form xs p) zeros ∙ zeros-total 0 places p))
+    sum_from_zero (value row p) (dense_form new p) (dense_form old p) (form p) (OnTrue_at e h p z) (plus.sum p)
+    (ap (λ (xs : List ℤ). dense_form xs p) zeros ∙ zeros-total 0 places p))
   where
     sum_from_zero : (row new old form : ℤ) → row ≡ new → new ≡ old +ℤ form → old ≡ pos 0 → row ≡ form
     sum_from_zero row new old form e f g = omega (arith, ints, e, f, g)

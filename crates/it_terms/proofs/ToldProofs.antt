@@ -9,9 +9,9 @@ use Rattle.it_number.proofs.SignLemmas.{sum_least, product_least, least_by_multi
 use Rattle.it_space.specs.Sets.{IsInside}
 use Rattle.it_polymatroid.specs.Polymatroid.{IsPolymatroid}
 use Rattle.it_polymatroid.specs.Certificates.{Form, Generators, IsAllowed, combination}
-use Rattle.it_space.specs.declared.problems.Kind.{Kind}
-use Rattle.it_space.specs.declared.problems.Kind.TheVariants.{Inequality, Equation}
-use Rattle.it_space.specs.Problems.{Meets}
+use Rattle.it_problems.specs.declared.problems.Kind.{Kind}
+use Rattle.it_problems.specs.declared.problems.Kind.TheVariants.{Inequality, Equation}
+use Rattle.it_problems.specs.Problems.{Meets}
 use Rattle.it_syntax.specs.declared.types.Atom.{Atom}
 use Rattle.it_syntax.specs.declared.types.Atom.TheVariants.{Nothing, Entropy, Mutual, Rate}
 use Rattle.it_syntax.specs.declared.types.Term.{Term}
@@ -90,10 +90,12 @@ proof_least v target g text t p h least zeros =
     let m = common_denominator t.relation in
     let s = t.proves in
     let a : pos 0 ≤ℤ side_at n p m s.shannon = terms_least n m p s.shannon h s.plus in
-    let b : pos 0 ≤ℤ side_at n p m s.rest = subst (λ (x : ℤ). pos 0 ≤ℤ x) (sym (s.constraints_are p h.empty)) (weighted_least g (λ i. g.form i p) least zeros s.weights s.allowed) in
+    let b : pos 0 ≤ℤ side_at n p m s.rest = subst (λ (x : ℤ). pos 0 ≤ℤ x) (sym (s.constraints_are p h.empty))
+    (weighted_least g (λ i. g.form i p) least zeros s.weights s.allowed) in
     let c : s.scale *ℤ target p ≡ side_at n p m s.shannon +ℤ side_at n p m s.rest =
     sym (s.target_is p h.empty) ∙ t.is.identity p h.empty ∙ ap (λ (ts : List Term). side_at n p m ts) s.right ∙ side-append n m p s.shannon s.rest in
-    least_by_multiple s.scale (target p) (let o = s.scale_from_one in omega (arith, ints, o)) (subst (λ (x : ℤ). pos 0 ≤ℤ x) (sym c) (sum_least (side_at n p m s.shannon) (side_at n p m s.rest) a b))
+    least_by_multiple s.scale (target p) (let o = s.scale_from_one in omega (arith, ints, o))
+    (subst (λ (x : ℤ). pos 0 ≤ℤ x) (sym c) (sum_least (side_at n p m s.shannon) (side_at n p m s.rest) a b))
 
 -- what true lines demand is met
 pub lines_satisfied : (n : ℕ) (own : OwnLinesView) (p : ℕ → ℤ) → AreTrueAt n p own → All (IsSatisfied p) (line_demands n own)

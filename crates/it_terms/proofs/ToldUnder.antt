@@ -16,22 +16,26 @@ use Rattle.it_terms.proofs.ToldProofs.{side-append, weighted_least, terms_least,
 use Rattle.it_terms.proofs.UnderLemmas.{same_at}
 
 -- the target of such a proof is at least 0 at each polymatroid that meets the constraints
-proof_under_least : (n : ℕ) (lines : List ℕ) (r : RelationView) (named : List (ℕ × ℤ)) (target : Form) (g : Generators) → IsProofUnder n lines r named target g → (p : ℕ → ℤ) → IsPolymatroid n p
+proof_under_least : (n : ℕ) (lines : List ℕ) (r : RelationView) (named : List (ℕ × ℤ)) (target : Form) (g : Generators)
+    → IsProofUnder n lines r named target g → (p : ℕ → ℤ) → IsPolymatroid n p
     → ((i : ℕ) → i < g.count → pos 0 ≤ℤ g.form i p) → ((i : ℕ) → i < g.count → g.is_equation i ≡ true → g.form i p ≡ pos 0) → pos 0 ≤ℤ target p
 proof_under_least n lines r named target g u p h least zeros =
     let m = common_denominator r in
     let s = u.proves in
     let more : ℤ = combination named (λ i. g.form i p) in
     let a : pos 0 ≤ℤ side_at n p m s.shannon = terms_least n m p s.shannon h s.plus in
-    let b : pos 0 ≤ℤ side_at n p m s.rest = subst (λ (x : ℤ). pos 0 ≤ℤ x) (sym (s.constraints_are p h.empty)) (weighted_least g (λ i. g.form i p) least zeros s.weights s.allowed) in
+    let b : pos 0 ≤ℤ side_at n p m s.rest = subst (λ (x : ℤ). pos 0 ≤ℤ x) (sym (s.constraints_are p h.empty))
+    (weighted_least g (λ i. g.form i p) least zeros s.weights s.allowed) in
     let c : pos 0 ≤ℤ more = weighted_least g (λ i. g.form i p) least zeros named u.allowed in
-    let right : side_form n r r.right p ≡ side_at n p m s.shannon +ℤ side_at n p m s.rest = ap (λ (ts : List Term). side_at n p m ts) s.right ∙ side-append n m p s.shannon s.rest in
+    let right : side_form n r r.right p ≡ side_at n p m s.shannon +ℤ side_at n p m s.rest = ap (λ (ts : List Term). side_at n p m ts)
+    s.right ∙ side-append n m p s.shannon s.rest in
     let e : s.scale *ℤ target p ≡ side_at n p m s.shannon +ℤ side_at n p m s.rest +ℤ more =
     sym (s.target_is p h.empty)
     ∙ same_at n g lines u.functions (side_form n r r.left) (λ q. side_form n r r.right q +ℤ combination named (λ i. g.form i q)) p u.said h zeros u.adds_up
     ∙ ap (λ (x : ℤ). x +ℤ more) right in
     least_by_multiple s.scale (target p) (let o = s.scale_from_one in omega (arith, ints, o))
-    (subst (λ (x : ℤ). pos 0 ≤ℤ x) (sym e) (sum_least (side_at n p m s.shannon +ℤ side_at n p m s.rest) more (sum_least (side_at n p m s.shannon) (side_at n p m s.rest) a b) c))
+    (subst (λ (x : ℤ). pos 0 ≤ℤ x) (sym e) (sum_least (side_at n p m s.shannon +ℤ side_at n p m s.rest) more
+    (sum_least (side_at n p m s.shannon) (side_at n p m s.rest) a b) c))
 
 pub told_under_proves : ToldUnderProves
 told_under_proves q lines named target text t p h =

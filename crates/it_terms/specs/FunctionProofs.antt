@@ -3,8 +3,8 @@
 use Rattle.std.specs.Prelude.{◌≡◌, ◌<◌, ◌^◌, ℕ, ℤ, pos, int_lt, unsigned_abs, ◌+ℤ◌, ◌≤ℤ◌, true, false, List, [], ◌∷◌, ◌++◌, length, All, Bool, if◌then◌else◌, ◌==◌, codes, decimal, slice_index_or}
 use Rattle.std.specs.List.{Contains}
 use Rattle.it_space.specs.Sets.{IsInside}
-use Rattle.it_space.specs.declared.problems.Origin.{Origin}
-use Rattle.it_space.specs.declared.problems.Origin.TheVariants.{Rate}
+use Rattle.it_problems.specs.declared.problems.Origin.{Origin}
+use Rattle.it_problems.specs.declared.problems.Origin.TheVariants.{Rate}
 use Rattle.it_polymatroid.specs.Certificates.{Form, Generators, IsAllowed, combination}
 use Rattle.it_closure.specs.declared.dependences.Dependence.{Dependence}
 use Rattle.it_closure.specs.Collapse.{spread_out}

@@ -1,7 +1,7 @@
 -- No public clause cites this module: what the makers of a proof's text say of it.
 use Rattle.std.specs.Prelude.{◌≡◌, ℕ, ℤ, List, [], map, Option, IfSome, Vec}
 use Rattle.std.specs.Global.{Global}
-use Rattle.it_space.specs.declared.problems.Constraint.{Constraint}
+use Rattle.it_problems.specs.declared.problems.Constraint.{Constraint}
 use Rattle.it_space.specs.Rows.{Terms, value}
 use Rattle.it_polymatroid.specs.Certificates.{Form}
 use Rattle.it_elemental.specs.Generators.{forms_of, of_constraint}

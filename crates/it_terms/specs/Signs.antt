@@ -1,9 +1,9 @@
 -- No public clause cites this module: rows that have one sign everywhere, or wherever functions hold.
 use Rattle.std.specs.Prelude.{◌≡◌, ◌↔◌, ◌<◌, ℕ, ℤ, pos, ◌≤ℤ◌, List, length, map, get_or, All}
-use Rattle.it_space.specs.declared.problems.Constraint.{Constraint}
-use Rattle.it_space.specs.declared.problems.Kind.TheVariants.{Equation}
-use Rattle.it_space.specs.declared.problems.Origin.{Origin}
-use Rattle.it_space.specs.declared.problems.Origin.TheVariants.{Given, Rate}
+use Rattle.it_problems.specs.declared.problems.Constraint.{Constraint}
+use Rattle.it_problems.specs.declared.problems.Kind.TheVariants.{Equation}
+use Rattle.it_problems.specs.declared.problems.Origin.{Origin}
+use Rattle.it_problems.specs.declared.problems.Origin.TheVariants.{Given, Rate}
 use Rattle.it_space.specs.Rows.{HaveOneSign, Terms, value}
 use Rattle.it_elemental.specs.Generators.{forms_of, of_constraint}
 use Rattle.it_closure.specs.declared.dependences.Dependence.{Dependence}

@@ -1,6 +1,6 @@
 -- The steps of a proof where functions hold: a piece is a term or a constraint by the name of its line, and the first one has a step too.
 use Rattle.std.specs.Prelude.{◌≡◌, ℕ, ℤ, ◌+ℤ◌, List, [], ◌∷◌, ◌++◌, length, map, All, if◌then◌else◌, ◌==◌, codes}
-use Rattle.it_space.specs.declared.problems.Origin.{Origin}
+use Rattle.it_problems.specs.declared.problems.Origin.{Origin}
 use Rattle.it_polymatroid.specs.Certificates.{Generators, IsAllowed, combination}
 use Rattle.it_closure.specs.declared.dependences.Dependence.{Dependence}
 use Rattle.it_syntax.specs.declared.types.Sign.TheVariants.{Equal}

@@ -8,10 +8,10 @@ use Rattle.it_space.specs.Spaces.{size_of}
 use Rattle.it_syntax.specs.Meaning.{RelationView}
 use Rattle.it_terms.specs.Proofs.{AreSame, side_form}
 use Rattle.it_terms.specs.FunctionProofs.{IsSaid}
-use Rattle.it_space.specs.Problems.{ProblemView}
+use Rattle.it_problems.specs.Problems.{ProblemView}
 use Rattle.it_closure.specs.declared.dependences.Dependence.{Dependence}
 use Rattle.it_syntax.specs.NamesViews.{NamesView}
-use Rattle.it_space.specs.declared.problems.Constraint.{Constraint}
+use Rattle.it_problems.specs.declared.problems.Constraint.{Constraint}
 use Rattle.it_polymatroid.specs.Certificates.{Form, combination}
 use Rattle.it_elemental.specs.Generators.{forms_of, of_constraint}
 use Rattle.it_demand.specs.Coefficients.{dense_form, signed_by}

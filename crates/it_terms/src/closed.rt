@@ -1,6 +1,7 @@
 //! Sets that are closed under a question's functions, and terms over them. The results are judged by the equations that they
 //! give.
 ghost use Rattle.std.specs.Prelude.{◌≤◌};
+ghost use Rattle.it_space.specs.Spaces.{most_variables};
 
 use it_closure::Dependences;
 use it_space::VarSet;
@@ -77,7 +78,7 @@ pub fn size(set: VarSet) -> u32 {
 
 /// The sets of `variables` variables, those of fewer members first.
 fn sets_by_size(alloc: Global, variables: u8) -> Result<Vec<VarSet>, AllocError>
-    requires { variables ≤ 10 }
+    requires { variables ≤ most_variables }
 {
     let mut sets = Vec::new(alloc);
     for members in 0..11 {
@@ -97,7 +98,7 @@ pub fn closures_of(
     dependences: &Dependences,
     variables: u8,
 ) -> Result<Closures, AllocError>
-    requires { variables ≤ 10 }
+    requires { variables ≤ most_variables }
 {
     let mut table = Vec::new(alloc);
     for number in 0..1u16 << variables {

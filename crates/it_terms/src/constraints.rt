@@ -3,8 +3,9 @@
 use crate::finding::turned;
 use crate::untold::Untold;
 use it_fraction::lcm;
+use it_problems::Origin;
 use it_question::types::{Question, Verb};
-use it_space::{Origin, VarSet};
+use it_space::VarSet;
 use it_syntax::types::{Atom, Given, Relation, Sign, Term};
 
 /// The least common multiple of a number and a denominator.

@@ -1,5 +1,6 @@
 //! Lays out the terms of a row as a relation, with rates on the left. The relation is judged by its text.
 ghost use Rattle.std.specs.Prelude.{◌≤◌};
+ghost use Rattle.it_space.specs.Spaces.{most_variables};
 
 use crate::finding::{Found, term_of};
 use crate::untold::Untold;
@@ -27,7 +28,7 @@ impl Drop for Draft {
 
 /// The terms of `found.scale` times `row`: those of its rates, and then `found.terms`, the sum for its part over sets.
 pub fn row_terms(alloc: Global, row: &Row, found: &Found, space: Space) -> Result<Vec<Term>, Untold>
-    requires { space.variables ≤ 10 }
+    requires { space.variables ≤ most_variables }
 {
     let sets = 1u32 << space.variables;
     let mut terms = Vec::new(alloc);

@@ -1,5 +1,6 @@
 //! Writes rows as sums of measures. What is found is judged by the text that it gives, so no clause says it here.
 ghost use Rattle.std.specs.Prelude.{◌≤◌};
+ghost use Rattle.it_space.specs.Spaces.{most_variables};
 
 use crate::measures::Measure;
 use crate::untold::Untold;
@@ -51,7 +52,7 @@ pub fn term_of(times: i128, atom: Atom) -> Result<Term, Untold> {
 
 /// The terms of `row` over sets, which come before those of rates.
 fn set_terms(row: &Row, space: Space) -> &[(u32, i128)]
-    requires { space.variables ≤ 10 }
+    requires { space.variables ≤ most_variables }
 {
     let terms = row.terms();
     for i in 0..terms.len() {
@@ -79,7 +80,7 @@ fn used_coordinates(
     row: &Row,
     space: Space,
 ) -> Result<Vec<u32>, AllocError>
-    requires { space.variables ≤ 10 }
+    requires { space.variables ≤ most_variables }
 {
     let mut coordinates = Vec::new(alloc);
     for coordinate in 1..1u32 << space.variables {
@@ -167,7 +168,7 @@ const MOST_ROUNDS: u32 = 16;
 /// A sum of `measures` equal to the part of `row` over sets. Measures are left out of it one by one as long as that makes it
 /// shorter, at most `MOST_ROUNDS` times.
 fn short_sum(alloc: Global, measures: &[Measure], row: &Row, space: Space) -> Result<Choice, Untold>
-    requires { space.variables ≤ 10 }
+    requires { space.variables ≤ most_variables }
 {
     let coordinates = used_coordinates(alloc, measures, row, space)?;
     let all: Vec<usize> = (0..measures.len()).collect(alloc)?;
@@ -220,7 +221,7 @@ fn weight_term(
 
 /// A sum of several of `measures` equal to the part of `row` over sets.
 fn found_sum(alloc: Global, measures: &[Measure], row: &Row, space: Space) -> Result<Found, Untold>
-    requires { space.variables ≤ 10 }
+    requires { space.variables ≤ most_variables }
 {
     let choice = short_sum(alloc, measures, row, space)?;
     let scale = common_multiple(alloc, choice.weights.as_slice())?;
@@ -335,7 +336,7 @@ fn single(measures: &[Measure], terms: &[(u32, i128)]) -> Result<Term, Untold> {
 
 /// The part of `row` over sets, as joint entropies.
 pub fn joint_sum(alloc: Global, row: &Row, space: Space) -> Result<Found, Untold>
-    requires { space.variables ≤ 10 }
+    requires { space.variables ≤ most_variables }
 {
     let mut terms = Vec::new(alloc);
     for term in set_terms(row, space) {
@@ -352,7 +353,7 @@ pub fn own_sum(
     row: &Row,
     space: Space,
 ) -> Result<Found, Untold>
-    requires { space.variables ≤ 10 }
+    requires { space.variables ≤ most_variables }
 {
     let terms = set_terms(row, space);
     if terms.is_empty() {

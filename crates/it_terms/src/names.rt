@@ -1,12 +1,12 @@
 //! Constraints by the names of their lines.
 ghost use Rattle.std.specs.Prelude.{◌≡◌, ◌++◌, codes, filter, int_lt, not, length, map, pos, slice_index_or, true, ◌==◌, if◌then◌else◌, IfOk, OnOk};
-ghost use Rattle.it_space.specs.declared.problems.Origin.TheVariants.{Rate};
+ghost use Rattle.it_problems.specs.declared.problems.Origin.TheVariants.{Rate};
 ghost use Rattle.it_print.specs.Lines.{origins_of};
 ghost use Rattle.it_terms.specs.FunctionProofs.{by_comment, line_name, listed_names, named_weight, named_weights, times_text, weight_sign};
 ghost use Rattle.it_terms.specs.RowOrigins.{line_weight, line_weights, plus_first, row_comment};
 
 use it_print::write_origin;
-use it_space::{Constraint, Origin};
+use it_problems::{Constraint, Origin};
 use itoa::Buffer;
 use std::alloc::{AllocError, Global};
 

@@ -29,8 +29,9 @@ use it_canon::problem;
 use it_closure::Dependences;
 use it_elemental::count;
 use it_fraction::signed_product;
+use it_problems::Problem;
 use it_question::types::Question;
-use it_space::{Certificate, Problem, Row};
+use it_space::{Certificate, Row};
 use it_syntax::types::Term;
 use std::alloc::{AllocError, Global};
 

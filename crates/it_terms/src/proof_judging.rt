@@ -11,7 +11,8 @@ ghost use Rattle.it_terms.specs.Proposals.{IsProofFrom};
 
 use crate::equations::{equation, side_row};
 use crate::sums::{are_allowed, is_multiple, is_sum};
-use it_space::{Constraint, Row, Space};
+use it_problems::Constraint;
+use it_space::{Row, Space};
 use it_syntax::types::{Atom, Relation, Term};
 use it_syntax::{Names, common_denominator};
 use std::alloc::{AllocError, Global};

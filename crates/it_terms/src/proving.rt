@@ -6,6 +6,7 @@ ghost use Rattle.it_question.specs.Limits.{IsQuestion};
 ghost use Rattle.it_question.specs.Questions.{question_body};
 ghost use Rattle.it_terms.specs.Proposals.{MayProve};
 ghost use Rattle.it_terms.specs.Proofs.{TellsForm};
+ghost use Rattle.it_space.specs.Spaces.{most_variables};
 
 use crate::closed::Closures;
 use crate::constraints::{put_constraint, put_relation, put_side};
@@ -23,8 +24,9 @@ use crate::writing::sums_text;
 use it_canon::{problem, target_rows};
 use it_elemental::{Elemental, count, parts};
 use it_fraction::signed_product;
+use it_problems::Constraint;
 use it_question::types::{Question, Verb};
-use it_space::{Certificate, Constraint, Row, Space, VarSet};
+use it_space::{Certificate, Row, Space, VarSet};
 use it_syntax::Names;
 use it_syntax::types::{Atom, Relation, Sign, Term};
 use std::alloc::{AllocError, Global};
@@ -87,7 +89,7 @@ fn variable(i: u8) -> VarSet {
 /// Elemental inequality `index` of `n` variables as an atom.
 fn elemental_atom(n: u8, index: u32) -> Atom
     requires some { 1 ≤ n }
-    requires few { n ≤ 10 }
+    requires few { n ≤ most_variables }
     requires listed { index < length (elementals n) }
 {
     match parts(n, index) {

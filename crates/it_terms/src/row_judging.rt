@@ -2,7 +2,7 @@
 ghost use Rattle.std.specs.Prelude.{◌≡◌, ◌≤◌, IfOk, IfSome, length, map};
 ghost use Rattle.std.specs.Bool.{OnTrue};
 ghost use Rattle.it_space.specs.Rows.{IsOver};
-ghost use Rattle.it_space.specs.declared.problems.Kind.TheVariants.{Equation};
+ghost use Rattle.it_problems.specs.declared.problems.Kind.TheVariants.{Equation};
 ghost use Rattle.it_space.specs.Spaces.{IsSpace, size_of};
 ghost use Rattle.it_elemental.specs.Generators.{forms_of, of_constraint};
 ghost use Rattle.it_closure.specs.Collapse.{IsCollapseOf};
@@ -15,7 +15,8 @@ use crate::reading::relation_text;
 use crate::under::functions_of;
 use it_canon::canon;
 use it_closure::Dependences;
-use it_space::{Constraint, Kind, Origin, Problem, Row, RowFault, Space, normal};
+use it_problems::{Constraint, Kind, Origin, Problem};
+use it_space::{Row, RowFault, Space, normal};
 use it_syntax::Names;
 use it_syntax::types::{Relation, Sign};
 use std::alloc::{AllocError, Global};

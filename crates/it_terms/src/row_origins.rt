@@ -7,6 +7,7 @@ ghost use Rattle.it_canon.specs.QuestionDemands.{question_origins};
 ghost use Rattle.it_rates.specs.Asked.{under_all_lines};
 ghost use Rattle.it_terms.specs.RowOrigins.{ComesFrom, row_comment};
 ghost use Rattle.it_terms.specs.Sums.{by_constraint};
+ghost use Rattle.it_space.specs.Spaces.{most_variables};
 
 use crate::names::origin_comment;
 use crate::row_judging::is_over;
@@ -25,7 +26,7 @@ fn by_constraints(
     variables: u8,
 ) -> Result<Vec<(u32, i128)>, AllocError>
     requires some { 1 ≤ variables }
-    requires few { variables ≤ 10 }
+    requires few { variables ≤ most_variables }
     ensures { IfOk result (λ ws. ws.items ≡ map (by_constraint (length (elementals variables))) weights.now) }
 {
     let elementals = count(variables);

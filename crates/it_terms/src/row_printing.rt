@@ -6,6 +6,7 @@ ghost use Rattle.it_question.specs.Questions.{question_body};
 ghost use Rattle.it_question.specs.ProblemLines.{problem_names};
 ghost use Rattle.it_terms.specs.RowsUnder.{IsPrintedRow};
 ghost use Rattle.it_terms.specs.Signs.{IsPrintedRowFrom};
+ghost use Rattle.it_space.specs.Spaces.{most_variables};
 
 use crate::closed::{ClosedTerm, Closures, closures_of};
 use crate::finding::own_sum;
@@ -18,8 +19,9 @@ use crate::untold::Untold;
 use it_canon::problem;
 use it_closure::Dependences;
 use it_elemental::count;
+use it_problems::{Constraint, Problem};
 use it_question::types::Question;
-use it_space::{Constraint, Problem, Row};
+use it_space::Row;
 use it_syntax::Names;
 use std::alloc::{AllocError, Global};
 
@@ -42,7 +44,7 @@ fn few_terms(
     closures: &Closures,
     variables: u8,
 ) -> Result<Vec<ClosedTerm>, AllocError>
-    requires { variables ≤ 10 }
+    requires { variables ≤ most_variables }
 {
     match closed_terms(alloc, closures, variables) {
         Ok(terms) => Ok(terms),

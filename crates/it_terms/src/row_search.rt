@@ -1,6 +1,7 @@
 //! Writes rows as sums over closed sets, in as few terms as it finds. What is found is judged by the text that it gives, so no
 //! clause says it here.
 ghost use Rattle.std.specs.Prelude.{◌≤◌};
+ghost use Rattle.it_space.specs.Spaces.{most_variables};
 
 use crate::closed::{ClosedTerm, Closures, size};
 use crate::finding::{Found, own_sum, term_of, turned};
@@ -131,7 +132,7 @@ fn place_of(closures: &Closures, set: VarSet) -> u32 {
 
 /// The coefficients of `row` at closed sets.
 fn part_of(alloc: Global, closures: &Closures, row: &Row, space: Space) -> Result<Part, Untold>
-    requires { space.variables ≤ 10 }
+    requires { space.variables ≤ most_variables }
 {
     let mut part = Part {
         terms: Vec::new(alloc),
@@ -219,7 +220,7 @@ fn written(
 
 /// The closed sets of `variables` variables, by number.
 fn closed_sets(alloc: Global, closures: &Closures, variables: u8) -> Result<Vec<VarSet>, AllocError>
-    requires { variables ≤ 10 }
+    requires { variables ≤ most_variables }
 {
     let mut sets = Vec::new(alloc);
     for number in 0..1u16 << variables {
@@ -259,7 +260,7 @@ pub fn closed_terms(
     closures: &Closures,
     variables: u8,
 ) -> Result<Vec<ClosedTerm>, Untold>
-    requires { variables ≤ 10 }
+    requires { variables ≤ most_variables }
 {
     let sets = closed_sets(alloc, closures, variables)?;
     let sets = sets.as_slice();
@@ -383,7 +384,7 @@ pub fn closed_sum(
     row: &Row,
     space: Space,
 ) -> Result<Found, Untold>
-    requires { space.variables ≤ 10 }
+    requires { space.variables ≤ most_variables }
 {
     let part = part_of(alloc, closures, row, space)?;
     if part.terms.is_empty() {

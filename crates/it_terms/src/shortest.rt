@@ -1,7 +1,7 @@
 //! Finds a proof with the least sum of terms over sets, or over closed sets, by the simplex method. What is found is judged by
 //! the text that it gives, so no clause says it here.
 ghost use Rattle.std.specs.Prelude.{◌≡◌, ◌+◌, ◌*◌, ◌^◌, ◌≤◌, ◌<◌, length, IfOk, OnOk};
-ghost use Rattle.it_space.specs.Spaces.{IsSpace};
+ghost use Rattle.it_space.specs.Spaces.{IsSpace, most_variables};
 ghost use Rattle.it_demand.specs.Coefficients.{largest};
 
 use crate::closed::{ClosedTerm, Closures};
@@ -11,7 +11,8 @@ use crate::untold::Untold;
 use it_columns::opposite_row;
 use it_demand::Coefficients;
 use it_fraction::{Fraction, signed_product};
-use it_space::{Constraint, Kind, Row, Space, VarSet};
+use it_problems::{Constraint, Kind};
+use it_space::{Row, Space, VarSet};
 use it_syntax::types::{Atom, Term};
 use std::alloc::{AllocError, Global};
 
@@ -65,12 +66,12 @@ impl Drop for Columns {
 }
 
 /// `space` with one more rate, at which each row has the sum of its terms over sets; `NotFound` unless it has 1 to
-/// `most_variables` variables and at most 15 rates.
-fn wider_space(space: Space, most_variables: u8) -> Result<Space, Untold>
-    requires { most_variables ≤ 10 }
+/// `most` variables and at most 15 rates.
+fn wider_space(space: Space, most: u8) -> Result<Space, Untold>
+    requires { most ≤ most_variables }
     ensures { IfOk result IsSpace }
 {
-    if space.variables < 1 || space.variables > most_variables || space.rates > 15 {
+    if space.variables < 1 || space.variables > most || space.rates > 15 {
         return Err(Untold::NotFound);
     }
     Ok(Space {

@@ -6,6 +6,7 @@ ghost use Rattle.it_question.specs.Limits.{IsQuestion};
 ghost use Rattle.it_question.specs.Questions.{question_body};
 ghost use Rattle.it_question.specs.ProblemLines.{problem_names};
 ghost use Rattle.it_terms.specs.ProofSteps.{AreStepTexts, TellsSteps, AreEquationSteps};
+ghost use Rattle.it_space.specs.Spaces.{most_variables};
 
 use crate::drafts::row_terms;
 use crate::equations::equation;
@@ -74,7 +75,7 @@ fn row_of(alloc: Global, measures: &[Measure], names: &Names, sum: &[Term]) -> R
 /// A sum equal to the part of `row` over sets: of the question's own measures if it is one with whole numbers, else of joint
 /// entropies.
 fn whole_sum(alloc: Global, measures: &[Measure], row: &Row, space: Space) -> Result<Found, Untold>
-    requires { space.variables ≤ 10 }
+    requires { space.variables ≤ most_variables }
 {
     match own_sum(alloc, measures, row, space) {
         Ok(found) => {

@@ -2,8 +2,9 @@
 //! texts, so no clause says it here.
 use crate::constraints::{item_of, link, union_of};
 use crate::untold::Untold;
+use it_problems::Origin;
 use it_question::types::{Question, Region, Verb};
-use it_space::{Origin, VarSet};
+use it_space::VarSet;
 use it_syntax::types::{Atom, Expr, Given, Relation, Sign, Term};
 use std::alloc::{AllocError, Global};
 

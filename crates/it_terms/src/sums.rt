@@ -11,7 +11,8 @@ ghost use Rattle.it_terms.specs.Sums.{IsPlus, constraint_value};
 
 use crate::untold::Untold;
 use it_fraction::signed_product;
-use it_space::{Constraint, Kind, Row, Space, Sums};
+use it_problems::{Constraint, Kind};
+use it_space::{Row, Space, Sums};
 use std::alloc::{AllocError, Global};
 
 /// Adds `weight.1` times `term` to `sums`, which has `places` places; `NotFound` if its coordinate isn't one of them, or on

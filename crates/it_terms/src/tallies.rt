@@ -1,5 +1,6 @@
 //! Sums so far, in joint entropies of closed sets. The results are judged by the equations that they give.
 ghost use Rattle.std.specs.Prelude.{◌≤◌};
+ghost use Rattle.it_space.specs.Spaces.{most_variables};
 
 use crate::closed::{ClosedTerm, Closures};
 use crate::finding::term_of;
@@ -25,7 +26,7 @@ impl Drop for Tally {
 
 /// The coordinate of a rate.
 fn rate_coordinate(space: Space, rate: u8) -> u32
-    requires { space.variables ≤ 10 }
+    requires { space.variables ≤ most_variables }
 {
     (1u32 << space.variables) + rate as u32
 }
@@ -33,7 +34,7 @@ fn rate_coordinate(space: Space, rate: u8) -> u32
 impl Tally {
     /// A sum of no terms, over the coordinates of a space.
     pub fn nothing(alloc: Global, space: Space) -> Result<Tally, AllocError>
-        requires { space.variables ≤ 10 }
+        requires { space.variables ≤ most_variables }
     {
         let mut sums = Vec::new(alloc);
         for _ in 0..rate_coordinate(space, space.rates) {
@@ -69,7 +70,7 @@ impl Tally {
 
     /// Adds a term.
     pub fn add_term(&mut self, closures: &Closures, space: Space, term: &Term) -> Result<(), Untold>
-        requires { space.variables ≤ 10 }
+        requires { space.variables ≤ most_variables }
     {
         let number = term.number as i128;
         let times = if term.negative { -number } else { number };
@@ -91,7 +92,7 @@ impl Tally {
 
     /// Appends the terms of rates.
     fn put_rates(&self, terms: &mut Vec<Term>, space: Space) -> Result<(), Untold>
-        requires { space.variables ≤ 10 }
+        requires { space.variables ≤ most_variables }
     {
         for rate in 0..space.rates {
             let number = self.number(rate_coordinate(space, rate));
@@ -133,7 +134,7 @@ impl Tally {
         measures: &[Measure],
         space: Space,
     ) -> Result<Vec<Term>, Untold>
-        requires { space.variables ≤ 10 }
+        requires { space.variables ≤ most_variables }
     {
         let mut terms = Vec::new(alloc);
         self.put_rates(&mut terms, space)?;

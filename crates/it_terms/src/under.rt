@@ -14,7 +14,8 @@ use crate::sums::{add_constraints, add_terms};
 use crate::untold::Untold;
 use it_closure::Dependences;
 use it_demand::difference;
-use it_space::{Constraint, Problem, Row, RowFault, Space, Sums};
+use it_problems::{Constraint, Problem};
+use it_space::{Row, RowFault, Space, Sums};
 use it_syntax::types::Relation;
 use std::alloc::{AllocError, Global};
 

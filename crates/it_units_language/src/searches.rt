@@ -8,10 +8,11 @@ use crate::fixtures::LONGEST_FILE;
 use it_contain::{
     Candidate, Contained, Pair, Proposer, Recent, Shape, Singles, Subsets, contain, pair,
 };
+use it_problems::Problem;
 use it_prove::Effort;
 use it_question::questions;
 use it_question::types::Verb;
-use it_space::{Problem, Space, VarSet};
+use it_space::{Space, VarSet};
 use std::alloc::Global;
 
 /// The defined run, with as many steps as it takes.

@@ -1,7 +1,8 @@
 //! Tests: the text of an empty row.
 
 use it_print::row_text;
-use it_space::{Kind, Row};
+use it_problems::Kind;
+use it_space::Row;
 use it_syntax::Names;
 use std::alloc::Global;
 

@@ -1,10 +1,11 @@
 //! Tests: closures by functions of functions.
 
 ghost use Rattle.std.specs.Prelude.{◌≡◌, IfOk};
-ghost use Rattle.it_space.specs.Problems.{IsProblem};
+ghost use Rattle.it_problems.specs.Problems.{IsProblem};
 
 use it_closure::Dependences;
-use it_space::{Constraint, Kind, Origin, Problem, Row, Space, VarSet};
+use it_problems::{Constraint, Kind, Origin, Problem};
+use it_space::{Row, Space, VarSet};
 use std::alloc::{AllocError, Global};
 
 /// Three variables and no rates.

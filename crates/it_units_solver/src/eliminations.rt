@@ -1,10 +1,11 @@
 //! Tests: eliminations of rates without a reduction, and products past the limit.
 
 ghost use Rattle.std.specs.Prelude.{◌≡◌, IfOk};
-ghost use Rattle.it_space.specs.Problems.{IsSystem};
+ghost use Rattle.it_problems.specs.Problems.{IsSystem};
 
 use it_eliminate::{Eliminated, eliminate};
-use it_space::{Row, Space, System};
+use it_problems::System;
+use it_space::{Row, Space};
 use std::alloc::{AllocError, Global};
 
 /// Whether elimination ends with a region of the rows `rows`.

@@ -28,7 +28,8 @@ divides_more numbers bottom shared next z k e f d = subst (λ (n : ℕ). Divides
 }
   where
     by_cases : (j : ℕ) → j < k + 1 → (j ≡ k) ⊎ (j ≡ k → ⊥) → gcd (unsigned_abs z) shared ∣ unsigned_abs (number_at numbers j)
-    by_cases j l (inl q) = subst (λ (y : ℤ). gcd (unsigned_abs z) shared ∣ unsigned_abs y) (f ∙ ap (number_at numbers) (sym q)) (gcd_is (unsigned_abs z) shared).0
+    by_cases j l (inl q) = subst (λ (y : ℤ). gcd (unsigned_abs z) shared ∣ unsigned_abs y) (f ∙ ap (number_at numbers) (sym q))
+        (gcd_is (unsigned_abs z) shared).0
     by_cases j l (inr n) = dvd_trans (gcd (unsigned_abs z) shared) (gcd_is (unsigned_abs z) shared).1 (d.numbers_are j (omega arith))
 
 pub whole_over : (z y : ℤ) (k : ℕ) → k ∣ unsigned_abs z → y ≡ int_quotient z k → y *ℤ pos k ≡ z
@@ -47,7 +48,8 @@ pub quotient_fits : (q z : ℤ) (d : ℕ) → 0 < d → q *ℤ pos d ≡ z → F
 quotient_fits q z d h e f = by_signs q z e f (size_at_most q z e)
   where
     size_at_most : (q z : ℤ) → q *ℤ pos d ≡ z → unsigned_abs q ≤ unsigned_abs z
-    size_at_most q z e = let s : unsigned_abs q * d ≡ unsigned_abs z = sym (unsigned_abs-mul q (pos d)) ∙ ap unsigned_abs e in omega (arith, s, le-mul_of_pos_right (unsigned_abs q) h)
+    size_at_most q z e = let s : unsigned_abs q * d ≡ unsigned_abs z = sym (unsigned_abs-mul q (pos d)) ∙ ap unsigned_abs e
+        in omega (arith, s, le-mul_of_pos_right (unsigned_abs q) h)
 
     product : (n : ℕ) → pos (n * d) ≡ pos n *ℤ pos d
     product n = omega (arith, zring)

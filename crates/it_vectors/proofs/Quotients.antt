@@ -15,7 +15,9 @@ use Prim.Native.Nat.{◌∣◌}
 use native.Mathlib.Nat.{one-dvd, pos_of_dvd_of_pos}
 
 pub product_is_short : (q k : ℤ) (most : ℕ) → unsigned_abs q ≤ most → most * unsigned_abs k < 2147483648 → unsigned_abs (q *ℤ k) < 2147483648
-product_is_short q k most h b = subst (λ (n : ℕ). n < 2147483648) (sym (unsigned_abs-mul q k)) (within (unsigned_abs q * unsigned_abs k) (most * unsigned_abs k) (mul-le (unsigned_abs q) (unsigned_abs k) most (unsigned_abs k) h (omega arith)) b)
+product_is_short q k most h b = subst (λ (n : ℕ). n < 2147483648) (sym (unsigned_abs-mul q k))
+    (within (unsigned_abs q * unsigned_abs k) (most * unsigned_abs k) (mul-le (unsigned_abs q) (unsigned_abs k) most (unsigned_abs k) h
+    (omega arith)) b)
   where
     within : (a m : ℕ) → a ≤ m → m < 2147483648 → a < 2147483648
     within a m h b = omega (arith, h, b)
@@ -43,14 +45,16 @@ said_of_more P from j false here f g = record {}
 
 -- a number that has a quotient by k is divided by it
 pub divided_by_factor : (q k z : ℤ) → q *ℤ k ≡ z → unsigned_abs k ∣ unsigned_abs z
-divided_by_factor q k z e = subst (λ (n : ℕ). unsigned_abs k ∣ n) (sym (unsigned_abs-mul q k) ∙ ap unsigned_abs e) (dvd-mul_left (unsigned_abs k) (unsigned_abs q))
+divided_by_factor q k z e = subst (λ (n : ℕ). unsigned_abs k ∣ n) (sym (unsigned_abs-mul q k) ∙ ap unsigned_abs e)
+    (dvd-mul_left (unsigned_abs k) (unsigned_abs q))
 
 pub part_begins : (row : List ℤ) (from earlier : ℕ) → 0 < earlier → IsSharedPart row from from earlier earlier
 part_begins row from earlier h = record { some = h; of_earlier = dvd_refl earlier; each = λ j l k. absurd (omega (arith, l, k)) }
 
 -- 1 divides all
 pub part_by_one : (row : List ℤ) (from to earlier shared : ℕ) → shared ≡ 1 → IsSharedPart row from to earlier shared
-part_by_one row from to earlier shared e = subst (IsSharedPart row from to earlier) (sym e) record { some = omega arith; of_earlier = one-dvd earlier; each = λ j l k. one-dvd (unsigned_abs (number_at row j)) }
+part_by_one row from to earlier shared e = subst (IsSharedPart row from to earlier) (sym e)
+    record { some = omega arith; of_earlier = one-dvd earlier; each = λ j l k. one-dvd (unsigned_abs (number_at row j)) }
 
 -- one more number
 pub part_more : (row : List ℤ) (from j earlier shared next : ℕ) (z : ℤ) → next ≡ gcd (unsigned_abs z) shared → z ≡ number_at row j
@@ -64,7 +68,8 @@ part_more row from j earlier shared next z e f d = subst (IsSharedPart row from 
 }
 
 -- a part after those before it
-pub parts_join : (row : List ℤ) (bottom from to earlier shared : ℕ) → DividesUpTo earlier bottom row from → IsSharedPart row from to earlier shared → DividesUpTo shared bottom row to
+pub parts_join : (row : List ℤ) (bottom from to earlier shared : ℕ) → DividesUpTo earlier bottom row from
+    → IsSharedPart row from to earlier shared → DividesUpTo shared bottom row to
 parts_join row bottom from to earlier shared d p = record {
   some = p.some;
   bottom_is = dvd_trans shared p.of_earlier d.bottom_is;
@@ -75,11 +80,13 @@ parts_join row bottom from to earlier shared d p = record {
     by_cases j l (inl h) = dvd_trans shared p.of_earlier (d.numbers_are j h)
     by_cases j l (inr h) = p.each j h l
 
-pub told_divides : (b : Bool) (row : List ℤ) (from to shift : ℕ) (inverse k : ℤ) → OnTrue b ((j : ℕ) → from ≤ j → j < to → likely_quotient_of shift inverse (number_at row j) *ℤ k ≡ number_at row j)
+pub told_divides : (b : Bool) (row : List ℤ) (from to shift : ℕ) (inverse k : ℤ)
+    → OnTrue b ((j : ℕ) → from ≤ j → j < to → likely_quotient_of shift inverse (number_at row j) *ℤ k ≡ number_at row j)
     → OnTrue b ((j : ℕ) → from ≤ j → j < to → unsigned_abs k ∣ unsigned_abs (number_at row j))
 told_divides true row from to shift inverse k f = λ j h l. divided_by_factor (likely_quotient_of shift inverse (number_at row j)) k (number_at row j) (f j h l)
 told_divides false row from to shift inverse k f = record {}
 
 -- where the earlier divisor divides the part, it is the shared one
-pub part_is_divided : (row : List ℤ) (from to earlier : ℕ) → 0 < earlier → ((j : ℕ) → from ≤ j → j < to → earlier ∣ unsigned_abs (number_at row j)) → IsSharedPart row from to earlier earlier
+pub part_is_divided : (row : List ℤ) (from to earlier : ℕ) → 0 < earlier
+    → ((j : ℕ) → from ≤ j → j < to → earlier ∣ unsigned_abs (number_at row j)) → IsSharedPart row from to earlier earlier
 part_is_divided row from to earlier h f = record { some = h; of_earlier = dvd_refl earlier; each = f }

@@ -50,7 +50,8 @@ stretches_and_rest row starts k r = record { some = omega (arith, length_with_on
         (subst (λ (s : ℕ). IsNextPlace row s (slice_index_or starts j 0)) (sym (ends_stay starts k j (omega (arith, h)))) (r.each j h))
 
 -- a further stretch
-pub stretches_and_stretch : (row : List ℤ) (starts : List ℕ) (k : ℕ) → k + 8 ≤ length row → AreStretchesUpTo row starts k → AreStretchesUpTo row (starts ++ k ∷ []) (k + 8)
+pub stretches_and_stretch : (row : List ℤ) (starts : List ℕ) (k : ℕ) → k + 8 ≤ length row → AreStretchesUpTo row starts k
+    → AreStretchesUpTo row (starts ++ k ∷ []) (k + 8)
 stretches_and_stretch row starts k h r = record {
   each = (stretches_and_rest row starts k r).each;
   last = subst (λ (n : ℕ). IsNextPlace row (end_of_stretches (starts ++ k ∷ []) n) (k + 8)) (sym (length_with_one_more starts k))
@@ -58,15 +59,18 @@ stretches_and_stretch row starts k h r = record {
 }
 
 -- where a further place is noted
-pub stretch_is_noted : (b : Bool) (row : List ℤ) (starts new : List ℕ) (k : ℕ) → k + 8 ≤ length row → AreStretchesUpTo row starts k → OnTrue b (new ≡ starts ++ k ∷ []) → OnTrue b (AreStretchesUpTo row new (k + 8))
+pub stretch_is_noted : (b : Bool) (row : List ℤ) (starts new : List ℕ) (k : ℕ) → k + 8 ≤ length row → AreStretchesUpTo row starts k
+    → OnTrue b (new ≡ starts ++ k ∷ []) → OnTrue b (AreStretchesUpTo row new (k + 8))
 stretch_is_noted true row starts new k h r e = subst (λ (s : List ℕ). AreStretchesUpTo row s (k + 8)) (sym e) (stretches_and_stretch row starts k h r)
 stretch_is_noted false row starts new k h r e = record {}
 
-pub rest_is_noted : (b : Bool) (row : List ℤ) (starts new : List ℕ) (k to : ℕ) → AreStretchesUpTo row starts k → IsNextPlace row k to → OnTrue b (new ≡ starts ++ to ∷ []) → OnTrue b (AreStretches row new)
+pub rest_is_noted : (b : Bool) (row : List ℤ) (starts new : List ℕ) (k to : ℕ) → AreStretchesUpTo row starts k → IsNextPlace row k to
+    → OnTrue b (new ≡ starts ++ to ∷ []) → OnTrue b (AreStretches row new)
 rest_is_noted true row starts new k to r n e = subst (AreStretches row) (sym e) (stretches_and_rest row starts to (stretches_and_nulls row starts k to r n))
 rest_is_noted false row starts new k to r n e = record {}
 
-pub next_stretch : (row : List ℤ) (starts : List ℕ) (j : ℕ) → AreStretches row starts → j + 1 < length starts → IsNextPlace row (slice_index_or starts j 0 + 8) (slice_index_or starts (j + 1) 0)
+pub next_stretch : (row : List ℤ) (starts : List ℕ) (j : ℕ) → AreStretches row starts → j + 1 < length starts
+    → IsNextPlace row (slice_index_or starts j 0 + 8) (slice_index_or starts (j + 1) 0)
 next_stretch row starts j r h = subst (λ (i : ℕ). IsNextPlace row (end_of_stretches starts i) (slice_index_or starts (j + 1) 0)) one_more (r.each (j + 1) h)
   where
     one_more : j + 1 ≡ suc j

@@ -51,7 +51,8 @@ inverse_names q p d hp hd e = by_sign q.num refl
       where
         not_zero : (p a d : ℕ) → 0 < p → 0 < a → pos 0 *ℤ pos d ≡ pos p *ℤ pos a → ⊥
         not_zero p a d h k e = omega (arith, ints, e, mul-pos h k)
-    by_sign (pos (suc a)) f = cancel_factor ((Q.quotient (pos q.den) (suc a)).num *ℤ pos p) (pos d *ℤ pos (Q.quotient (pos q.den) (suc a)).den) (suc a) (omega arith)
+    by_sign (pos (suc a)) f = cancel_factor ((Q.quotient (pos q.den) (suc a)).num *ℤ pos p)
+        (pos d *ℤ pos (Q.quotient (pos q.den) (suc a)).den) (suc a) (omega arith)
         (products_agree (Q.quotient (pos q.den) (suc a)).num (pos (suc a)) (pos q.den) (pos (Q.quotient (pos q.den) (suc a)).den) (pos p) (pos d)
         (quotient_names (pos q.den) (suc a) (omega arith)) (ap (λ x. x *ℤ pos d) (sym f) ∙ e))
       where
@@ -68,7 +69,8 @@ inverse_names q p d hp hd e = by_sign q.num refl
         not_negative a p b d h k e = omega (arith, ints, e, mul-pos h k)
 
 -- (n / d) / (p / e) is n e / (d p)
-pub quotient_of_names : (x y : Rational) (n : ℤ) (p d e : ℕ) → 0 < d → 0 < e → 0 < p → IsRatio x n d → IsRatio y (pos p) e → IsRatio (Q.times x (Q.inverse y)) (n *ℤ pos e) (d * p)
+pub quotient_of_names : (x y : Rational) (n : ℤ) (p d e : ℕ) → 0 < d → 0 < e → 0 < p → IsRatio x n d → IsRatio y (pos p) e
+    → IsRatio (Q.times x (Q.inverse y)) (n *ℤ pos e) (d * p)
 quotient_of_names x y n p d e hd he hp f g = times_names x (Q.inverse y) n (pos e) d p hd hp f (inverse_names y p e hp he g)
 
 -- over one denominator it is n / p

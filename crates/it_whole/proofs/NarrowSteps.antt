@@ -13,13 +13,23 @@ use Rattle.it_whole.proofs.RowSteps.{less_row}
 use Rattle.it_whole.proofs.Usable.{factor_some, shortened_less}
 
 -- a row within a limit is within a greater one
-row_within : (width limit more : ℕ) (f : ℕ → Rational) (row : List ℤ) (bottom : ℕ) → limit ≤ more → IsRow width limit f row bottom → IsRow width more f row bottom
-row_within width limit more f row bottom h r = record { length_is = r.length_is; some = r.some; low = r.low; named = r.named; small = λ k l. let s = r.small k l in omega (arith, s, h) }
+row_within : (width limit more : ℕ) (f : ℕ → Rational) (row : List ℤ) (bottom : ℕ) → limit ≤ more → IsRow width limit f row bottom
+    → IsRow width more f row bottom
+row_within width limit more f row bottom h r = record {
+  length_is = r.length_is;
+  some = r.some;
+  low = r.low;
+  named = r.named;
+  small = λ k l.
+      let s = r.small k l in omega (arith, s, h);
+}
 
 -- the numbers of a row that is made less may pass the limit on the way
-reduced_within : (width limit more : ℕ) (old own new : WholeRowView) (z p : ℤ) → limit ≤ more → AreAtMost new.numbers limit → IsWholeRowReduced width more old own z p new → IsWholeRowReduced width limit old own z p new
+reduced_within : (width limit more : ℕ) (old own new : WholeRowView) (z p : ℤ) → limit ≤ more → AreAtMost new.numbers limit
+    → IsWholeRowReduced width more old own z p new → IsWholeRowReduced width limit old own z p new
 reduced_within width limit more old own new z p h small less = λ f g x w rf rg ex ew.
-    let r = less f g x w (row_within width limit more f old.numbers old.bottom h rf) (row_within width limit more g own.numbers own.bottom h rg) ex ew in record {
+    let r = less f g x w (row_within width limit more f old.numbers old.bottom h rf)
+    (row_within width limit more g own.numbers own.bottom h rg) ex ew in record {
       length_is = r.length_is;
       some = r.some;
       low = r.low;
@@ -27,8 +37,10 @@ reduced_within width limit more old own new z p h small less = λ f g x w rf rg 
       small = λ k l. small k (omega (arith, l, r.length_is));
     }
 
-module _ (width limit : ℕ) (old own new : WholeRowView) (z p a b : ℤ) (above : pos 1 ≤ℤ p) (a_is : a ≡ int_quotient p (gcd (unsigned_abs p) (unsigned_abs z))) where
-  pub combined_usable : IsUsable width limit old → IsCombined width limit old.numbers own.numbers a b new.numbers → new.bottom ≡ old.bottom * unsigned_abs a → IsUsable width limit new
+module _ (width limit : ℕ) (old own new : WholeRowView) (z p a b : ℤ) (above : pos 1 ≤ℤ p)
+    (a_is : a ≡ int_quotient p (gcd (unsigned_abs p) (unsigned_abs z))) where
+  pub combined_usable : IsUsable width limit old → IsCombined width limit old.numbers own.numbers a b new.numbers
+      → new.bottom ≡ old.bottom * unsigned_abs a → IsUsable width limit new
   combined_usable u c e = record {
     length_is = c.length_is;
     some = subst (λ (k : ℕ). 0 < k) (sym e) (mul-pos u.some (factor_some p z a above a_is));
@@ -44,20 +56,25 @@ module _ (width limit : ℕ) (old own new : WholeRowView) (z p a b : ℤ) (above
     with_factor = subst (λ (a : ℤ). IsCombined width limit old.numbers own.numbers a b new.numbers) (sym one) c
 
     pub multiple_reduced : b ≡ int_quotient z (gcd (unsigned_abs p) (unsigned_abs z)) → IsWholeRowReduced width limit old own z p new
-    multiple_reduced b_is = λ f g x w rf rg ex ew. less_row width limit old own new z p a b above a_is b_is with_factor (e ∙ times_factor) (subst (λ (k : ℕ). k < 2 ^ 63) times_factor rf.low) f g x w rf rg ex ew
+    multiple_reduced b_is = λ f g x w rf rg ex ew. less_row width limit old own new z p a b above a_is b_is with_factor (e ∙ times_factor)
+        (subst (λ (k : ℕ). k < 2 ^ 63) times_factor rf.low) f g x w rf rg ex ew
 
     pub multiple_usable : IsUsable width limit old → IsUsable width limit new
     multiple_usable u = combined_usable u with_factor (e ∙ times_factor)
 
-  module _ (bottom : ℕ) (short : limit < 2 ^ 31) (bottom_is : bottom ≡ old.bottom * unsigned_abs a) (c : IsCombinedAndShortened width old.numbers own.numbers a b bottom new) (small : AreAtMost new.numbers limit) where
-    pub shortened_reduced : b ≡ int_quotient z (gcd (unsigned_abs p) (unsigned_abs z)) → old.bottom * unsigned_abs a < 2 ^ 63 → IsWholeRowReduced width limit old own z p new
+  module _ (bottom : ℕ) (short : limit < 2 ^ 31) (bottom_is : bottom ≡ old.bottom * unsigned_abs a)
+      (c : IsCombinedAndShortened width old.numbers own.numbers a b bottom new) (small : AreAtMost new.numbers limit) where
+    pub shortened_reduced : b ≡ int_quotient z (gcd (unsigned_abs p) (unsigned_abs z)) → old.bottom * unsigned_abs a < 2 ^ 63
+        → IsWholeRowReduced width limit old own z p new
     shortened_reduced b_is low = reduced_within width limit 9223372036854775807 old own new z p (omega (arith, short)) small
         (shortened_less width 9223372036854775807 old own record { numbers = c.numbers; bottom = bottom } new z p
-        (less_row width 9223372036854775807 old own record { numbers = c.numbers; bottom = bottom } z p a b above a_is b_is c.combined bottom_is low) c.shortened)
+        (less_row width 9223372036854775807 old own record { numbers = c.numbers; bottom = bottom } z p a b above a_is b_is c.combined
+        bottom_is low) c.shortened)
 
     pub room_usable : IsUsable width limit old → IsUsable width limit new
     room_usable u = record {
       length_is = c.shortened.length_is ∙ c.combined.length_is;
-      some = quotient_some new.bottom c.shortened.shared bottom c.shortened.bottom_is (subst (λ (k : ℕ). 0 < k) (sym bottom_is) (mul-pos u.some (factor_some p z a above a_is)));
+      some = quotient_some new.bottom c.shortened.shared bottom c.shortened.bottom_is
+          (subst (λ (k : ℕ). 0 < k) (sym bottom_is) (mul-pos u.some (factor_some p z a above a_is)));
       small = λ k l. small k (omega (arith, l, c.shortened.length_is, c.combined.length_is));
     }

@@ -14,7 +14,8 @@ module _ (terms : Terms) (numbers : List ℤ) (i : ℕ) (h : i < length terms) (
   term_is_first = drop-cons terms i (0, pos 0) h
 
   step_small : (limit : ℕ) → ((k : ℕ) → k < length numbers → unsigned_abs (number_at numbers k) ≤ limit)
-      → unsigned_abs ((slice_index_or terms i (0, pos 0)).1 *ℤ number_at numbers (slice_index_or terms i (0, pos 0)).0) ≤ unsigned_abs (slice_index_or terms i (0, pos 0)).1 * limit
+      → unsigned_abs ((slice_index_or terms i (0, pos 0)).1 *ℤ number_at numbers (slice_index_or terms i (0, pos 0)).0)
+      ≤ unsigned_abs (slice_index_or terms i (0, pos 0)).1 * limit
   step_small limit l =
       let t = slice_index_or terms i (0, pos 0) in
       subst (λ k. k ≤ unsigned_abs t.1 * limit) (sym (unsigned_abs-mul t.1 (number_at numbers t.0)))
@@ -23,13 +24,19 @@ module _ (terms : Terms) (numbers : List ℤ) (i : ℕ) (h : i < length terms) (
       at_most_itself : (k : ℕ) → k ≤ k
       at_most_itself k = omega arith
 
-  pub priced_more : (sum : ℤ) → IsPriced terms numbers i sum → IsPriced terms numbers (i + 1) (sum +ℤ (slice_index_or terms i (0, pos 0)).1 *ℤ number_at numbers (slice_index_or terms i (0, pos 0)).0)
-  priced_more sum p = subst (λ (k : ℕ). IsPriced terms numbers k (sum +ℤ (slice_index_or terms i (0, pos 0)).1 *ℤ number_at numbers (slice_index_or terms i (0, pos 0)).0)) next_index record {
-    value_is = let t = slice_index_or terms i (0, pos 0) in +ℤ_assoc sum (t.1 *ℤ number_at numbers t.0) (value (drop (suc i) terms) (number_at numbers)) ∙ ap (λ ts. sum +ℤ value ts (number_at numbers)) (sym term_is_first) ∙ p.value_is;
-    small = λ limit l. let t = slice_index_or terms i (0, pos 0) in
-        sum_stays_within sum (t.1 *ℤ number_at numbers t.0) (unsigned_abs t.1) (row_mass (drop (suc i) terms)) limit (row_mass terms * limit) (step_small limit l)
-        (subst (λ (ts : Terms). unsigned_abs sum + row_mass ts * limit ≤ row_mass terms * limit) term_is_first (p.small limit l));
-  }
+  pub priced_more : (sum : ℤ) → IsPriced terms numbers i sum
+      → IsPriced terms numbers (i + 1) (sum +ℤ (slice_index_or terms i (0, pos 0)).1 *ℤ number_at numbers
+      (slice_index_or terms i (0, pos 0)).0)
+  priced_more sum p = subst (λ (k : ℕ). IsPriced terms numbers k (sum +ℤ (slice_index_or terms i (0, pos 0)).1 *ℤ number_at numbers
+      (slice_index_or terms i (0, pos 0)).0)) next_index record {
+        value_is = let t = slice_index_or terms i (0, pos 0)
+            in +ℤ_assoc sum (t.1 *ℤ number_at numbers t.0) (value (drop (suc i) terms) (number_at numbers))
+            ∙ ap (λ ts. sum +ℤ value ts (number_at numbers)) (sym term_is_first) ∙ p.value_is;
+        small = λ limit l. let t = slice_index_or terms i (0, pos 0) in
+            sum_stays_within sum (t.1 *ℤ number_at numbers t.0) (unsigned_abs t.1) (row_mass (drop (suc i) terms)) limit
+            (row_mass terms * limit) (step_small limit l)
+            (subst (λ (ts : Terms). unsigned_abs sum + row_mass ts * limit ≤ row_mass terms * limit) term_is_first (p.small limit l));
+      }
     where
       next_index : suc i ≡ i + 1
       next_index = omega arith
@@ -41,7 +48,8 @@ module _ (terms : Terms) (numbers : List ℤ) (i : ℕ) (h : i < length terms) (
       → unsigned_abs sum + unsigned_abs ((slice_index_or terms i (0, pos 0)).1 *ℤ number_at numbers (slice_index_or terms i (0, pos 0)).0) < 2 ^ 63
   priced_small sum f p =
       let t = slice_index_or terms i (0, pos 0) in
-      sum_is_short (unsigned_abs sum) (unsigned_abs (t.1 *ℤ number_at numbers t.0)) (unsigned_abs t.1) (row_mass (drop (suc i) terms)) f.0 (row_mass terms * f.0) (step_small f.0 f.1)
+      sum_is_short (unsigned_abs sum) (unsigned_abs (t.1 *ℤ number_at numbers t.0)) (unsigned_abs t.1) (row_mass (drop (suc i) terms)) f.0
+      (row_mass terms * f.0) (step_small f.0 f.1)
       (subst (λ (ts : Terms). unsigned_abs sum + row_mass ts * f.0 ≤ row_mass terms * f.0) term_is_first (p.small f.0 f.1)) f.2
     where
       sum_is_short : (x y a b l top : ℕ) → y ≤ a * l → x + (a + b) * l ≤ top → top < 2 ^ 63 → x + y < 2 ^ 63
@@ -74,7 +82,8 @@ module _ (terms : Terms) (numbers : List ℤ) (s : IsSubmodular terms) where
       terms_of_four ts e = grind (arith, Rattle.std.proofs.lemmas.Grind.common_steps)
 
   pub submodular_value : number 1 +ℤ number 2 +ℤ neg_ℤ (number 0 +ℤ number 3) ≡ value terms (number_at numbers)
-  submodular_value = sym (value_at_units (term 0).1 (term 1).1 (term 2).1 (term 3).1 (number 0) (number 1) (number 2) (number 3) s.first s.second s.third s.fourth)
+  submodular_value = sym (value_at_units (term 0).1 (term 1).1 (term 2).1 (term 3).1 (number 0) (number 1) (number 2)
+      (number 3) s.first s.second s.third s.fourth)
       ∙ ap (λ ts. value ts (number_at numbers)) (sym all_terms)
     where
       value_at_units : (a b c d w x y z : ℤ) → a ≡ negsuc 0 → b ≡ pos 1 → c ≡ pos 1 → d ≡ negsuc 0
@@ -96,7 +105,8 @@ module _ (terms : Terms) (numbers : List ℤ) (s : IsSubmodular terms) where
   submodular_small t =
       let small = number_small t.fits.0 t.fits.1 t.within in
       sum_is_short (unsigned_abs (number 0)) (unsigned_abs (number 1)) (unsigned_abs (number 2)) (unsigned_abs (number 3)) t.fits.0
-      (small 0 (omega arith)) (small 1 (omega arith)) (small 2 (omega arith)) (small 3 (omega arith)) (subst (λ (m : ℕ). m * t.fits.0 < 2 ^ 63) mass_is_four t.fits.2)
+      (small 0 (omega arith)) (small 1 (omega arith)) (small 2 (omega arith)) (small 3 (omega arith))
+      (subst (λ (m : ℕ). m * t.fits.0 < 2 ^ 63) mass_is_four t.fits.2)
     where
       sum_is_short : (w x y z l : ℕ) → w ≤ l → x ≤ l → y ≤ l → z ≤ l → 4 * l < 2 ^ 63 → x + y + (w + z) < 2 ^ 63
       sum_is_short w x y z l e f g h m = omega (arith, e, f, g, h, m)

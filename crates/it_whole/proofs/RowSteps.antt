@@ -29,27 +29,34 @@ row_stepped width limit f g row by new d e x w z b p a h rf rg ex ew hh ha ea eb
   length_is = c.length_is;
   some = mul-pos rf.some ha;
   low = low;
-  named = λ k l. subst (λ (y : ℤ). IsRatio (Q.plus (f k) (Q.minus (Q.times (g k) (Q.times x (Q.inverse w))))) y (d * a)) (sym (c.entries k l)) (numbers_are_named k l);
+  named = λ k l. subst (λ (y : ℤ). IsRatio (Q.plus (f k) (Q.minus (Q.times (g k) (Q.times x (Q.inverse w))))) y (d * a))
+      (sym (c.entries k l)) (numbers_are_named k l);
   small = c.small;
 }
   where
     entry_some : 0 < p
     entry_some = subst (λ k. 0 < k) ea (mul-pos ha hh)
 
-    numbers_are_named : (k : ℕ) → k < width → IsRatio (Q.plus (f k) (Q.minus (Q.times (g k) (Q.times x (Q.inverse w))))) (number_at row k *ℤ pos a +ℤ neg_ℤ (number_at by k *ℤ b)) (d * a)
+    numbers_are_named : (k : ℕ) → k < width → IsRatio (Q.plus (f k) (Q.minus (Q.times (g k) (Q.times x (Q.inverse w)))))
+        (number_at row k *ℤ pos a +ℤ neg_ℤ (number_at by k *ℤ b)) (d * a)
     numbers_are_named k l =
         let left : IsRatio (f k) (number_at row k *ℤ pos p) (d * p) = scaled_name (f k) (number_at row k) d p (rf.named k l) in
-        let right : IsRatio (Q.times (g k) (Q.times x (Q.inverse w))) (number_at by k *ℤ z) (d * p) = product_in_row (g k) x w (number_at by k) z p e d rg.some rf.some entry_some (rg.named k l) ex ew in
-        let both = sum_named (f k) (Q.minus (Q.times (g k) (Q.times x (Q.inverse w)))) (number_at row k *ℤ pos p) (neg_ℤ (number_at by k *ℤ z)) (d * p) (mul-pos rf.some entry_some) left
+        let right : IsRatio (Q.times (g k) (Q.times x (Q.inverse w))) (number_at by k *ℤ z) (d * p) = product_in_row (g k) x w
+        (number_at by k) z p e d rg.some rf.some entry_some (rg.named k l) ex ew in
+        let both = sum_named (f k) (Q.minus (Q.times (g k) (Q.times x (Q.inverse w)))) (number_at row k *ℤ pos p)
+        (neg_ℤ (number_at by k *ℤ z)) (d * p) (mul-pos rf.some entry_some) left
         (minus_names (Q.times (g k) (Q.times x (Q.inverse w))) (number_at by k *ℤ z) (d * p) right) in
         reduced_name (Q.plus (f k) (Q.minus (Q.times (g k) (Q.times x (Q.inverse w))))) (number_at row k *ℤ pos a +ℤ neg_ℤ (number_at by k *ℤ b)) (d * a) h hh
-        (subst (λ (y : ℤ). IsRatio (Q.plus (f k) (Q.minus (Q.times (g k) (Q.times x (Q.inverse w))))) y (d * a * h)) (factor_moves_out (number_at row k) (number_at by k) a b h p z ea eb)
-        (subst (λ (q : ℕ). IsRatio (Q.plus (f k) (Q.minus (Q.times (g k) (Q.times x (Q.inverse w))))) (number_at row k *ℤ pos p +ℤ neg_ℤ (number_at by k *ℤ z)) q) (int_quotient d a h p ea) both))
+        (subst (λ (y : ℤ). IsRatio (Q.plus (f k) (Q.minus (Q.times (g k) (Q.times x (Q.inverse w))))) y (d * a * h))
+        (factor_moves_out (number_at row k) (number_at by k) a b h p z ea eb)
+        (subst (λ (q : ℕ). IsRatio (Q.plus (f k) (Q.minus (Q.times (g k) (Q.times x (Q.inverse w)))))
+        (number_at row k *ℤ pos p +ℤ neg_ℤ (number_at by k *ℤ z)) q) (int_quotient d a h p ea) both))
       where
         int_quotient : (d a h p : ℕ) → a * h ≡ p → d * p ≡ d * a * h
         int_quotient d a h p e = rw (← e) (omega arith)
 
-        factor_moves_out : (r y : ℤ) (a : ℕ) (b : ℤ) (h p : ℕ) (z : ℤ) → a * h ≡ p → b *ℤ pos h ≡ z → r *ℤ pos p +ℤ neg_ℤ (y *ℤ z) ≡ (r *ℤ pos a +ℤ neg_ℤ (y *ℤ b)) *ℤ pos h
+        factor_moves_out : (r y : ℤ) (a : ℕ) (b : ℤ) (h p : ℕ) (z : ℤ) → a * h ≡ p → b *ℤ pos h ≡ z
+            → r *ℤ pos p +ℤ neg_ℤ (y *ℤ z) ≡ (r *ℤ pos a +ℤ neg_ℤ (y *ℤ b)) *ℤ pos h
         factor_moves_out r y a b h p z e f = ap₂ (λ (u : ℤ) (s : ℤ). r *ℤ u +ℤ neg_ℤ (y *ℤ s)) (ap pos (sym e) ∙ product a h) (sym f)
             ∙ ring ring_ℤ (r ∷ y ∷ pos a ∷ b ∷ pos h ∷ []) (plus (times (v 0) (times (v 2) (v 4))) (minus (times (v 1) (times (v 3) (v 4)))))
             (times (plus (times (v 0) (v 2)) (minus (times (v 1) (v 3)))) (v 4)) refl
@@ -73,7 +80,8 @@ row_stays width limit f g row d x w e r = record {
         ∙ ap (λ y. Q.plus a (Q.minus (Q.times b (Q.times y (Q.inverse w))))) (sym e)
 
 -- the same row over a smaller denominator
-pub row_shortened : (width limit : ℕ) (f : ℕ → Rational) (old new : WholeRowView) → IsShortened old new → IsRow width limit f old.numbers old.bottom → IsRow width limit f new.numbers new.bottom
+pub row_shortened : (width limit : ℕ) (f : ℕ → Rational) (old new : WholeRowView) → IsShortened old new
+    → IsRow width limit f old.numbers old.bottom → IsRow width limit f new.numbers new.bottom
 row_shortened width limit f old new s r = let h = s.shared in record {
   length_is = s.length_is ∙ r.length_is;
   some = quotient_some new.bottom s.shared old.bottom s.bottom_is r.some;
@@ -95,9 +103,12 @@ pub less_row : (width limit : ℕ) (old own new : WholeRowView) (z p a b : ℤ) 
     → IsWholeRowReduced width limit old own z p new
 less_row width limit old own new z (negsuc p) a b hp ea eb c d l = absurd (omega (arith, ints))
 less_row width limit old own new z (pos p) a b hp ea eb c d l = λ f g x w rf rg ex ew.
-    subst (λ (k : ℕ). IsRow width limit (λ k. Q.plus (f k) (Q.minus (Q.times (g k) (Q.times x (Q.inverse w))))) new.numbers k) (sym (d ∙ ap (λ a. old.bottom * unsigned_abs a) ea))
-    (row_stepped width limit f g old.numbers own.numbers new.numbers old.bottom own.bottom x w z b p (p / gcd p (unsigned_abs z)) (gcd p (unsigned_abs z)) rf rg ex ew some_gcd
-    (quotient_some (p / gcd p (unsigned_abs z)) (gcd p (unsigned_abs z)) p product_is_whole entry_some) product_is_whole (ap (λ b. b *ℤ pos (gcd p (unsigned_abs z))) eb ∙ over_back z (gcd p (unsigned_abs z)) divisor_is_greatest.1)
+    subst (λ (k : ℕ). IsRow width limit (λ k. Q.plus (f k) (Q.minus (Q.times (g k) (Q.times x (Q.inverse w))))) new.numbers k)
+    (sym (d ∙ ap (λ a. old.bottom * unsigned_abs a) ea))
+    (row_stepped width limit f g old.numbers own.numbers new.numbers old.bottom own.bottom x w z b p (p / gcd p (unsigned_abs z))
+    (gcd p (unsigned_abs z)) rf rg ex ew some_gcd
+    (quotient_some (p / gcd p (unsigned_abs z)) (gcd p (unsigned_abs z)) p product_is_whole entry_some) product_is_whole
+    (ap (λ b. b *ℤ pos (gcd p (unsigned_abs z))) eb ∙ over_back z (gcd p (unsigned_abs z)) divisor_is_greatest.1)
     (subst (λ (a : ℤ). IsCombined width limit old.numbers own.numbers a b new.numbers) ea c) (subst (λ (a : ℤ). old.bottom * unsigned_abs a < 2 ^ 63) ea l))
   where
     entry_some : 0 < p

@@ -19,20 +19,24 @@ shortened_usable width limit old new s u = record {
 }
 
 -- a usable row over its entry is usable, over a denominator that is no larger than the entry
-pub quotient_usable : (width limit : ℕ) (old : WholeRowView) (p : ℤ) (new : WholeRowView) → IsUsable width limit old → pos 1 ≤ℤ p → IsQuotient old p new → IsUsable width limit new
+pub quotient_usable : (width limit : ℕ) (old : WholeRowView) (p : ℤ) (new : WholeRowView) → IsUsable width limit old → pos 1 ≤ℤ p
+    → IsQuotient old p new → IsUsable width limit new
 quotient_usable width limit old p new u h q = shortened_usable width limit record { numbers = old.numbers; bottom = unsigned_abs p } new q
     record { length_is = u.length_is; some = size_above_zero p h; small = u.small }
   where
     size_above_zero : (z : ℤ) → pos 1 ≤ℤ z → 0 < unsigned_abs z
     size_above_zero z h = omega (arith, ints, h)
 
-pub shortened_less : (width limit : ℕ) (old own mid new : WholeRowView) (z p : ℤ) → IsWholeRowReduced width limit old own z p mid → IsShortened mid new → IsWholeRowReduced width limit old own z p new
+pub shortened_less : (width limit : ℕ) (old own mid new : WholeRowView) (z p : ℤ) → IsWholeRowReduced width limit old own z p mid
+    → IsShortened mid new → IsWholeRowReduced width limit old own z p new
 shortened_less width limit old own mid new z p l s = λ f g x w rf rg ex ew. row_shortened width limit _ mid new s (l f g x w rf rg ex ew)
 
 -- the factor of a pivot that is above 0 is some
 pub factor_some : (p z a : ℤ) → pos 1 ≤ℤ p → a ≡ int_quotient p (gcd (unsigned_abs p) (unsigned_abs z)) → 0 < unsigned_abs a
 factor_some (negsuc p) z a h e = absurd (omega (arith, ints))
-factor_some (pos p) z a h e = subst (λ (a : ℤ). 0 < unsigned_abs a) (sym e) (quotient_some (p / gcd p (unsigned_abs z)) (gcd p (unsigned_abs z)) p (div-mul_cancel (gcd p (unsigned_abs z)) (gcd_is p (unsigned_abs z)).0) entry_some)
+factor_some (pos p) z a h e = subst (λ (a : ℤ). 0 < unsigned_abs a) (sym e)
+    (quotient_some (p / gcd p (unsigned_abs z)) (gcd p (unsigned_abs z)) p
+    (div-mul_cancel (gcd p (unsigned_abs z)) (gcd_is p (unsigned_abs z)).0) entry_some)
   where
     entry_some : 0 < p
     entry_some = omega (arith, ints, h)

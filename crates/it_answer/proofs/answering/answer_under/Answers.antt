@@ -15,9 +15,12 @@ returns-in-Prove g c =
     let q = question_body c.args.question.now in
     let p = c.args.problem.now in
     let r = relation_view c.in-Prove.relation in
-    if_ok c.relation_answer.result (λ a. AnswersForms p (targets p.space.variables r) (answer_view a) c.args.budgets.effort) (λ a. IsAnswered c.args.budgets _ c.args.question.now a _) c.relation_answer.ensures
-    (λ a answered. nothing_found c.args.budgets _ c.args.question.now a (answers_relation q p c.requires.problem.space c.requires.problem.constraints c.requires.problem.limits c.args.budgets _ r (answer_view a) (ap verb_view c.in-Prove.is) answered))
+    if_ok c.relation_answer.result (λ a. AnswersForms p (targets p.space.variables r) (answer_view a) c.args.budgets.effort)
+    (λ a. IsAnswered c.args.budgets _ c.args.question.now a _) c.relation_answer.ensures
+    (λ a answered. nothing_found c.args.budgets _ c.args.question.now a (answers_relation q p c.requires.problem.space
+    c.requires.problem.constraints c.requires.problem.limits c.args.budgets _ r (answer_view a) (ap verb_view c.in-Prove.is) answered))
 
 pub returns-in-Eliminate : goal.returns-in-Eliminate
 returns-in-Eliminate g c =
-    if_ok c.region.result (λ a. (plans : List Plan) → IsAnswered c.args.budgets plans c.args.question.now a plans) (λ a. IsAnswered c.args.budgets _ c.args.question.now a _) c.region.ensures (λ a x. x _)
+    if_ok c.region.result (λ a. (plans : List Plan) → IsAnswered c.args.budgets plans c.args.question.now a plans)
+    (λ a. IsAnswered c.args.budgets _ c.args.question.now a _) c.region.ensures (λ a x. x _)

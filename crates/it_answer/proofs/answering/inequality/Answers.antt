@@ -14,4 +14,5 @@ returns c =
     let f = form_of p.space.variables (relation_view c.args.relation.now) in
     let o = proof_view c.in_ok-proof.proof in
     if_ok c.after_one.result (λ a. answer_view a ≡ answer_after_one o) (λ a. AnswersForms p (f ∷ []) (answer_view a) c.args.effort) c.after_one.ensures
-    (λ a is. answers_one p f c.in_ok-row.row (rw c.space.ensures.value at c.in_ok-row.ensures) c.args.effort o (answer_view a) is c.in_ok-proof.ensures.right c.in_ok-proof.ensures.ends)
+    (λ a is. answers_one p f c.in_ok-row.row (rw c.space.ensures.value at c.in_ok-row.ensures) c.args.effort o
+    (answer_view a) is c.in_ok-proof.ensures.right c.in_ok-proof.ensures.ends)

@@ -7,7 +7,8 @@ use Rattle.it_answer.proofs.ContainmentLemmas.{question_is_answered, is_containm
 use Rattle.it_answer.proofs.containments.containment.Goals as goal
 
 pub pair-requires-clause-contains : goal.pair-requires-clause-contains
-pair-requires-clause-contains g c = is_containment (question_body c.args.question.now) (region_view c.args.first.now) (region_view c.args.second.now) c.args.tries.now c.requires.contains
+pair-requires-clause-contains g c = is_containment (question_body c.args.question.now) (region_view c.args.first.now)
+    (region_view c.args.second.now) c.args.tries.now c.requires.contains
 
 pub returns : goal.returns
 returns g c =
@@ -16,6 +17,8 @@ returns g c =
     let b = region_view c.args.second.now in
     let p = c.in_ok-pair.pair in
     let answered =
-    question_is_answered q a b c.args.tries.now p c.requires.question c.requires.contains c.in_ok-pair.ensures.limits (pair_of_verb q a b c.args.tries.now p c.requires.contains c.in_ok-pair.ensures.pair) c.args.budgets _ _
-    c.in_ok-end.end c.as_slice.result.now (answer_view c.in_ok-answer.answer) (c.as_slice.ensures.value ∙ c.in_ok-tried.ensures) c.in_ok-answer.ensures c.in_ok-end.ensures in
+    question_is_answered q a b c.args.tries.now p c.requires.question c.requires.contains c.in_ok-pair.ensures.limits
+    (pair_of_verb q a b c.args.tries.now p c.requires.contains c.in_ok-pair.ensures.pair) c.args.budgets _ _
+    c.in_ok-end.end c.as_slice.result.now (answer_view c.in_ok-answer.answer)
+    (c.as_slice.ensures.value ∙ c.in_ok-tried.ensures) c.in_ok-answer.ensures c.in_ok-end.ensures in
     record { found = found_of c.in_ok-end.end; right = answered.0; learned = answered.1 }

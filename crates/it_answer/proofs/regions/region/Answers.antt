@@ -13,7 +13,8 @@ use Rattle.it_answer.proofs.regions.region.Goals as goal
 
 pub project-requires-clause-rates : goal.project-requires-clause-rates
 project-requires-clause-rates c =
-    subst (λ (s : Space). All (λ r. r < s.rates) c.args.rates.now) (sym c.in_ok-system.ensures.space) (rates_of_question (question_body c.args.question.now) c.args.rates.now c.requires.eliminates c.requires.question).within
+    subst (λ (s : Space). All (λ r. r < s.rates) c.args.rates.now) (sym c.in_ok-system.ensures.space)
+    (rates_of_question (question_body c.args.question.now) c.args.rates.now c.requires.eliminates c.requires.question).within
 
 pub project-requires-clause-some : goal.project-requires-clause-some
 project-requires-clause-some c = (rates_of_question (question_body c.args.question.now) c.args.rates.now c.requires.eliminates c.requires.question).some
@@ -22,8 +23,10 @@ pub project-requires-clause-system : goal.project-requires-clause-system
 project-requires-clause-system c = record {
   system = c.in_ok-system.ensures.limits;
   givens = c.requires.givens.limits;
-  space = c.in_ok-system.ensures.space ∙ sym (space_of_names (question_body c.args.question.now) c.args.rates.now c.args.givens.now c.requires.eliminates c.requires.givens);
-  few_givens = few_constraints (question_body c.args.question.now) c.args.rates.now c.args.givens.now c.requires.eliminates c.requires.givens c.requires.question;
+  space = c.in_ok-system.ensures.space ∙ sym (space_of_names (question_body c.args.question.now) c.args.rates.now c.args.givens.now
+      c.requires.eliminates c.requires.givens);
+  few_givens = few_constraints (question_body c.args.question.now) c.args.rates.now c.args.givens.now c.requires.eliminates
+      c.requires.givens c.requires.question;
 }
 
 pub project-requires-clause-sets : goal.project-requires-clause-sets
@@ -40,10 +43,12 @@ returns c =
     let same = space_of_names q rates givens c.requires.eliminates c.requires.givens in
     let of_system = c.in_ok-system.ensures.space ∙ sym same in
     let met = met_where_true q rates givens c.requires.eliminates c.requires.givens in
-    let rows_met = subst (λ (s : Space). (p : ℕ → ℤ) → p 0 ≡ pos 0 → AreAtLeastZero p rows ↔ All (Holds s.variables p) q.lines.rows) of_system c.in_ok-system.ensures.met in
+    let rows_met = subst (λ (s : Space). (p : ℕ → ℤ) → p 0 ≡ pos 0 → AreAtLeastZero p rows ↔ All (Holds s.variables p) q.lines.rows)
+    of_system c.in_ok-system.ensures.met in
     let shown = region_shows q rates givens rows same met rows_met end (answer_view c.in_ok-answer.answer) c.in_ok-end.ensures.region c.in_ok-answer.ensures in
     let due =
     region_is_due c.args.budgets q rates givens rows end (answer_view c.in_ok-answer.answer) (one_problem q givens c.requires.givens)
     (system_rows_are q c.in_ok-system.system.space rows (of_system ∙ c.requires.givens.space) c.in_ok-system.ensures.rows)
     c.in_ok-end.ensures.ends c.in_ok-answer.ensures in
-    λ plans. nothing_found c.args.budgets plans c.args.question.now c.in_ok-answer.answer (left_of_rows c.args.budgets plans q rates (answer_view c.in_ok-answer.answer) c.requires.eliminates shown due)
+    λ plans. nothing_found c.args.budgets plans c.args.question.now c.in_ok-answer.answer
+    (left_of_rows c.args.budgets plans q rates (answer_view c.in_ok-answer.answer) c.requires.eliminates shown due)

@@ -7,7 +7,8 @@ use Rattle.it_answer.proofs.TargetLemmas.{obligation_rows}
 use Rattle.it_answer.proofs.targets.obligation_rows.Goals as goal
 
 pub pair-requires-clause-contains : goal.pair-requires-clause-contains
-pair-requires-clause-contains c = is_containment (question_body c.args.question.now) (region_view c.args.first.now) (region_view c.args.second.now) c.args.tries.now c.requires.contains
+pair-requires-clause-contains c = is_containment (question_body c.args.question.now) (region_view c.args.first.now)
+    (region_view c.args.second.now) c.args.tries.now c.requires.contains
 
 pub obligations-requires-clause-fits : goal.obligations-requires-clause-fits
 obligations-requires-clause-fits c =
@@ -15,7 +16,8 @@ obligations-requires-clause-fits c =
     let a = region_view c.args.first.now in
     let b = region_view c.args.second.now in
     let p = c.in_ok-pair.pair in
-    parts_fit q a b p (pair_of_verb q a b c.args.tries.now p c.requires.contains c.in_ok-pair.ensures.pair) c.candidate-candidate.result c.args.parts.now (search rules) c.candidate-candidate.ensures.count c.candidate-candidate.ensures.parts c.requires.parts
+    parts_fit q a b p (pair_of_verb q a b c.args.tries.now p c.requires.contains c.in_ok-pair.ensures.pair) c.candidate-candidate.result
+    c.args.parts.now (search rules) c.candidate-candidate.ensures.count c.candidate-candidate.ensures.parts c.requires.parts
 
 pub returns : goal.returns
 returns c =
@@ -23,5 +25,6 @@ returns c =
     let a = region_view c.args.first.now in
     let b = region_view c.args.second.now in
     let p = c.in_ok-pair.pair in
-    obligation_rows q a b c.args.tries.now c.requires.contains p (pair_of_verb q a b c.args.tries.now p c.requires.contains c.in_ok-pair.ensures.pair) c.candidate-candidate.result c.args.parts.now c.in_ok-rows.rows.items c.candidate-candidate.ensures.parts
+    obligation_rows q a b c.args.tries.now c.requires.contains p (pair_of_verb q a b c.args.tries.now p c.requires.contains
+    c.in_ok-pair.ensures.pair) c.candidate-candidate.result c.args.parts.now c.in_ok-rows.rows.items c.candidate-candidate.ensures.parts
     c.in_ok-rows.ensures.rows

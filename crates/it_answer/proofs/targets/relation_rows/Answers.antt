@@ -4,4 +4,5 @@ use Rattle.it_answer.proofs.TargetLemmas.{relation_rows}
 use Rattle.it_answer.proofs.targets.relation_rows.Goals as goal
 
 pub returns : goal.returns
-returns c = relation_rows (question_body c.args.question.now) (relation_view c.args.relation.now) c.space.result c.target_rows.result c.requires.proves c.space.ensures.counts c.target_rows.ensures
+returns c = relation_rows (question_body c.args.question.now) (relation_view c.args.relation.now) c.space.result c.target_rows.result
+    c.requires.proves c.space.ensures.counts c.target_rows.ensures

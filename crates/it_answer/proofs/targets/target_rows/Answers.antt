@@ -6,4 +6,5 @@ use Rattle.it_answer.proofs.TargetLemmas.{relation_forms}
 use Rattle.it_answer.proofs.targets.target_rows.Goals as goal
 
 pub returns-in-Prove : goal.returns-in-Prove
-returns-in-Prove c = relation_forms (question_body c.args.question.now) (relation_view c.in-Prove.relation) (answer_view c.args.answer.now) c.relation_rows.result (ap verb_view c.in-Prove.is) c.relation_rows.ensures
+returns-in-Prove c = relation_forms (question_body c.args.question.now) (relation_view c.in-Prove.relation)
+    (answer_view c.args.answer.now) c.relation_rows.result (ap verb_view c.in-Prove.is) c.relation_rows.ensures

@@ -8,5 +8,7 @@ use Rattle.it_best.proofs.finding.by_first_phase.Goals as goal
 pub returns : goal.returns
 returns c =
     let q = c.args.problem.now in
-    by_end c.size-size.result (size_of q.space) (unknown_views c.as_slice.result.now) (first q c.args.left.now c.args.right.now) c.args.right.now c.args.budget c.in_ok-end.end c.first_answer.result
-    (FirstFollows q c.args.left.now c.args.right.now c.args.budget) c.size-size.ensures (ap unknown_views c.as_slice.ensures.value ∙ c.in_ok-unknowns.ensures) c.in_ok-end.ensures.ends c.first_answer.ensures
+    by_end c.size-size.result (size_of q.space) (unknown_views c.as_slice.result.now)
+    (first q c.args.left.now c.args.right.now) c.args.right.now c.args.budget c.in_ok-end.end c.first_answer.result
+    (FirstFollows q c.args.left.now c.args.right.now c.args.budget) c.size-size.ensures
+    (ap unknown_views c.as_slice.ensures.value ∙ c.in_ok-unknowns.ensures) c.in_ok-end.ensures.ends c.first_answer.ensures

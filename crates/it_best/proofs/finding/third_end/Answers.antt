@@ -8,9 +8,11 @@ use Rattle.it_best.specs.Phases.{unknown_views}
 use Rattle.it_best.proofs.finding.third_end.Goals as goal
 
 pub returns-clause-ends : goal.returns-clause-ends
-returns-clause-ends c = subst₂ (λ (m : ℕ) (target : Terms). IfOk c.phase_end.result (λ a. PhaseEnds m (unknown_views c.args.unknowns.now) target c.args.budget (end_of_answer a))) c.right_equation.ensures.value
+returns-clause-ends c = subst₂ (λ (m : ℕ) (target : Terms). IfOk c.phase_end.result
+    (λ a. PhaseEnds m (unknown_views c.args.unknowns.now) target c.args.budget (end_of_answer a))) c.right_equation.ensures.value
     (c.in_ok-target.ensures ∙ ap (λ n. c.args.right.now ++ (n, pos 1) ∷ []) c.left_equation.ensures.value) c.phase_end.ensures.ends
 
 pub returns-clause-right : goal.returns-clause-right
-returns-clause-right c = subst₂ (λ (m : ℕ) (target : Terms). IfOk c.phase_end.result (λ a. PhaseIsRight m (unknown_views c.args.unknowns.now) target a)) c.right_equation.ensures.value
+returns-clause-right c = subst₂ (λ (m : ℕ) (target : Terms). IfOk c.phase_end.result
+    (λ a. PhaseIsRight m (unknown_views c.args.unknowns.now) target a)) c.right_equation.ensures.value
     (c.in_ok-target.ensures ∙ ap (λ n. c.args.right.now ++ (n, pos 1) ∷ []) c.left_equation.ensures.value) c.phase_end.ensures.right

@@ -5,4 +5,6 @@ use Rattle.it_best.proofs.NumberSteps.{turned_within}
 use Rattle.it_best.proofs.numbers.turned_point.Goals as goal
 
 pub new-requires-clause-within : goal.new-requires-clause-within
-new-requires-clause-within c = subst (All IsWithin) (sym (c.in_ok-turned.ensures ∙ ap (map neg_ℤ) (c.as_slice.ensures.value ∙ c.in_ok-values.ensures.value))) (turned_within (scaled_point c.args.numbers.now) c.in_ok-values.ensures.within)
+new-requires-clause-within c = subst (All IsWithin) (sym
+    (c.in_ok-turned.ensures ∙ ap (map neg_ℤ) (c.as_slice.ensures.value ∙ c.in_ok-values.ensures.value)))
+    (turned_within (scaled_point c.args.numbers.now) c.in_ok-values.ensures.within)

@@ -16,7 +16,9 @@ returns-in-Bounded c =
     let rows = c.as_slice.result.now in
     let proofs = c.as_slice-in-Bounded.result.now in
     let rays = c.as_slice-in-Bounded-2.result.now in
-    if_ok c.bounds_lines.result (λ t. t.items ≡ count_line c.args.k (length rows) (length rays) ++ row_lines q c.args.constraints.now c.args.k rows proofs ++ flat_map (ray_line c.args.k (problem_names q) (told_rates q)) rays)
+    if_ok c.bounds_lines.result (λ t. t.items ≡ count_line c.args.k (length rows) (length rays)
+    ++ row_lines q c.args.constraints.now c.args.k rows proofs ++ flat_map (ray_line c.args.k (problem_names q) (told_rates q)) rays)
     (λ t. t.items ≡ reply_lines c.args.limits c.args.k q (origins_of c.args.constraints.now) (reply_view c.args.reply.now)) c.bounds_lines.ensures
-    (λ t e. e ∙ bounds_text q c.args.constraints.now c.args.k c.in-Bounded.rows.items rows c.in-Bounded.proofs.items proofs c.in-Bounded.rays.items rays c.as_slice.ensures.value c.as_slice-in-Bounded.ensures.value c.as_slice-in-Bounded-2.ensures.value
+    (λ t e. e ∙ bounds_text q c.args.constraints.now c.args.k c.in-Bounded.rows.items rows c.in-Bounded.proofs.items proofs
+    c.in-Bounded.rays.items rays c.as_slice.ensures.value c.as_slice-in-Bounded.ensures.value c.as_slice-in-Bounded-2.ensures.value
     ∙ ap (λ (r : Reply). reply_lines c.args.limits c.args.k q (origins_of c.args.constraints.now) (reply_view r)) (sym c.in-Bounded.is))

@@ -16,10 +16,13 @@ write_ray-requires-clause-kept c =
     let names = c.problem_names-names.result.now in
     let gone = c.gone_rates.result.now in
     subst (λ (cs : List ℕ). ArePlaces (size_of (space_of names)) cs)
-    (sym (c.as_slice.ensures.value ∙ c.in_ok-kept.ensures ∙ ap (λ (s : Space). kept_coordinates s gone) c.space.ensures.counts)) (kept_places (space_of names) gone)
+    (sym (c.as_slice.ensures.value ∙ c.in_ok-kept.ensures ∙ ap (λ (s : Space). kept_coordinates s gone) c.space.ensures.counts))
+    (kept_places (space_of names) gone)
 
 pub returns : goal.returns
-returns c = rays_done c.args.k c.problem_names-names.result.now (problem_names (question_body c.args.question.now)) c.in_ok-kept.kept.items (told_rates (question_body c.args.question.now)) c.args.rays.now c.loop-ray.ray-index
+returns c = rays_done c.args.k c.problem_names-names.result.now (problem_names (question_body c.args.question.now)) c.in_ok-kept.kept.items
+    (told_rates (question_body c.args.question.now)) c.args.rays.now c.loop-ray.ray-index
     c.loop-ray.out.items c.args.out.now.items c.problem_names-names.ensures
-    (c.in_ok-kept.ensures ∙ ap₂ (λ (s : Space) (rs : List ℕ). kept_coordinates s rs) (c.space.ensures.counts ∙ ap space_of c.problem_names-names.ensures) c.gone_rates.ensures)
+    (c.in_ok-kept.ensures ∙ ap₂ (λ (s : Space) (rs : List ℕ). kept_coordinates s rs)
+    (c.space.ensures.counts ∙ ap space_of c.problem_names-names.ensures) c.gone_rates.ensures)
     c.loop-ray-test.false c.loop-ray.invariant

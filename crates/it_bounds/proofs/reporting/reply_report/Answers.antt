@@ -5,4 +5,5 @@ use Rattle.it_bounds.specs.Reports.{IsToldReport}
 use Rattle.it_bounds.proofs.reporting.reply_report.Goals as goal
 
 pub returns : goal.returns
-returns c = subst (λ (text : List ℕ). IsToldReport c.args.limits (question_view c.args.question.now) (reply_view c.args.reply.now) text) (sym c.in_ok-extend_from_slice.ensures.items) c.in_ok-line.ensures
+returns c = subst (λ (text : List ℕ). IsToldReport c.args.limits (question_view c.args.question.now) (reply_view c.args.reply.now) text)
+    (sym c.in_ok-extend_from_slice.ensures.items) c.in_ok-line.ensures

@@ -10,13 +10,19 @@ use Rattle.it_bounds.proofs.reporting.steps_of.Goals as goal
 
 pub hull_steps-requires : goal.hull_steps-requires
 hull_steps-requires c = let q = question_body c.args.question.now in record {
-  frame = own_frame c.args.limits.rows q c.requires.question c.requires.few_rows (some_rates q c.requires.question c.requires.asked) c.space-space.result c.gone_rates-gone.result.now c.as_slice.result.now c.space-space.ensures.counts c.gone_rates-gone.ensures
+  frame = own_frame c.args.limits.rows q c.requires.question c.requires.few_rows
+      (some_rates q c.requires.question c.requires.asked) c.space-space.result c.gone_rates-gone.result.now c.as_slice.result.now
+      c.space-space.ensures.counts c.gone_rates-gone.ensures
       (c.as_slice.ensures.value ∙ c.in_ok-kept.ensures);
-  kept = own_kept c.args.limits.rows q c.requires.question c.requires.few_rows (some_rates q c.requires.question c.requires.asked) c.space-space.result c.gone_rates-gone.result.now c.as_slice.result.now c.space-space.ensures.counts c.gone_rates-gone.ensures
+  kept = own_kept c.args.limits.rows q c.requires.question c.requires.few_rows
+      (some_rates q c.requires.question c.requires.asked) c.space-space.result c.gone_rates-gone.result.now c.as_slice.result.now
+      c.space-space.ensures.counts c.gone_rates-gone.ensures
       (c.as_slice.ensures.value ∙ c.in_ok-kept.ensures);
   rays = subst (λ (s : Space). All (λ (ray : List ℤ). length ray ≡ size_of s) c.args.rays.now) (sym c.space-space.ensures.counts) c.requires.rays;
 }
 
 pub returns : goal.returns
-returns c = own_steps c.args.limits (question_body c.args.question.now) c.requires.question c.requires.few_rows (some_rates (question_body c.args.question.now) c.requires.question c.requires.asked) c.space-space.result c.gone_rates-gone.result.now c.as_slice.result.now c.space-space.ensures.counts c.gone_rates-gone.ensures
+returns c = own_steps c.args.limits (question_body c.args.question.now) c.requires.question c.requires.few_rows
+    (some_rates (question_body c.args.question.now) c.requires.question c.requires.asked) c.space-space.result c.gone_rates-gone.result.now
+    c.as_slice.result.now c.space-space.ensures.counts c.gone_rates-gone.ensures
     (c.as_slice.ensures.value ∙ c.in_ok-kept.ensures) c.args.rays.now (option_map (λ v. step_views v.items) c.in_ok-steps.steps) c.in_ok-steps.ensures

@@ -9,12 +9,17 @@ use Rattle.it_bounds.proofs.ReportLemmas.{bounds_told, misfit_told}
 use Rattle.it_bounds.proofs.reporting.told_line.Goals as goal
 
 pub returns-in-Some : goal.returns-in-Some
-returns-in-Some c = bounds_told c.args.limits (question_view c.args.question.now) c.as_slice.result.now c.in_ok-line-in-Some.line.items (c.as_slice.ensures.value ∙ c.in_ok-text.ensures) (reply_view c.args.reply.now) (step_views c.in-Some.steps.items)
+returns-in-Some c = bounds_told c.args.limits (question_view c.args.question.now) c.as_slice.result.now c.in_ok-line-in-Some.line.items
+    (c.as_slice.ensures.value ∙ c.in_ok-text.ensures) (reply_view c.args.reply.now) (step_views c.in-Some.steps.items)
     c.in_ok-line-in-Some.ensures
-    (subst (λ (s : Option (Vec Step Global)). AreToldSteps true c.args.limits (question_body c.args.question.now) (reply_view c.args.reply.now) (option_map (λ v. step_views v.items) s)) c.in-Some.is c.in_ok-steps.ensures)
+    (subst (λ (s : Option (Vec Step Global)). AreToldSteps true c.args.limits (question_body c.args.question.now)
+    (reply_view c.args.reply.now) (option_map (λ v. step_views v.items) s)) c.in-Some.is c.in_ok-steps.ensures)
 
 pub returns : goal.returns
-returns c = misfit_told c.args.limits (question_view c.args.question.now) c.as_slice.result.now c.in_ok-line-in-None.line.items (c.as_slice.ensures.value ∙ c.in_ok-text.ensures) (reply_view c.args.reply.now) c.as_slice-in-None.result.now
-    (c.as_slice-in-None.ensures.value ∙ c.in_ok-words-in-None.ensures ∙ ap (λ (v : NamesView). unreported c.args.limits v (reply_view c.args.reply.now)) c.problem_names.ensures)
+returns c = misfit_told c.args.limits (question_view c.args.question.now) c.as_slice.result.now c.in_ok-line-in-None.line.items
+    (c.as_slice.ensures.value ∙ c.in_ok-text.ensures) (reply_view c.args.reply.now) c.as_slice-in-None.result.now
+    (c.as_slice-in-None.ensures.value ∙ c.in_ok-words-in-None.ensures
+    ∙ ap (λ (v : NamesView). unreported c.args.limits v (reply_view c.args.reply.now)) c.problem_names.ensures)
     c.in_ok-line-in-None.ensures
-    (subst (λ (s : Option (Vec Step Global)). AreToldSteps true c.args.limits (question_body c.args.question.now) (reply_view c.args.reply.now) (option_map (λ v. step_views v.items) s)) c.in-None.is c.in_ok-steps.ensures)
+    (subst (λ (s : Option (Vec Step Global)). AreToldSteps true c.args.limits (question_body c.args.question.now)
+    (reply_view c.args.reply.now) (option_map (λ v. step_views v.items) s)) c.in-None.is c.in_ok-steps.ensures)

@@ -8,4 +8,5 @@ use Rattle.it_certificate.specs.Steps.{prepend}
 use Rattle.it_certificate.proofs.bounds.steps.Given as goal
 
 abbrev pub invariant-loop-value : goal.invariant-loop-value
-invariant-loop-value l = prepend (map step_view l.out.items) (all_of (step_at (size_of l.space)) (items_view (drop l.value-index l.values))) ≡ all_of (step_at (size_of l.space)) (items_view l.values)
+invariant-loop-value l = prepend (map step_view l.out.items) (all_of (step_at (size_of l.space)) (items_view (drop l.value-index l.values)))
+    ≡ all_of (step_at (size_of l.space)) (items_view l.values)

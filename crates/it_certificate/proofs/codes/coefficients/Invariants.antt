@@ -6,4 +6,5 @@ use Rattle.it_certificate.specs.Steps.{prepend}
 use Rattle.it_certificate.proofs.codes.coefficients.Given as goal
 
 abbrev pub invariant-loop-value : goal.invariant-loop-value
-invariant-loop-value l = prepend l.out.items (all_of (coefficient_at l.elements) (items_view (drop l.value-index l.values))) ≡ all_of (coefficient_at l.elements) (items_view l.values)
+invariant-loop-value l = prepend l.out.items (all_of (coefficient_at l.elements) (items_view (drop l.value-index l.values)))
+    ≡ all_of (coefficient_at l.elements) (items_view l.values)

@@ -8,6 +8,8 @@ use Rattle.it_certificate.proofs.codes.functions.Goals as goal
 
 pub loop-value-preserved : goal.loop-value-preserved
 loop-value-preserved c =
-    ap (λ xs. prepend (map (λ f. f.items) xs) (all_of (function_at c.args.elements c.args.symbols) (items_view (drop (c.loop-value.value-index + 1) c.args.values.now)))) c.in_ok-push.ensures.items
-    ∙ item_seen (function_at c.args.elements c.args.symbols) c.args.values.now c.loop-value.value-index c.value-item.result c.loop-value-test.true c.value-item.is (λ f. f.items) c.loop-value.out.items c.in_ok-function.function
+    ap (λ xs. prepend (map (λ f. f.items) xs) (all_of (function_at c.args.elements c.args.symbols)
+    (items_view (drop (c.loop-value.value-index + 1) c.args.values.now)))) c.in_ok-push.ensures.items
+    ∙ item_seen (function_at c.args.elements c.args.symbols) c.args.values.now c.loop-value.value-index c.value-item.result
+    c.loop-value-test.true c.value-item.is (λ f. f.items) c.loop-value.out.items c.in_ok-function.function
     (all_of (function_at c.args.elements c.args.symbols) (items_view c.args.values.now)) (sym c.in_ok-function.ensures) c.loop-value.invariant

@@ -6,4 +6,5 @@ use Rattle.it_certificate.specs.Steps.{prepend}
 use Rattle.it_certificate.proofs.codes.functions.Given as goal
 
 abbrev pub invariant-loop-value : goal.invariant-loop-value
-invariant-loop-value l = prepend (map (λ f. f.items) l.out.items) (all_of (function_at l.elements l.symbols) (items_view (drop l.value-index l.values))) ≡ all_of (function_at l.elements l.symbols) (items_view l.values)
+invariant-loop-value l = prepend (map (λ f. f.items) l.out.items) (all_of (function_at l.elements l.symbols)
+    (items_view (drop l.value-index l.values))) ≡ all_of (function_at l.elements l.symbols) (items_view l.values)

@@ -9,6 +9,8 @@ use Rattle.it_certificate.proofs.codes.variables.Goals as goal
 
 pub loop-value-preserved : goal.loop-value-preserved
 loop-value-preserved c =
-    ap (λ xs. prepend (map functions_of xs) (all_of (variable_at c.args.elements c.args.symbols) (items_view (drop (c.loop-value.value-index + 1) c.args.values.now)))) c.in_ok-push.ensures.items
-    ∙ item_seen (variable_at c.args.elements c.args.symbols) c.args.values.now c.loop-value.value-index c.value-item.result c.loop-value-test.true c.value-item.is functions_of c.loop-value.out.items c.in_ok-variable.variable
+    ap (λ xs. prepend (map functions_of xs) (all_of (variable_at c.args.elements c.args.symbols)
+    (items_view (drop (c.loop-value.value-index + 1) c.args.values.now)))) c.in_ok-push.ensures.items
+    ∙ item_seen (variable_at c.args.elements c.args.symbols) c.args.values.now c.loop-value.value-index c.value-item.result
+    c.loop-value-test.true c.value-item.is functions_of c.loop-value.out.items c.in_ok-variable.variable
     (all_of (variable_at c.args.elements c.args.symbols) (items_view c.args.values.now)) (sym c.in_ok-variable.ensures) c.loop-value.invariant

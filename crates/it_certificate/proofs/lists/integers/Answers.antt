@@ -11,9 +11,11 @@ loop-value-preserved c =
     let fits : FitsSigned w128 c.in-Some.integer = search rules in
     ap (λ xs. prepend xs (all_of integer_at (items_view (drop (c.loop-value.value-index + 1) c.args.values.now))))
     (c.in_ok-push.ensures.items ∙ ap (λ x. c.loop-value.out.items ++ x ∷ []) (to_z-of_z fits))
-    ∙ item_more integer_at c.args.values.now c.loop-value.value-index c.value-item.result c.loop-value-test.true c.value-item.is c.loop-value.out.items c.in-Some.integer
+    ∙ item_more integer_at c.args.values.now c.loop-value.value-index c.value-item.result c.loop-value-test.true c.value-item.is
+    c.loop-value.out.items c.in-Some.integer
     (all_of integer_at (items_view c.args.values.now)) c.in-Some.ensures c.loop-value.invariant
 
 pub returns-in_default : goal.returns-in_default
-returns-in_default c = item_without integer_at c.args.values.now c.loop-value.value-index c.value-item.result c.loop-value-test.true c.value-item.is c.loop-value.out.items
+returns-in_default c = item_without integer_at c.args.values.now c.loop-value.value-index c.value-item.result c.loop-value-test.true
+    c.value-item.is c.loop-value.out.items
     (all_of integer_at (items_view c.args.values.now)) c.in_default.ensures c.loop-value.invariant

@@ -8,9 +8,11 @@ use Rattle.it_certificate.proofs.lists.pairs.Goals as goal
 pub loop-value-preserved : goal.loop-value-preserved
 loop-value-preserved c =
     ap (λ xs. prepend xs (all_of pair_at (items_view (drop (c.loop-value.value-index + 1) c.args.values.now)))) c.in_ok-push.ensures.items
-    ∙ item_more pair_at c.args.values.now c.loop-value.value-index c.value-item.result c.loop-value-test.true c.value-item.is c.loop-value.out.items c.in-Some.pair
+    ∙ item_more pair_at c.args.values.now c.loop-value.value-index c.value-item.result c.loop-value-test.true c.value-item.is
+    c.loop-value.out.items c.in-Some.pair
     (all_of pair_at (items_view c.args.values.now)) c.in-Some.ensures c.loop-value.invariant
 
 pub returns-in_default : goal.returns-in_default
-returns-in_default c = item_without pair_at c.args.values.now c.loop-value.value-index c.value-item.result c.loop-value-test.true c.value-item.is c.loop-value.out.items
+returns-in_default c = item_without pair_at c.args.values.now c.loop-value.value-index c.value-item.result c.loop-value-test.true
+    c.value-item.is c.loop-value.out.items
     (all_of pair_at (items_view c.args.values.now)) c.in_default.ensures c.loop-value.invariant

@@ -6,6 +6,7 @@ use Rattle.it_certificate.proofs.obligations.rows_form_count.Given as goal
 
 abbrev pub invariant-loop-relation : goal.invariant-loop-relation
 invariant-loop-relation l = record {
-  rest : fold (λ a r. a + relation_form_count r) l.count (map relation_view (drop l.relation-index l.rows)) ≡ sum_by relation_form_count (map relation_view l.rows);
+  rest : fold (λ a r. a + relation_form_count r) l.count (map relation_view (drop l.relation-index l.rows))
+      ≡ sum_by relation_form_count (map relation_view l.rows);
   few : l.count ≤ 2 * l.relation-index;
 }

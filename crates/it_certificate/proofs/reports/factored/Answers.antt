@@ -7,8 +7,12 @@ use Rattle.it_certificate.proofs.reports.factored.Goals as goal
 
 pub returns-in-Ok-clause-reading : goal.returns-in-Ok-clause-reading
 returns-in-Ok-clause-reading c =
-    best_ok (view c.args.value.now) c.requires.told c.requires.outer c.args.kind c.requires.factors c.in_ok-question.question c.in-Ok.best c.in_ok-question.ensures.reading c.in-Ok.ensures
+    best_ok (view c.args.value.now) c.requires.told c.requires.outer c.args.kind c.requires.factors c.in_ok-question.question c.in-Ok.best
+    c.in_ok-question.ensures.reading c.in-Ok.ensures
 
 pub returns-in-Ok-clause-limits : goal.returns-in-Ok-clause-limits
-returns-in-Ok-clause-limits c =
-    (c.in_ok-question.ensures.limits, best_fits (question_view c.in_ok-question.question) c.args.kind (view c.args.value.now) (best_view c.in-Ok.best) c.in-Ok.ensures)
+returns-in-Ok-clause-limits c = (
+  c.in_ok-question.ensures.limits,
+  best_fits (question_view c.in_ok-question.question) c.args.kind (view c.args.value.now)
+      (best_view c.in-Ok.best) c.in-Ok.ensures,
+)

@@ -5,4 +5,5 @@ use Rattle.it_certificate.specs.Steps.{prepend}
 use Rattle.it_certificate.proofs.sets.sets.Given as goal
 
 abbrev pub invariant-loop-value : goal.invariant-loop-value
-invariant-loop-value l = prepend l.out.items (all_of (set_at l.variables) (items_view (drop l.value-index l.values))) ≡ all_of (set_at l.variables) (items_view l.values)
+invariant-loop-value l = prepend l.out.items (all_of (set_at l.variables) (items_view (drop l.value-index l.values)))
+    ≡ all_of (set_at l.variables) (items_view l.values)

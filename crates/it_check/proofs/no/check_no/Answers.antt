@@ -11,7 +11,8 @@ returns-in-Some c = let q = c.args.problem.now in
 
 pub returns-in-Some-of_target : goal.returns-in-Some-of_target
 returns-in-Some-of_target c = let q = c.args.problem.now in
-    by_target (length (elementals q.space.variables)) (generators q) c.args.target.now (point_of c.args.point.now) (Some c.in-Some-of_target.verdict) c.in_default.ensures c.in-Some-of_target.ensures
+    by_target (length (elementals q.space.variables)) (generators q) c.args.target.now (point_of c.args.point.now)
+    (Some c.in-Some-of_target.verdict) c.in_default.ensures c.in-Some-of_target.ensures
 
 pub returns-in-None : goal.returns-in-None
 returns-in-None c = let q = c.args.problem.now in

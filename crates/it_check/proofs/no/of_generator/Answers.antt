@@ -10,18 +10,24 @@ use mir.Syntax.{w128}
 pub returns-in_default : goal.returns-in_default
 returns-in_default c =
     let q = c.args.problem.now in
-    generator_wide (length (elementals q.space.variables)) c.args.index (generator_at (generators q) c.args.index) (point_of c.args.point.now) c.generator_value.result c.generator_value.ensures c.in_default.field-0 c.in_default.is
+    generator_wide (length (elementals q.space.variables)) c.args.index (generator_at (generators q) c.args.index)
+    (point_of c.args.point.now) c.generator_value.result c.generator_value.ensures c.in_default.field-0 c.in_default.is
 
 pub returns-then-violates : goal.returns-then-violates
 returns-then-violates c =
     let q = c.args.problem.now in
     let fits : FitsSigned w128 c.in-Ok.value = search rules in
-    generator_unmet (length (elementals q.space.variables)) c.args.index (generator_at (generators q) c.args.index) (point_of c.args.point.now) c.generator_value.result c.generator_value.ensures c.in-Ok.value c.in-Ok.is c.kind_at.result c.kind_at.ensures
-    c.violation.result (sym c.if-violates.true ∙ c.violates.ensures ∙ ap (violates c.kind_at.result) (to_z-of_z fits)) (c.violation.ensures ∙ ap (violation (length (elementals q.space.variables)) c.args.index) (to_z-of_z fits))
+    generator_unmet (length (elementals q.space.variables)) c.args.index (generator_at (generators q) c.args.index)
+    (point_of c.args.point.now) c.generator_value.result c.generator_value.ensures c.in-Ok.value c.in-Ok.is c.kind_at.result
+    c.kind_at.ensures
+    c.violation.result (sym c.if-violates.true ∙ c.violates.ensures ∙ ap (violates c.kind_at.result) (to_z-of_z fits))
+    (c.violation.ensures ∙ ap (violation (length (elementals q.space.variables)) c.args.index) (to_z-of_z fits))
 
 pub returns-else-violates : goal.returns-else-violates
 returns-else-violates c =
     let q = c.args.problem.now in
     let fits : FitsSigned w128 c.in-Ok.value = search rules in
-    generator_met (length (elementals q.space.variables)) c.args.index (generator_at (generators q) c.args.index) (point_of c.args.point.now) c.generator_value.result c.generator_value.ensures c.in-Ok.value c.in-Ok.is c.kind_at.result c.kind_at.ensures
+    generator_met (length (elementals q.space.variables)) c.args.index (generator_at (generators q) c.args.index)
+    (point_of c.args.point.now) c.generator_value.result c.generator_value.ensures c.in-Ok.value c.in-Ok.is c.kind_at.result
+    c.kind_at.ensures
     (sym c.if-violates.false ∙ c.violates.ensures ∙ ap (violates c.kind_at.result) (to_z-of_z fits))

@@ -6,10 +6,16 @@ use Rattle.it_check.proofs.YesSteps.{coordinates_found, coordinates_more, coordi
 use Rattle.it_check.proofs.yes.of_coordinates.Goals as goal
 
 pub returns-in-Some : goal.returns-in-Some
-returns-in-Some c = coordinates_found (generators c.args.problem.now) c.args.target.now (certificate_view c.args.certificate.now) c.loop-coordinate.coordinate (size_of c.args.problem.now.space) c.in-Some.verdict (omega arith) c.in-Some.ensures c.loop-coordinate.invariant
+returns-in-Some c = coordinates_found (generators c.args.problem.now) c.args.target.now
+    (certificate_view c.args.certificate.now) c.loop-coordinate.coordinate (size_of c.args.problem.now.space) c.in-Some.verdict
+    (omega arith) c.in-Some.ensures c.loop-coordinate.invariant
 
 pub loop-coordinate-preserved : goal.loop-coordinate-preserved
-loop-coordinate-preserved c = coordinates_more (generators c.args.problem.now) c.args.target.now (certificate_view c.args.certificate.now) c.loop-coordinate.coordinate (size_of c.args.problem.now.space) (omega arith) c.in_default.ensures c.loop-coordinate.invariant
+loop-coordinate-preserved c = coordinates_more (generators c.args.problem.now) c.args.target.now
+    (certificate_view c.args.certificate.now) c.loop-coordinate.coordinate (size_of c.args.problem.now.space)
+    (omega arith) c.in_default.ensures c.loop-coordinate.invariant
 
 pub returns : goal.returns
-returns c = coordinates_done (generators c.args.problem.now) c.args.target.now (certificate_view c.args.certificate.now) c.loop-coordinate.coordinate (size_of c.args.problem.now.space) (omega arith) c.loop-coordinate.invariant
+returns c = coordinates_done (generators c.args.problem.now) c.args.target.now
+    (certificate_view c.args.certificate.now) c.loop-coordinate.coordinate (size_of c.args.problem.now.space)
+    (omega arith) c.loop-coordinate.invariant

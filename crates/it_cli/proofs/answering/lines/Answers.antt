@@ -16,20 +16,24 @@ use Rattle.it_cli.proofs.LineLemmas.{proof_by_places, text_by_places, printable_
 use Rattle.it_cli.proofs.answering.lines.Goals as goal
 
 pub json_line-requires-clause-writable : goal.json_line-requires-clause-writable
-json_line-requires-clause-writable c = printable_is_writable (question_view c.args.question.now) _ c.args.answered.now.answer c.requires.limits c.requires.ascii c.requires.printable
+json_line-requires-clause-writable c = printable_is_writable (question_view c.args.question.now) _ c.args.answered.now.answer
+    c.requires.limits c.requires.ascii c.requires.printable
 
 pub derived_line-requires-clause-writable : goal.derived_line-requires-clause-writable
-derived_line-requires-clause-writable c = printable_is_writable (question_view c.args.question.now) _ c.args.answered.now.answer c.requires.limits c.requires.ascii c.requires.printable
+derived_line-requires-clause-writable c = printable_is_writable (question_view c.args.question.now) _ c.args.answered.now.answer
+    c.requires.limits c.requires.ascii c.requires.printable
 
 pub returns-in-Text : goal.returns-in-Text
 returns-in-Text c = rw c.in-Text.is (by_result c.text_lines.result c.text_lines.ensures)
   where
-    by_result : (r : Result (Vec ℕ) AllocError) → IfOk r (λ t. t.items ≡ answer_line c.args.k (question_body c.args.question.now) (origins_of c.args.answered.now.problem.constraints) (answer_view c.args.answered.now.answer))
+    by_result : (r : Result (Vec ℕ) AllocError) → IfOk r (λ t. t.items ≡ answer_line c.args.k (question_body c.args.question.now)
+        (origins_of c.args.answered.now.problem.constraints) (answer_view c.args.answered.now.answer))
         → IfOk r (λ t. IsToldText Text c.args.k (question_view c.args.question.now) (answer_view c.args.answered.now.answer) t.items)
     by_result (Ok t) e = record {
       origins = None;
       told = refl;
-      is = text_by_places (question_view c.args.question.now) c.args.k c.args.answered.now.problem.space c.args.answered.now.problem.constraints (answer_view c.args.answered.now.answer) t.items c.requires.stated e;
+      is = text_by_places (question_view c.args.question.now) c.args.k c.args.answered.now.problem.space
+          c.args.answered.now.problem.constraints (answer_view c.args.answered.now.answer) t.items c.requires.stated e;
     }
     by_result (Err e) h = tt
 
@@ -44,14 +48,17 @@ returns-in-Json c = rw c.in-Json.is (by_result c.json_line.result c.json_line.en
 pub returns-in-Proof : goal.returns-in-Proof
 returns-in-Proof c = rw c.in-Proof.is (by_result c.proof_lines.result c.proof_lines.ensures)
   where
-    by_result : (r : Result (Vec ℕ) AllocError) → IfOk r (λ t. t.items ≡ proof_text c.args.k (question_body c.args.question.now) (origins_of c.args.answered.now.problem.constraints)
+    by_result : (r : Result (Vec ℕ) AllocError) → IfOk r (λ t. t.items ≡ proof_text c.args.k (question_body c.args.question.now)
+        (origins_of c.args.answered.now.problem.constraints)
         (generator_rows (problem_names (question_body c.args.question.now)) c.args.answered.now.problem.constraints)
-        (map (terms_in (question_body c.args.question.now)) (answer_forms (question_body c.args.question.now) (answer_view c.args.answered.now.answer))) (answer_view c.args.answered.now.answer))
+        (map (terms_in (question_body c.args.question.now)) (answer_forms (question_body c.args.question.now)
+        (answer_view c.args.answered.now.answer))) (answer_view c.args.answered.now.answer))
         → IfOk r (λ t. IsToldText Proof c.args.k (question_view c.args.question.now) (answer_view c.args.answered.now.answer) t.items)
     by_result (Ok t) e = record {
       origins = None;
       told = refl;
-      is = proof_by_places (question_view c.args.question.now) c.args.k c.args.answered.now.problem.space c.args.answered.now.problem.constraints (answer_view c.args.answered.now.answer) t.items
+      is = proof_by_places (question_view c.args.question.now) c.args.k c.args.answered.now.problem.space
+          c.args.answered.now.problem.constraints (answer_view c.args.answered.now.answer) t.items
           c.requires.space c.requires.stated e;
     }
     by_result (Err e) h = tt
@@ -59,7 +66,8 @@ returns-in-Proof c = rw c.in-Proof.is (by_result c.proof_lines.result c.proof_li
 pub returns-in-Derived : goal.returns-in-Derived
 returns-in-Derived c = rw c.in-Derived.is (by_result c.derived_line.result c.derived_line.ensures)
   where
-    by_result : (r : Result (Vec ℕ) AllocError) → IfOk r (λ t. IsDerivedLine (question_view c.args.question.now) (answer_view c.args.answered.now.answer) t.items)
+    by_result : (r : Result (Vec ℕ) AllocError) → IfOk r (λ t. IsDerivedLine (question_view c.args.question.now)
+        (answer_view c.args.answered.now.answer) t.items)
         → IfOk r (λ t. IsToldText Derived c.args.k (question_view c.args.question.now) (answer_view c.args.answered.now.answer) t.items)
     by_result (Ok t) h = record { origins = h.0; told = h.1; is = h.2 }
     by_result (Err e) h = tt

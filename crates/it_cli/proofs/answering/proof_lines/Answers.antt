@@ -9,7 +9,11 @@ pub proof_text-requires-clause-some : goal.proof_text-requires-clause-some
 proof_text-requires-clause-some c = some_names (question_body c.args.question.now) c.requires.limits
 
 pub proof_text-requires-clause-rows : goal.proof_text-requires-clause-rows
-proof_text-requires-clause-rows c = rw c.constraints.ensures.value (constraints_over (question_body c.args.question.now) c.args.answered.now.problem.space c.args.answered.now.problem.constraints c.requires.space c.requires.stated.stated)
+proof_text-requires-clause-rows c = rw c.constraints.ensures.value (constraints_over
+    (question_body c.args.question.now) c.args.answered.now.problem.space c.args.answered.now.problem.constraints c.requires.space
+    c.requires.stated.stated)
 
 pub proof_text-requires-clause-targets : goal.proof_text-requires-clause-targets
-proof_text-requires-clause-targets c = rw c.as_slice.ensures.value (targets_over (question_body c.args.question.now) (answer_forms (question_body c.args.question.now) (answer_view c.args.answered.now.answer)) c.in_ok-targets.targets.items c.in_ok-targets.ensures)
+proof_text-requires-clause-targets c = rw c.as_slice.ensures.value (targets_over (question_body c.args.question.now)
+    (answer_forms (question_body c.args.question.now) (answer_view c.args.answered.now.answer)) c.in_ok-targets.targets.items
+    c.in_ok-targets.ensures)

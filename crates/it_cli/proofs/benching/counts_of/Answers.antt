@@ -10,7 +10,9 @@ pub with_answer-counts-requires : goal.with_answer-counts-requires
 with_answer-counts-requires g c = let few = c.loop-question.invariant.few in omega (arith, few)
 
 pub loop-question-preserved : goal.loop-question-preserved
-loop-question-preserved g c = rw c.with_answer-counts.ensures (counting_more c.args.budgets _ _ _ c.args.questions.now c.loop-question.question-index c.question-item.result c.loop-question.counts _ c.loop-question.invariant (omega arith) c.question-item.is
+loop-question-preserved g c = rw c.with_answer-counts.ensures (counting_more c.args.budgets _ _ _ c.args.questions.now
+    c.loop-question.question-index c.question-item.result c.loop-question.counts _ c.loop-question.invariant
+    (omega arith) c.question-item.is
     c.in_ok-answered.ensures.answered)
 
 pub returns : goal.returns

@@ -26,11 +26,14 @@ returns-then-report c =
 pub returns : goal.returns
 returns c =
     let q = question_body c.args.question.now in
-    subst (λ (b : Bool). IfOk c.reply_lines.result (λ t. IsTextOf (outer_mode b c.args.limits) [] c.args.k (question_view c.args.question.now) t.items)) (sym c.if-report.false)
-    (if_ok c.reply_lines.result (λ t. t.items ≡ reply_lines c.args.limits c.args.k q (origins_of c.constraints.result.now) (reply_view c.in_ok-replied.replied.reply))
+    subst (λ (b : Bool). IfOk c.reply_lines.result (λ t. IsTextOf (outer_mode b c.args.limits) [] c.args.k
+    (question_view c.args.question.now) t.items)) (sym c.if-report.false)
+    (if_ok c.reply_lines.result (λ t. t.items ≡ reply_lines c.args.limits c.args.k q (origins_of c.constraints.result.now)
+    (reply_view c.in_ok-replied.replied.reply))
     (λ t. IsTextOf (outer_mode false c.args.limits) [] c.args.k (question_view c.args.question.now) t.items) c.reply_lines.ensures (λ t is. record {
       reply = record { reply = reply_view c.in_ok-replied.replied.reply; steps = None };
       right = record { reply = c.in_ok-replied.ensures.right; steps = refl };
-      is = is ∙ ap (λ cs. reply_lines c.args.limits c.args.k q (origins_of cs) (reply_view c.in_ok-replied.replied.reply)) c.constraints.ensures.value ∙ ap (λ xs. reply_lines c.args.limits c.args.k q xs (reply_view c.in_ok-replied.replied.reply))
+      is = is ∙ ap (λ cs. reply_lines c.args.limits c.args.k q (origins_of cs) (reply_view c.in_ok-replied.replied.reply))
+          c.constraints.ensures.value ∙ ap (λ xs. reply_lines c.args.limits c.args.k q xs (reply_view c.in_ok-replied.replied.reply))
           (origins_same (question_origins (under_all_lines q)) c.in_ok-replied.replied.problem.constraints c.in_ok-replied.ensures.problem.placed);
     }))

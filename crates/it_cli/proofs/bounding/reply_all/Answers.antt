@@ -11,24 +11,39 @@ pub loop-i-init : goal.loop-i-init
 loop-i-init g c = (([], none_replied (outer_mode c.args.report c.args.limits) _ _), refl)
 
 pub returns-in_default : goal.returns-in_default
-returns-in_default g c bytes asked = (c.loop-i.invariant.1, inr (first_replied (outer_mode c.args.report c.args.limits) _ _ bytes _ c.loop-i.i c.loop-i.invariant.0.0 asked c.loop-i.invariant.0.1))
+returns-in_default g c bytes asked = (
+  c.loop-i.invariant.1,
+  inr (first_replied
+      (outer_mode c.args.report c.args.limits) _ _ bytes _ c.loop-i.i c.loop-i.invariant.0.0 asked c.loop-i.invariant.0.1),
+)
 
 pub returns-in_default-write_all : goal.returns-in_default-write_all
 returns-in_default-write_all g c bytes asked = (
   c.in_default-write_all.ensures.counted ∙ ap next_count c.loop-i.invariant.1,
-  inr (replies_stop (outer_mode c.args.report c.args.limits) _ _ _ bytes (map question_view c.args.questions.now) c.loop-i.i c.loop-i.invariant.0.0 (question_view c.index-questions-i.result) c.in-Ok.ensures.reply c.in-Ok.text.items c.as_slice.result.now asked c.loop-i.invariant.0.1
-      (omega (arith, length-map c.args.questions.now question_view)) (question_at c.args.questions.now c.loop-i.i c.index-questions-i.result (omega arith) c.index-questions-i.is) c.in-Ok.ensures.right c.in-Ok.ensures.is c.as_slice.ensures.value c.in_default-write_all.ensures.part),
+  inr (replies_stop (outer_mode c.args.report c.args.limits) _ _ _ bytes
+      (map question_view c.args.questions.now) c.loop-i.i c.loop-i.invariant.0.0
+      (question_view c.index-questions-i.result) c.in-Ok.ensures.reply c.in-Ok.text.items c.as_slice.result.now asked c.loop-i.invariant.0.1
+      (omega (arith, length-map c.args.questions.now question_view)) (question_at c.args.questions.now c.loop-i.i c.index-questions-i.result
+      (omega arith) c.index-questions-i.is) c.in-Ok.ensures.right c.in-Ok.ensures.is c.as_slice.ensures.value
+      c.in_default-write_all.ensures.part),
 )
 
 pub loop-i-preserved : goal.loop-i-preserved
 loop-i-preserved g c = (
   (
     c.loop-i.invariant.0.0 ++ c.in-Ok.ensures.reply ∷ [],
-    replies_more (outer_mode c.args.report c.args.limits) _ _ _ (map question_view c.args.questions.now) c.loop-i.i c.loop-i.invariant.0.0 (question_view c.index-questions-i.result) c.in-Ok.ensures.reply c.in-Ok.text.items c.as_slice.result.now c.loop-i.invariant.0.1
-        (omega (arith, length-map c.args.questions.now question_view)) (question_at c.args.questions.now c.loop-i.i c.index-questions-i.result (omega arith) c.index-questions-i.is) c.in-Ok.ensures.right c.in-Ok.ensures.is c.as_slice.ensures.value c.in-Ok-write_all.ensures.whole,
+    replies_more (outer_mode c.args.report c.args.limits) _ _ _ (map question_view c.args.questions.now) c.loop-i.i c.loop-i.invariant.0.0
+        (question_view c.index-questions-i.result) c.in-Ok.ensures.reply c.in-Ok.text.items c.as_slice.result.now c.loop-i.invariant.0.1
+        (omega (arith, length-map c.args.questions.now question_view)) (question_at c.args.questions.now c.loop-i.i
+        c.index-questions-i.result (omega arith) c.index-questions-i.is) c.in-Ok.ensures.right c.in-Ok.ensures.is
+        c.as_slice.ensures.value c.in-Ok-write_all.ensures.whole,
   ),
   c.in-Ok-write_all.ensures.counted ∙ c.loop-i.invariant.1,
 )
 
 pub returns : goal.returns
-returns g c bytes asked = (c.loop-i.invariant.1, all_replied (outer_mode c.args.report c.args.limits) _ _ bytes _ c.loop-i.i c.loop-i.invariant.0.0 asked c.loop-i.invariant.0.1 (omega (arith, length-map c.args.questions.now question_view)))
+returns g c bytes asked = (
+  c.loop-i.invariant.1,
+  all_replied (outer_mode c.args.report c.args.limits) _ _ bytes _ c.loop-i.i
+      c.loop-i.invariant.0.0 asked c.loop-i.invariant.0.1 (omega (arith, length-map c.args.questions.now question_view)),
+)

@@ -4,19 +4,26 @@ use Rattle.it_cli.proofs.CheckLemmas.{checked_all, checked_first, checked_more, 
 use Rattle.it_cli.proofs.checking.check_report.Goals as goal
 
 pub returns-in_default : goal.returns-in_default
-returns-in_default g c = (c.loop-rest.invariant.1, inr (checked_first _ _ c.args.bytes.now c.loop-rest.rest.now c.loop-rest.count c.loop-rest.some_invalid c.loop-rest.invariant.0))
+returns-in_default g c = (
+  c.loop-rest.invariant.1,
+  inr (checked_first _ _ c.args.bytes.now c.loop-rest.rest.now c.loop-rest.count
+      c.loop-rest.some_invalid c.loop-rest.invariant.0),
+)
 
 pub returns-in_default-write_all : goal.returns-in_default-write_all
 returns-in_default-write_all g c = (
   c.in_default-write_all.ensures.counted ∙ ap next_count c.loop-rest.invariant.1,
-  inr (checked_stops _ _ _ c.args.bytes.now c.loop-rest.rest.now c.first_line.result.0.now c.first_line.result.1.now c.loop-rest.count c.loop-rest.some_invalid c.in-Ok.judged.invalid c.in-Ok.judged.text.items
+  inr (checked_stops _ _ _ c.args.bytes.now c.loop-rest.rest.now c.first_line.result.0.now c.first_line.result.1.now c.loop-rest.count
+      c.loop-rest.some_invalid c.in-Ok.judged.invalid c.in-Ok.judged.text.items
       c.as_slice.result.now c.loop-rest.invariant.0 c.first_line.ensures.split c.in-Ok.ensures c.as_slice.ensures.value c.in_default-write_all.ensures.part),
 )
 
 pub loop-rest-preserved : goal.loop-rest-preserved
 loop-rest-preserved g c = (
-  checked_more _ _ _ c.args.bytes.now c.loop-rest.rest.now c.first_line.result.0.now c.first_line.result.1.now c.loop-rest.count c.loop-rest.some_invalid c.in-Ok.judged.invalid c.in-Ok.judged.text.items
-      c.as_slice.result.now c.loop-rest.invariant.0 c.first_line.ensures.split c.first_line.ensures.progress c.in-Ok.ensures c.as_slice.ensures.value c.in-Ok-write_all.ensures.whole,
+  checked_more _ _ _ c.args.bytes.now c.loop-rest.rest.now c.first_line.result.0.now c.first_line.result.1.now c.loop-rest.count
+      c.loop-rest.some_invalid c.in-Ok.judged.invalid c.in-Ok.judged.text.items
+      c.as_slice.result.now c.loop-rest.invariant.0 c.first_line.ensures.split c.first_line.ensures.progress c.in-Ok.ensures
+      c.as_slice.ensures.value c.in-Ok-write_all.ensures.whole,
   c.in-Ok-write_all.ensures.counted ∙ c.loop-rest.invariant.1,
 )
 

@@ -11,13 +11,19 @@ use Rattle.it_cli.proofs.copying.proof_lines.Goals as goal
 pub text_lines-requires-clause-printable : goal.text_lines-requires-clause-printable
 text_lines-requires-clause-printable c =
     right_is_printable _ _ (question_body c.args.question.now) _ c.in_ok-answered.answered.answer c.in_ok-answered.ensures.answered.found c.requires.limits
-    (few_constraints (question_body c.args.question.now) c.in_ok-answered.answered.problem.space c.in_ok-answered.answered.problem.constraints c.in_ok-answered.ensures.problem)
+    (few_constraints (question_body c.args.question.now) c.in_ok-answered.answered.problem.space
+    c.in_ok-answered.answered.problem.constraints c.in_ok-answered.ensures.problem)
     c.in_ok-answered.ensures.answered.right
 
 pub returns : goal.returns
-returns c = if_ok c.text_lines.result (λ t. t.items ≡ answer_line c.args.k (question_body c.args.question.now) (origins_of c.in_ok-answered.answered.problem.constraints) (answer_view c.in_ok-answered.answered.answer))
+returns c = if_ok c.text_lines.result (λ t. t.items ≡ answer_line c.args.k (question_body c.args.question.now)
+    (origins_of c.in_ok-answered.answered.problem.constraints) (answer_view c.in_ok-answered.answered.answer))
     (λ t. IsProofText c.args.effort c.args.k (question_body c.args.question.now) t.items) c.text_lines.ensures (λ t is. record {
       answer = answer_view c.in_ok-answered.answered.answer;
-      right = right_alone (record { effort = c.args.effort; rows = 1; tries = 1 }) _ (question_body c.args.question.now) (answer_view c.in_ok-answered.answered.answer) c.in_ok-answered.ensures.answered.found c.requires.proof c.in_ok-answered.ensures.answered.right;
-      is = text_by_places (question_view c.args.question.now) c.args.k c.in_ok-answered.answered.problem.space c.in_ok-answered.answered.problem.constraints (answer_view c.in_ok-answered.answered.answer) t.items c.in_ok-answered.ensures.problem is;
+      right = right_alone (record { effort = c.args.effort; rows = 1; tries = 1 }) _ (question_body c.args.question.now)
+          (answer_view c.in_ok-answered.answered.answer) c.in_ok-answered.ensures.answered.found c.requires.proof
+          c.in_ok-answered.ensures.answered.right;
+      is = text_by_places (question_view c.args.question.now) c.args.k c.in_ok-answered.answered.problem.space
+          c.in_ok-answered.answered.problem.constraints (answer_view c.in_ok-answered.answered.answer) t.items
+          c.in_ok-answered.ensures.problem is;
     })

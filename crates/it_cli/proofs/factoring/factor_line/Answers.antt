@@ -10,10 +10,13 @@ use Rattle.it_cli.proofs.LineLemmas.{origins_same}
 use Rattle.it_cli.proofs.factoring.factor_line.Goals as goal
 
 pub returns : goal.returns
-returns c = let q = question_body c.args.question.now in if_ok c.reply_line.result (λ t. t.items ≡ reply_line c.args.k q (origins_of c.constraints.result.now) (reply_view c.in_ok-replied.replied.reply))
+returns c = let q = question_body c.args.question.now
+    in if_ok c.reply_line.result (λ t. t.items ≡ reply_line c.args.k q (origins_of c.constraints.result.now)
+    (reply_view c.in_ok-replied.replied.reply))
     (λ t. IsFactorText c.args.effort c.args.k q t.items) c.reply_line.ensures (λ t is. record {
       reply = reply_view c.in_ok-replied.replied.reply;
       right = c.in_ok-replied.ensures.right;
-      is = is ∙ ap (λ cs. reply_line c.args.k q (origins_of cs) (reply_view c.in_ok-replied.replied.reply)) c.constraints.ensures.value ∙ ap (λ xs. reply_line c.args.k q xs (reply_view c.in_ok-replied.replied.reply))
+      is = is ∙ ap (λ cs. reply_line c.args.k q (origins_of cs) (reply_view c.in_ok-replied.replied.reply)) c.constraints.ensures.value
+          ∙ ap (λ xs. reply_line c.args.k q xs (reply_view c.in_ok-replied.replied.reply))
           (origins_same (question_origins q) c.in_ok-replied.replied.problem.constraints c.in_ok-replied.ensures.problem.placed);
     })

@@ -14,7 +14,9 @@ returns-then-is_empty c =
     let copies = map copy_view c.args.copies.now in
     let q = question_view c.args.question.now in
     let same = no_copies c.args.copies.now none in
-    factored_report c.args.effort (with_copies copies q) c.args.k q.body _ c.factor_report.result (text_alone _ q.text copies (c.as_slice.ensures.value ∙ c.in_ok-text.ensures) same) (asked_alone q.body copies same) c.factor_report.ensures
+    factored_report c.args.effort (with_copies copies q) c.args.k q.body _ c.factor_report.result
+    (text_alone _ q.text copies (c.as_slice.ensures.value ∙ c.in_ok-text.ensures) same)
+    (asked_alone q.body copies same) c.factor_report.ensures
 
 pub returns-in-Ok : goal.returns-in-Ok
 returns-in-Ok c =
@@ -33,5 +35,7 @@ returns c =
     let copies = map copy_view c.args.copies.now in
     let q = question_view c.args.question.now in
     let copied = some_copies c.args.copies.now some in
-    misfit_reported (best_mode true c.args.effort) (with_copies copies q) c.args.k c.in-Err.fault (Misfit c.in-Err.fault) (λ told. (copied, told, c.in-Err.ensures.misfit)) _ (texts_with copies q.text) c.misfit_report.result
-    (texts_after_head _ _ q.text copies (c.as_slice-2.ensures.value ∙ c.in_ok-head.ensures) (c.as_slice-3.ensures.value ∙ c.in_ok-text.ensures) copied) refl c.misfit_report.ensures.told c.misfit_report.ensures.some
+    misfit_reported (best_mode true c.args.effort) (with_copies copies q) c.args.k c.in-Err.fault (Misfit c.in-Err.fault)
+    (λ told. (copied, told, c.in-Err.ensures.misfit)) _ (texts_with copies q.text) c.misfit_report.result
+    (texts_after_head _ _ q.text copies (c.as_slice-2.ensures.value ∙ c.in_ok-head.ensures)
+    (c.as_slice-3.ensures.value ∙ c.in_ok-text.ensures) copied) refl c.misfit_report.ensures.told c.misfit_report.ensures.some

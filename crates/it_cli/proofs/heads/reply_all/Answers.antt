@@ -12,14 +12,23 @@ pub loop-i-init : goal.loop-i-init
 loop-i-init g c = (([], none_replied (head_mode c.args.wanted c.args.report c.args.effort) _ _), refl)
 
 pub returns-in_default : goal.returns-in_default
-returns-in_default g c bytes asked = (c.loop-i.invariant.1, inr (first_replied (head_mode c.args.wanted c.args.report c.args.effort) _ _ bytes _ c.loop-i.i c.loop-i.invariant.0.0 asked c.loop-i.invariant.0.1))
+returns-in_default g c bytes asked = (
+  c.loop-i.invariant.1,
+  inr (first_replied
+      (head_mode c.args.wanted c.args.report c.args.effort) _ _ bytes _ c.loop-i.i c.loop-i.invariant.0.0 asked c.loop-i.invariant.0.1),
+)
 
 pub returns-in_default-write_all : goal.returns-in_default-write_all
 returns-in_default-write_all g c bytes asked =
     let cs = map copy_view c.args.copies.now in (
       c.in_default-write_all.ensures.counted ∙ ap next_count c.loop-i.invariant.1,
-      inr (replies_stop (head_mode c.args.wanted c.args.report c.args.effort) _ _ _ bytes (map (with_copies cs) (map question_view c.args.questions.now)) c.loop-i.i c.loop-i.invariant.0.0 (with_copies cs (question_view c.index-questions-i.result)) c.in-Ok.ensures.reply c.in-Ok.text.items c.as_slice.result.now asked c.loop-i.invariant.0.1
-          (omega (arith, items_long cs c.args.questions.now)) (item_at cs c.args.questions.now c.loop-i.i c.index-questions-i.result (omega arith) c.index-questions-i.is) c.in-Ok.ensures.right c.in-Ok.ensures.is c.as_slice.ensures.value c.in_default-write_all.ensures.part),
+      inr (replies_stop (head_mode c.args.wanted c.args.report c.args.effort) _ _ _ bytes
+          (map (with_copies cs) (map question_view c.args.questions.now)) c.loop-i.i c.loop-i.invariant.0.0
+          (with_copies cs (question_view c.index-questions-i.result)) c.in-Ok.ensures.reply c.in-Ok.text.items c.as_slice.result.now asked
+          c.loop-i.invariant.0.1
+          (omega (arith, items_long cs c.args.questions.now)) (item_at cs c.args.questions.now c.loop-i.i c.index-questions-i.result
+          (omega arith) c.index-questions-i.is) c.in-Ok.ensures.right c.in-Ok.ensures.is c.as_slice.ensures.value
+          c.in_default-write_all.ensures.part),
     )
 
 pub loop-i-preserved : goal.loop-i-preserved
@@ -27,11 +36,20 @@ loop-i-preserved g c =
     let cs = map copy_view c.args.copies.now in (
       (
         c.loop-i.invariant.0.0 ++ c.in-Ok.ensures.reply ∷ [],
-        replies_more (head_mode c.args.wanted c.args.report c.args.effort) _ _ _ (map (with_copies cs) (map question_view c.args.questions.now)) c.loop-i.i c.loop-i.invariant.0.0 (with_copies cs (question_view c.index-questions-i.result)) c.in-Ok.ensures.reply c.in-Ok.text.items c.as_slice.result.now c.loop-i.invariant.0.1
-            (omega (arith, items_long cs c.args.questions.now)) (item_at cs c.args.questions.now c.loop-i.i c.index-questions-i.result (omega arith) c.index-questions-i.is) c.in-Ok.ensures.right c.in-Ok.ensures.is c.as_slice.ensures.value c.in-Ok-write_all.ensures.whole,
+        replies_more (head_mode c.args.wanted c.args.report c.args.effort) _ _ _
+            (map (with_copies cs) (map question_view c.args.questions.now)) c.loop-i.i c.loop-i.invariant.0.0
+            (with_copies cs (question_view c.index-questions-i.result)) c.in-Ok.ensures.reply c.in-Ok.text.items c.as_slice.result.now
+            c.loop-i.invariant.0.1
+            (omega (arith, items_long cs c.args.questions.now)) (item_at cs c.args.questions.now c.loop-i.i c.index-questions-i.result
+            (omega arith) c.index-questions-i.is) c.in-Ok.ensures.right c.in-Ok.ensures.is c.as_slice.ensures.value
+            c.in-Ok-write_all.ensures.whole,
       ),
       c.in-Ok-write_all.ensures.counted ∙ c.loop-i.invariant.1,
     )
 
 pub returns : goal.returns
-returns g c bytes asked = (c.loop-i.invariant.1, all_replied (head_mode c.args.wanted c.args.report c.args.effort) _ _ bytes _ c.loop-i.i c.loop-i.invariant.0.0 asked c.loop-i.invariant.0.1 (omega (arith, items_long (map copy_view c.args.copies.now) c.args.questions.now)))
+returns g c bytes asked = (
+  c.loop-i.invariant.1,
+  all_replied (head_mode c.args.wanted c.args.report c.args.effort) _ _ bytes _ c.loop-i.i
+      c.loop-i.invariant.0.0 asked c.loop-i.invariant.0.1 (omega (arith, items_long (map copy_view c.args.copies.now) c.args.questions.now)),
+)

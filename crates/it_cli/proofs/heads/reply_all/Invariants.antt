@@ -7,5 +7,7 @@ use Rattle.it_cli.proofs.ReplyLemmas.{Replied}
 use Rattle.it_cli.proofs.heads.reply_all.Given as goal
 
 abbrev pub invariant-loop-i : goal.invariant-loop-i
-invariant-loop-i g l = ((replies : List (head_mode l.wanted l.report l.effort).Reply) × Replied (head_mode l.wanted l.report l.effort) (g.K.Sink.taken l.initial.sink) (g.K.Sink.taken l.sink) (map (with_copies (map copy_view l.copies)) (map question_view l.questions)) l.i replies)
+invariant-loop-i g l = ((replies : List (head_mode l.wanted l.report l.effort).Reply)
+    × Replied (head_mode l.wanted l.report l.effort) (g.K.Sink.taken l.initial.sink) (g.K.Sink.taken l.sink)
+    (map (with_copies (map copy_view l.copies)) (map question_view l.questions)) l.i replies)
     × (g.K.Sink.faults l.sink ≡ g.K.Sink.faults l.initial.sink)

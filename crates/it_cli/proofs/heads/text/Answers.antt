@@ -7,9 +7,13 @@ use Rattle.it_cli.specs.declared.heads.Wanted.{Wanted}
 use Rattle.it_cli.proofs.heads.text.Goals as goal
 
 pub returns-in-Answers : goal.returns-in-Answers
-returns-in-Answers c = subst (λ (w : Wanted). IfOk c.answer_text.result (λ t. IsTextOf (head_mode w c.args.report c.args.effort) [] c.args.k (with_copies (map copy_view c.args.copies.now) (question_view c.args.question.now)) t.items))
+returns-in-Answers c = subst (λ (w : Wanted). IfOk c.answer_text.result
+    (λ t. IsTextOf (head_mode w c.args.report c.args.effort) [] c.args.k
+    (with_copies (map copy_view c.args.copies.now) (question_view c.args.question.now)) t.items))
     (sym c.in-Answers.is) c.answer_text.ensures
 
 pub returns-in-Factors : goal.returns-in-Factors
-returns-in-Factors c = subst (λ (w : Wanted). IfOk c.factor_text.result (λ t. IsTextOf (head_mode w c.args.report c.args.effort) [] c.args.k (with_copies (map copy_view c.args.copies.now) (question_view c.args.question.now)) t.items))
+returns-in-Factors c = subst (λ (w : Wanted). IfOk c.factor_text.result
+    (λ t. IsTextOf (head_mode w c.args.report c.args.effort) [] c.args.k
+    (with_copies (map copy_view c.args.copies.now) (question_view c.args.question.now)) t.items))
     (sym c.in-Factors.is) c.factor_text.ensures

@@ -22,5 +22,8 @@ row_origins-requires c = let q = question_body c.args.question.now in record {
 
 pub returns-in_ok-origins-in-Region : goal.returns-in_ok-origins-in-Region
 returns-in_ok-origins-in-Region c = let p = c.in_ok-problem-in-Region.problem in
-    rw c.in-Region.is (told_where_found (question_body c.args.question.now) p c.in_ok-problem-in-Region.ensures c.in-Region.rows.items c.in_ok-origins-in-Region.origins
-    (subst (λ (rows : List (Mark × Terms)). IfSome c.in_ok-origins-in-Region.origins (λ v. AllZip (IsToldOrigin p) (region_rows rows) (map certificate_view v.items))) c.as_slice.ensures.value c.in_ok-origins-in-Region.ensures))
+    rw c.in-Region.is (told_where_found (question_body c.args.question.now) p c.in_ok-problem-in-Region.ensures c.in-Region.rows.items
+    c.in_ok-origins-in-Region.origins
+    (subst (λ (rows : List (Mark × Terms)). IfSome c.in_ok-origins-in-Region.origins
+    (λ v. AllZip (IsToldOrigin p) (region_rows rows) (map certificate_view v.items))) c.as_slice.ensures.value
+    c.in_ok-origins-in-Region.ensures))

@@ -6,11 +6,15 @@ use Rattle.it_cli.proofs.reporting.proof_report.Goals as goal
 
 pub report_json-requires : goal.report_json-requires
 report_json-requires c =
-    right_is_writable (record { effort = c.args.effort; rows = 1; tries = 1 }) _ (question_body c.args.question.now) c.args.question.now.names (answer_view c.in_ok-answered.answered.answer) c.in_ok-answered.ensures.answered.found c.requires.proof c.in_ok-answered.ensures.answered.right
+    right_is_writable (record { effort = c.args.effort; rows = 1; tries = 1 }) _
+    (question_body c.args.question.now) c.args.question.now.names (answer_view c.in_ok-answered.answered.answer)
+    c.in_ok-answered.ensures.answered.found c.requires.proof c.in_ok-answered.ensures.answered.right
 
 pub returns : goal.returns
 returns c = record {
   answer = answer_view c.in_ok-answered.answered.answer;
-  right = right_alone (record { effort = c.args.effort; rows = 1; tries = 1 }) _ (question_body c.args.question.now) (answer_view c.in_ok-answered.answered.answer) c.in_ok-answered.ensures.answered.found c.requires.proof c.in_ok-answered.ensures.answered.right;
+  right = right_alone (record { effort = c.args.effort; rows = 1; tries = 1 }) _ (question_body c.args.question.now)
+      (answer_view c.in_ok-answered.answered.answer) c.in_ok-answered.ensures.answered.found c.requires.proof
+      c.in_ok-answered.ensures.answered.right;
   is = c.in_ok-extend_from_slice.ensures.items ∙ ap (λ ys. ys ++ codes "\n") c.in_ok-line.ensures;
 }

@@ -12,7 +12,8 @@ smaller_difference a b h l = omega arith
 pub loop-open-smaller : goal.loop-open-smaller
 loop-open-smaller c =
     let e : first_open c.args.list.now c.loop-open.all ≡ Some c.in-Some.open = sym c.first_open.ensures ∙ c.in-Some.is in
-    rw c.union-all.ensures (smaller_difference c.loop-open.all (bit_or c.loop-open.all c.in-Some.open.to) (way_grows 16 c.args.list.now c.loop-open.all c.in-Some.open c.requires.below e) c.loop-open.invariant.below)
+    rw c.union-all.ensures (smaller_difference c.loop-open.all (bit_or c.loop-open.all c.in-Some.open.to)
+    (way_grows 16 c.args.list.now c.loop-open.all c.in-Some.open c.requires.below e) c.loop-open.invariant.below)
 
 pub loop-open-preserved : goal.loop-open-preserved
 loop-open-preserved c =

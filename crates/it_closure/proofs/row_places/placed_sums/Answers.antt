@@ -19,8 +19,10 @@ put-requires c =
     let i : ℕ = c.loop-coordinate.coordinate-index in
     let t : ℕ × ℤ = get_or items i (0, pos 0) in
     let below : i < length items = omega arith in
-    let last : t.0 ≤ size_of c.args.dependences.now.space = (subst (IsOver (size_of c.args.dependences.now.space)) (sym c.terms-coordinate-items.ensures.value) c.requires i (0, pos 0) below).1 in
-    let in' = place_in c.args.dependences.now t.0 (size_of c.args.dependences.now.space + 1) c.space.ensures.shape (sets_in c.args.dependences.now.space) (omega arith) in
+    let last : t.0 ≤ size_of c.args.dependences.now.space = (subst (IsOver (size_of c.args.dependences.now.space))
+    (sym c.terms-coordinate-items.ensures.value) c.requires i (0, pos 0) below).1 in
+    let in' = place_in c.args.dependences.now t.0 (size_of c.args.dependences.now.space + 1) c.space.ensures.shape
+    (sets_in c.args.dependences.now.space) (omega arith) in
     omega (arith, in', c.place.ensures, c.loop-coordinate.invariant.complete)
 
 pub returns-in_err-put-clause-wide : goal.returns-in_err-put-clause-wide
@@ -31,7 +33,8 @@ returns-in_err-put-clause-wide c =
     let below : i < length items = omega arith in
     let f : FitsSigned w128 t.1 = search rules in
     let wide = simp to_z-of_z at c.in_err-put.ensures.wide in
-    let stops = collapse_is_wide c.args.dependences.now.space.variables c.args.dependences.now.list c.args.row.now items (size_of c.args.dependences.now.space + 1) c.loop-coordinate.sums i c.place.result t
+    let stops = collapse_is_wide c.args.dependences.now.space.variables c.args.dependences.now.list c.args.row.now items
+    (size_of c.args.dependences.now.space + 1) c.loop-coordinate.sums i c.place.result t
     c.terms-coordinate-items.ensures.value below (get_or_default items i (0, pos 0) t below) c.place.ensures wide c.loop-coordinate.invariant in
     search (rules, stops)
 
@@ -43,12 +46,21 @@ loop-coordinate-preserved c =
     let below : i < length items = omega arith in
     let f : FitsSigned w128 t.1 = search rules in
     let put = simp to_z-of_z at c.in_ok-put.ensures.put in
-    went_on c.args.dependences.now.space.variables c.args.dependences.now.list c.args.row.now items (size_of c.args.dependences.now.space + 1) c.loop-coordinate.sums
-    c.put.new.sums i c.place.result t c.terms-coordinate-items.ensures.value below (get_or_default items i (0, pos 0) t below) c.place.ensures put c.loop-coordinate.invariant
+    went_on c.args.dependences.now.space.variables c.args.dependences.now.list c.args.row.now items
+    (size_of c.args.dependences.now.space + 1) c.loop-coordinate.sums
+    c.put.new.sums i c.place.result t c.terms-coordinate-items.ensures.value below
+    (get_or_default items i (0, pos 0) t below) c.place.ensures put c.loop-coordinate.invariant
 
 pub returns-clause-placed : goal.returns-clause-placed
-returns-clause-placed c = placing-end c.args.dependences.now.space.variables c.args.dependences.now.list c.args.row.now (size_of c.args.dependences.now.space + 1) c.loop-coordinate.sums c.loop-coordinate.coordinate-index
+returns-clause-placed c = placing-end c.args.dependences.now.space.variables c.args.dependences.now.list c.args.row.now
+    (size_of c.args.dependences.now.space + 1) c.loop-coordinate.sums c.loop-coordinate.coordinate-index
     (omega (arith, ap length c.terms-coordinate-items.ensures.value)) c.loop-coordinate.invariant
 
 pub returns-clause-few : goal.returns-clause-few
-returns-clause-few c = omega (arith, c.loop-coordinate.invariant.complete, c.space.ensures.shape.space.few_rates, pow_mono {i = c.args.dependences.now.space.variables} {j = 10} c.space.ensures.shape.space.few)
+returns-clause-few c = omega (
+  arith,
+  c.loop-coordinate.invariant.complete,
+  c.space.ensures.shape.space.few_rates,
+  pow_mono
+      {i = c.args.dependences.now.space.variables} {j = 10} c.space.ensures.shape.space.few,
+)

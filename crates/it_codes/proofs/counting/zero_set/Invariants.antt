@@ -4,4 +4,5 @@ use Rattle.it_codes.proofs.counting.zero_set.Given as goal
 
 abbrev pub invariant-loop-variable : goal.invariant-loop-variable
 invariant-loop-variable l = (l.place ≡ 2 ^ l.variable-index) × (l.set < l.place)
-    × (l.set + l.place * zero_set l.size l.message (drop l.variable-index (map functions_of l.variables)) ≡ zero_set l.size l.message (map functions_of l.variables))
+    × (l.set + l.place * zero_set l.size l.message (drop l.variable-index (map functions_of l.variables))
+    ≡ zero_set l.size l.message (map functions_of l.variables))

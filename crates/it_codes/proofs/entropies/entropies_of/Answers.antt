@@ -11,12 +11,14 @@ pub loop-set-preserved : goal.loop-set-preserved
 loop-set-preserved c =
     let values = c.loop-set.values.items in
     let small : c.in-Some.h < 2 ^ 127 = omega (arith, c.in-Some.ensures.small) in
-    let items : c.push.new.self.items ≡ values ++ pos c.in-Some.h ∷ [] = c.in_ok-push-in-Some.ensures.items ∙ ap (λ x. values ++ x ∷ []) (to_z_pos w128 c.in-Some.h small) in
+    let items : c.push.new.self.items ≡ values ++ pos c.in-Some.h ∷ [] = c.in_ok-push-in-Some.ensures.items
+    ∙ ap (λ x. values ++ x ∷ []) (to_z_pos w128 c.in-Some.h small) in
     let within : IsWithin (pos c.in-Some.h) = omega (arith, c.in-Some.ensures.small) in (
       c.loop-set.invariant.0,
       omega (arith, c.in_ok-push-in-Some.ensures.len, ap length items, c.loop-set.invariant.1),
       rw items (All-push IsWithin values (pos c.in-Some.h) c.loop-set.invariant.2 within),
-      rw items (more_entropies (code_view c.args.code.now) values c.loop-set.set c.in-Some.h c.loop-set.invariant.1 c.loop-set.invariant.3 c.in-Some.ensures.found),
+      rw items (more_entropies (code_view c.args.code.now) values c.loop-set.set c.in-Some.h c.loop-set.invariant.1 c.loop-set.invariant.3
+          c.in-Some.ensures.found),
     )
 
 pub returns-clause-values : goal.returns-clause-values

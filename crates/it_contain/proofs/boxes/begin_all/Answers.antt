@@ -9,5 +9,6 @@ loop-i-preserved g c =
     record {
       count = search rules;
       plans = kept_at _ c.loop-i.boxes.items c.loop-i.i new old c.index_mut.ensures.value c.begin_one.ensures.plan ∙ c.loop-i.invariant.plans;
-      begun = begun_more _ _ (λ p. p c.args.shape []) c.loop-i.boxes.items _ c.loop-i.i new old (search rules) c.loop-i.invariant.plans c.index_mut.ensures.value c.begin_one.ensures.pending c.loop-i.invariant.begun;
+      begun = begun_more _ _ (λ p. p c.args.shape []) c.loop-i.boxes.items _ c.loop-i.i new old
+          (search rules) c.loop-i.invariant.plans c.index_mut.ensures.value c.begin_one.ensures.pending c.loop-i.invariant.begun;
     }

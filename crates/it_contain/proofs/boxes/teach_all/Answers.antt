@@ -12,7 +12,8 @@ loop-i-preserved g c =
       count = search rules;
       initial = search rules;
       rest = later_kept _ c.loop-i.boxes.items c.loop-i.i new ∙ rest_more _ _ c.loop-i.i c.loop-i.invariant.rest;
-      taught = learned_more _ (plan_after c.args.candidate.now) c.loop-i.boxes.items _ c.loop-i.i new old (search rules) (simp length-map (search rules)) c.index_mut.ensures.value c.teach_one.ensures c.loop-i.invariant.rest c.loop-i.invariant.taught;
+      taught = learned_more _ (plan_after c.args.candidate.now) c.loop-i.boxes.items _ c.loop-i.i new old (search rules)
+          (simp length-map (search rules)) c.index_mut.ensures.value c.teach_one.ensures c.loop-i.invariant.rest c.loop-i.invariant.taught;
     }
 
 pub returns : goal.returns

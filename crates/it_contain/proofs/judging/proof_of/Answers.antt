@@ -9,4 +9,5 @@ pub returns-in-Some-clause-proves : goal.returns-in-Some-clause-proves
 returns-in-Some-clause-proves c =
     same_outcome c.args.problem.now c.args.effort c.args.target.now c.in_ok-kept.kept c.in-Some.outcome.now c.in_ok-kept.ensures
     (subst (λ (t : Terms). ProvesOne c.args.problem.now c.args.effort t c.in-Some.outcome.now) c.terms.ensures.value
-    (outcome_of_row c.args.problem.now c.args.effort _ (λ s t. refl) c.args.outcomes.now c.terms.result.now c.in-Some.outcome.now (sym (ap option_copied c.in-Some.is) ∙ c.get.ensures.value) c.requires.outcomes))
+    (outcome_of_row c.args.problem.now c.args.effort _ (λ s t. refl) c.args.outcomes.now c.terms.result.now c.in-Some.outcome.now
+    (sym (ap option_copied c.in-Some.is) ∙ c.get.ensures.value) c.requires.outcomes))

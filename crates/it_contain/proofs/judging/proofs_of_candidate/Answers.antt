@@ -14,4 +14,5 @@ pub returns-clause-judges : goal.returns-clause-judges
 returns-clause-judges c =
     let fit : FitsPair c.args.pair.now c.args.candidate.now = search rules in
     proofs_judge c.args.pair.now c.args.effort c.args.candidate.now c.as_slice.result.now c.in_ok-proofs.proofs fit
-    (subst (λ (ts : List Terms). ArePulledRows c.args.pair.now.first.space (pair_obligations c.args.pair.now c.args.candidate.now) ts) (sym c.as_slice.ensures.value) c.in_ok-rows.ensures.rows) c.in_ok-proofs.ensures.proves
+    (subst (λ (ts : List Terms). ArePulledRows c.args.pair.now.first.space (pair_obligations c.args.pair.now c.args.candidate.now) ts)
+    (sym c.as_slice.ensures.value) c.in_ok-rows.ensures.rows) c.in_ok-proofs.ensures.proves

@@ -29,7 +29,8 @@ IsNamed c = (1 ≤ length c.fresh.items) × (length c.fresh.items ≤ 16)
 pub returns-then-len-ge-MOST_COPIES-clause-gives : goal.returns-then-len-ge-MOST_COPIES-clause-gives
 unfolding more_copies
 returns-then-len-ge-MOST_COPIES-clause-gives c =
-    let none : most_copies - length (map copy_view c.loop-after.found.items) ≡ 0 = omega (arith, length-map c.loop-after.found.items copy_view, c.len.ensures, c.if-len-ge-MOST_COPIES.true) in
+    let none : most_copies - length (map copy_view c.loop-after.found.items)
+    ≡ 0 = omega (arith, length-map c.loop-after.found.items copy_view, c.len.ensures, c.if-len-ge-MOST_COPIES.true) in
     word_flagged (codes "copy") copy_flag (λ cs. to_end copy) with_copy (map copy_view c.loop-after.found.items) (letters_left c.loop-after.cursor) _ c.loop-after.invariant.0 Many _ (ap limit_flag none) c.in-Some.ensures.found
 
 pub loop-after-smaller : goal.loop-after-smaller
@@ -40,10 +41,14 @@ unfolding more_copies
 loop-after-preserved c =
     let found = c.loop-after.found.items in
     let added = c.in_ok-add-in-Ok.ensures.added in
-    let free = no_limit (most_copies - length (map copy_view found)) (λ e. omega (arith, length-map found copy_view, c.len.ensures, c.if-len-ge-MOST_COPIES.false, e)) in
-    let views : map copy_view c.add.new.copies.items ≡ map copy_view found ++ copy_view c.in-Ok.next ∷ [] = ap (map copy_view) added ∙ map-append copy_view found (c.in-Ok.next ∷ []) in
-    let named : AreNamed (found ++ c.in-Ok.next ∷ []) = All-append IsNamed found (c.in-Ok.next ∷ []) c.loop-after.invariant.1 (All-cons IsNamed c.in-Ok.next [] c.in-Ok.ensures.length (All-nil IsNamed)) in (
-      subst (λ (cs : List CopyView). read (more_copies cs) (letters_left c.copy_to_end.new.cursor) ≡ read (more_copies []) (letters_left c.args.cursor.now)) (sym views)
+    let free = no_limit (most_copies - length (map copy_view found))
+    (λ e. omega (arith, length-map found copy_view, c.len.ensures, c.if-len-ge-MOST_COPIES.false, e)) in
+    let views : map copy_view c.add.new.copies.items ≡ map copy_view found ++ copy_view c.in-Ok.next ∷ [] = ap (map copy_view) added
+    ∙ map-append copy_view found (c.in-Ok.next ∷ []) in
+    let named : AreNamed (found ++ c.in-Ok.next ∷ []) = All-append IsNamed found (c.in-Ok.next ∷ []) c.loop-after.invariant.1
+    (All-cons IsNamed c.in-Ok.next [] c.in-Ok.ensures.length (All-nil IsNamed)) in (
+      subst (λ (cs : List CopyView). read (more_copies cs) (letters_left c.copy_to_end.new.cursor)
+          ≡ read (more_copies []) (letters_left c.args.cursor.now)) (sym views)
           (word_goes (codes "copy") copy_flag (λ cs. to_end copy) with_copy (map copy_view found) (letters_left c.loop-after.cursor) _ c.loop-after.invariant.0 (copy_view c.in-Ok.next) _ _ free c.in-Some.ensures.found c.in-Ok.ensures.gives),
       subst AreNamed (sym added) named,
       omega (arith, ap length added, length-append found (c.in-Ok.next ∷ []), c.if-len-ge-MOST_COPIES.false, c.len.ensures),
@@ -52,7 +57,8 @@ loop-after-preserved c =
 pub returns-in-Err-clause-gives : goal.returns-in-Err-clause-gives
 unfolding more_copies
 returns-in-Err-clause-gives c =
-    let free = no_limit (most_copies - length (map copy_view c.loop-after.found.items)) (λ e. omega (arith, length-map c.loop-after.found.items copy_view, c.len.ensures, c.if-len-ge-MOST_COPIES.false, e)) in
+    let free = no_limit (most_copies - length (map copy_view c.loop-after.found.items))
+    (λ e. omega (arith, length-map c.loop-after.found.items copy_view, c.len.ensures, c.if-len-ge-MOST_COPIES.false, e)) in
     word_stops (codes "copy") copy_flag (λ cs. to_end copy) with_copy (map copy_view c.loop-after.found.items) (letters_left c.loop-after.cursor) _ c.loop-after.invariant.0 c.in-Err.stop _ _ free c.in-Some.ensures.found c.in-Err.ensures.gives
 
 pub returns-clause-gives : goal.returns-clause-gives

@@ -22,34 +22,49 @@ use Rattle.it_copy.proofs.StartLemmas.{items_are_read, begun_stop, same_lines}
 use Rattle.it_copy.proofs.files.copy_file.Goals as goal
 
 -- the questions after the copies have the texts of the lines after theirs
-after_copies : (lines after : List Line) (copies : List CopyLine) (bodies : List Body) (questions : List Question) (n : ℕ) → n ≡ length copies → after ≡ drop n lines
-    → map question_view questions ≡ with_texts (map line_view after) (map body_view bodies) → map question_view questions ≡ with_texts (drop (length (map copy_view copies)) (map line_view lines)) (map body_view bodies)
+after_copies : (lines after : List Line) (copies : List CopyLine) (bodies : List Body) (questions : List Question) (n : ℕ)
+    → n ≡ length copies → after ≡ drop n lines
+    → map question_view questions ≡ with_texts (map line_view after) (map body_view bodies)
+    → map question_view questions ≡ with_texts (drop (length (map copy_view copies)) (map line_view lines)) (map body_view bodies)
 after_copies lines after copies bodies questions n count is made =
-    made ∙ ap (λ (ls : List LineView). with_texts ls (map body_view bodies)) (ap (map line_view) is ∙ sym (drop-map line_view n lines) ∙ ap (λ (k : ℕ). drop k (map line_view lines)) (count ∙ sym (length-map copies copy_view)))
+    made ∙ ap (λ (ls : List LineView). with_texts ls (map body_view bodies))
+    (ap (map line_view) is ∙ sym (drop-map line_view n lines) ∙ ap (λ (k : ℕ). drop k (map line_view lines))
+    (count ∙ sym (length-map copies copy_view)))
 
 pub with_texts-requires : goal.with_texts-requires
 with_texts-requires c = c.in-Ok.ensures.limits
 
 pub returns-in_ok-questions-in-Ok-clause-read : goal.returns-in_ok-questions-in-Ok-clause-read
 returns-in_ok-questions-in-Ok-clause-read c =
-    copy_file_read c.args.bytes.now (map line_view c.in_ok-lines.lines.items) (map copy_view c.in-Ok.read.copies.items) (map body_view c.in-Ok.read.bodies.items) (letters_left c.whole.new.cursor) _ c.in_ok-lines.ensures
+    copy_file_read c.args.bytes.now (map line_view c.in_ok-lines.lines.items) (map copy_view c.in-Ok.read.copies.items)
+    (map body_view c.in-Ok.read.bodies.items) (letters_left c.whole.new.cursor) _ c.in_ok-lines.ensures
     (items_are_read copy_file _ _ _ _ c.at-cursor.ensures c.as_slice.ensures.value c.in-Ok.ensures.gives)
-    (after_copies _ _ c.in-Ok.read.copies.items c.in-Ok.read.bodies.items _ _ (omega (arith, c.len.ensures, c.in-Ok.read.copies.ok)) c.in_ok-after-in-Ok.ensures c.in_ok-questions-in-Ok.ensures)
+    (after_copies _ _ c.in-Ok.read.copies.items c.in-Ok.read.bodies.items _ _
+    (omega (arith, c.len.ensures, c.in-Ok.read.copies.ok)) c.in_ok-after-in-Ok.ensures c.in_ok-questions-in-Ok.ensures)
 
 pub returns-in_ok-questions-in-Ok-clause-limits : goal.returns-in_ok-questions-in-Ok-clause-limits
-returns-in_ok-questions-in-Ok-clause-limits c = questions_keep_limits c.in_ok-questions-in-Ok.questions.items _ (map body_view c.in-Ok.read.bodies.items) (All-map IsQuestion body_view c.in-Ok.read.bodies.items c.in-Ok.ensures.limits) c.in_ok-questions-in-Ok.ensures
+returns-in_ok-questions-in-Ok-clause-limits c = questions_keep_limits c.in_ok-questions-in-Ok.questions.items _
+    (map body_view c.in-Ok.read.bodies.items) (All-map IsQuestion body_view c.in-Ok.read.bodies.items c.in-Ok.ensures.limits)
+    c.in_ok-questions-in-Ok.ensures
 
 pub stop_fault-requires-clause-few : goal.stop_fault-requires-clause-few
-stop_fault-requires-clause-few c = same_lines (λ ls. length (letters_of_lines ls) ≤ 4294967296) c.in_ok-lines.lines.items c.as_slice-in-Err.result.now c.as_slice-in-Err.ensures.value
+stop_fault-requires-clause-few c = same_lines (λ ls. length (letters_of_lines ls) ≤ 4294967296) c.in_ok-lines.lines.items
+    c.as_slice-in-Err.result.now c.as_slice-in-Err.ensures.value
     (few_letters c.args.bytes.now (map line_view c.in_ok-lines.lines.items) c.in_ok-lines.ensures c.requires)
 
 pub stop_fault-requires-clause-there : goal.stop_fault-requires-clause-there
-stop_fault-requires-clause-there c = same_lines (λ ls. IfFault c.in-Err.stop (IsLeft ls (letters_left c.whole.new.cursor))) c.in_ok-lines.lines.items c.as_slice-in-Err.result.now c.as_slice-in-Err.ensures.value
-    (some_left copy_file _ copy_file_has copy_file_ends c.args.bytes.now (map line_view c.in_ok-lines.lines.items) c.in-Err.stop (letters_left c.whole.new.cursor) c.in_ok-lines.ensures
-    (begun_stop copy_file c.in_ok-lines.lines.items _ _ c.in-Err.stop (letters_left c.whole.new.cursor) c.at-cursor.ensures c.as_slice.ensures.value c.in-Err.ensures.gives))
+stop_fault-requires-clause-there c = same_lines (λ ls. IfFault c.in-Err.stop (IsLeft ls (letters_left c.whole.new.cursor)))
+    c.in_ok-lines.lines.items c.as_slice-in-Err.result.now c.as_slice-in-Err.ensures.value
+    (some_left copy_file _ copy_file_has copy_file_ends c.args.bytes.now (map line_view c.in_ok-lines.lines.items) c.in-Err.stop
+    (letters_left c.whole.new.cursor) c.in_ok-lines.ensures
+    (begun_stop copy_file c.in_ok-lines.lines.items _ _ c.in-Err.stop (letters_left c.whole.new.cursor) c.at-cursor.ensures
+    c.as_slice.ensures.value c.in-Err.ensures.gives))
 
 pub returns-in-Err-clause-fault : goal.returns-in-Err-clause-fault
 returns-in-Err-clause-fault c =
-    first_form_fault copy_file _ copy_file_has copy_file_ends c.args.bytes.now (map line_view c.in_ok-lines.lines.items) c.in-Err.stop (letters_left c.whole.new.cursor) c.stop_fault.result c.in_ok-lines.ensures
-    (begun_stop copy_file c.in_ok-lines.lines.items _ _ c.in-Err.stop (letters_left c.whole.new.cursor) c.at-cursor.ensures c.as_slice.ensures.value c.in-Err.ensures.gives)
-    (subst (λ (ls : List Line). IsStopAt (place_of (map line_view ls) (letters_left c.whole.new.cursor)) c.in-Err.stop c.stop_fault.result) c.as_slice-in-Err.ensures.value c.stop_fault.ensures)
+    first_form_fault copy_file _ copy_file_has copy_file_ends c.args.bytes.now (map line_view c.in_ok-lines.lines.items) c.in-Err.stop
+    (letters_left c.whole.new.cursor) c.stop_fault.result c.in_ok-lines.ensures
+    (begun_stop copy_file c.in_ok-lines.lines.items _ _ c.in-Err.stop (letters_left c.whole.new.cursor) c.at-cursor.ensures
+    c.as_slice.ensures.value c.in-Err.ensures.gives)
+    (subst (λ (ls : List Line). IsStopAt (place_of (map line_view ls) (letters_left c.whole.new.cursor)) c.in-Err.stop c.stop_fault.result)
+    c.as_slice-in-Err.ensures.value c.stop_fault.ensures)

@@ -9,10 +9,13 @@ loop-passed-init c = (all_are_left c.args.bytes.now, omega arith)
 
 pub returns-then-is_empty-clause-after : goal.returns-then-is_empty-clause-after
 returns-then-is_empty-clause-after c =
-    none_left c.args.bytes.now c.loop-passed.rest.now c.loop-passed.passed c.args.skipped c.loop-passed.invariant.0 c.loop-passed.invariant.1 (nil_from_length c.loop-passed.rest.now (eqb-true (length c.loop-passed.rest.now) 0 (sym c.is_empty.ensures ∙ c.if-is_empty.true)))
+    none_left c.args.bytes.now c.loop-passed.rest.now c.loop-passed.passed c.args.skipped c.loop-passed.invariant.0
+    c.loop-passed.invariant.1 (nil_from_length c.loop-passed.rest.now (eqb-true (length c.loop-passed.rest.now) 0
+    (sym c.is_empty.ensures ∙ c.if-is_empty.true)))
 
 pub loop-passed-preserved : goal.loop-passed-preserved
 loop-passed-preserved c = (
-  left_after_line c.args.bytes.now c.loop-passed.rest.now c.first_line.result.0.now c.first_line.result.1.now c.loop-passed.passed c.loop-passed.invariant.0 c.first_line.ensures.split c.first_line.ensures.progress c.first_line.ensures.back,
+  left_after_line c.args.bytes.now c.loop-passed.rest.now c.first_line.result.0.now c.first_line.result.1.now c.loop-passed.passed
+      c.loop-passed.invariant.0 c.first_line.ensures.split c.first_line.ensures.progress c.first_line.ensures.back,
   omega (arith, c.loop-passed-test.true),
 )

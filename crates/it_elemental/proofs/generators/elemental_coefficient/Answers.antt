@@ -12,8 +12,11 @@ pub returns-then-coordinate-n : goal.returns-then-coordinate-n
 returns-then-coordinate-n c =
     let fits : FitsSigned w128 c.coefficient.result = search rules in
     let below : 0 < c.from_number.result = omega (arith, c.from_number.ensures) in
-    to_z-of_z fits ∙ c.coefficient.ensures.coordinate below ∙ ap (λ s. elemental_value c.args.n (one_at s) (elemental_at c.args.n c.args.index)) c.from_number.ensures
+    to_z-of_z fits ∙ c.coefficient.ensures.coordinate below ∙ ap (λ s. elemental_value c.args.n (one_at s)
+    (elemental_at c.args.n c.args.index)) c.from_number.ensures
     ∙ sym (coefficient-row c.args.n c.args.coordinate (elemental_at c.args.n c.args.index) (omega arith))
 
 pub returns-else-coordinate-n : goal.returns-else-coordinate-n
-returns-else-coordinate-n c = sym (no_coefficient_beyond (2 ^ c.args.n - 1) _ c.args.coordinate (within-row c.args.n (elemental_at c.args.n c.args.index) (is_elemental c.args.n c.args.index c.requires.listed)) (omega (arith, pow_mono {i = c.args.n} {j = 10} c.requires.few)))
+returns-else-coordinate-n c = sym (no_coefficient_beyond (2 ^ c.args.n - 1) _ c.args.coordinate
+    (within-row c.args.n (elemental_at c.args.n c.args.index) (is_elemental c.args.n c.args.index c.requires.listed))
+    (omega (arith, pow_mono {i = c.args.n} {j = 10} c.requires.few)))

@@ -10,14 +10,28 @@ returns-then-index-elementals c =
     sym (ap (λ g. g.kind) (front_is q.space.variables q.constraints c.args.index c.count-elementals.result count c.if-index-elementals.true))
 
 pub bounds-constraints-index : goal.bounds-constraints-index
-bounds-constraints-index c = rw c.constraints.ensures.value (grind (arith, length-listed c.args.problem.now.space.variables c.args.problem.now.constraints, c.space.ensures.value, c.count-elementals.ensures))
+bounds-constraints-index c = rw c.constraints.ensures.value
+    (grind (
+      arith,
+      length-listed c.args.problem.now.space.variables c.args.problem.now.constraints,
+      c.space.ensures.value,
+      c.count-elementals.ensures,
+    ))
 
 pub returns : goal.returns
 returns c =
     let q = c.args.problem.now in
     let count = c.count-elementals.ensures ∙ ap (λ s. length (elementals s.variables)) c.space.ensures.value in
-    let is = c.index-constraints-index.is ∙ ap (λ cs. get_or cs (c.args.index - c.count-elementals.result) c.index-constraints-index.result) c.constraints.ensures.value in
-    rw (← c.index-constraints-index.is) (sym (ap (λ g. g.kind) (after_is q.space.variables q.constraints c.args.index c.count-elementals.result c.index-constraints-index.result count c.if-index-elementals.false c.requires.listed is)))
+    let is = c.index-constraints-index.is ∙ ap (λ cs. get_or cs (c.args.index - c.count-elementals.result) c.index-constraints-index.result)
+    c.constraints.ensures.value in
+    rw (← c.index-constraints-index.is) (sym (ap (λ g. g.kind) (after_is q.space.variables q.constraints c.args.index
+    c.count-elementals.result c.index-constraints-index.result count c.if-index-elementals.false c.requires.listed is)))
 
 pub bounds-constraints-index-else-index-elementals : goal.bounds-constraints-index-else-index-elementals
-bounds-constraints-index-else-index-elementals c = rw c.constraints.ensures.value (grind (arith, length-listed c.args.problem.now.space.variables c.args.problem.now.constraints, c.space.ensures.value, c.count-elementals.ensures))
+bounds-constraints-index-else-index-elementals c = rw c.constraints.ensures.value
+    (grind (
+      arith,
+      length-listed c.args.problem.now.space.variables c.args.problem.now.constraints,
+      c.space.ensures.value,
+      c.count-elementals.ensures,
+    ))

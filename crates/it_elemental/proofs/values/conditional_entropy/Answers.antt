@@ -10,4 +10,5 @@ returns c =
     let part : FitsSigned w128 c.at_set-2.result = search rules in
     let value = simp to_z-of_z at c.difference.ensures in
     conditional_value c.args.point.now c.args.n c.args.of c.difference.result c.at_set.result c.at_set-2.result c.at_set.ensures.within
-    (c.at_set.ensures.value ∙ ap (point_of c.args.point.now) c.all_variables.ensures) (c.at_set-2.ensures.value ∙ ap (point_of c.args.point.now) c.all_but.ensures) value
+    (c.at_set.ensures.value ∙ ap (point_of c.args.point.now) c.all_variables.ensures)
+    (c.at_set-2.ensures.value ∙ ap (point_of c.args.point.now) c.all_but.ensures) value

@@ -31,8 +31,10 @@ loop-rate-preserved c =
     (subst (λ (e : RateEnd). IsRateEnd c.coordinate.result c.args.rows c.as_slice-in-loop-rate.result.now e) is c.in_ok-next.ensures)
 
 pub returns-clause-ends : goal.returns-clause-ends
-returns-clause-ends c = ends_done (2 ^ c.args.system.now.space.variables) c.args.rows _ c.loop-rate.current.items c.args.rates.now c.loop-rate.rate-index c.loop-rate.invariant c.loop-rate-test.false
+returns-clause-ends c = ends_done (2 ^ c.args.system.now.space.variables) c.args.rows _ c.loop-rate.current.items c.args.rates.now
+    c.loop-rate.rate-index c.loop-rate.invariant c.loop-rate-test.false
 
 pub returns-clause-region : goal.returns-clause-region
 returns-clause-region c = is_projection c.args.rows c.args.system.now _ c.args.rates.now c.requires.system refl
-    (ends_done (2 ^ c.args.system.now.space.variables) c.args.rows _ c.loop-rate.current.items c.args.rates.now c.loop-rate.rate-index c.loop-rate.invariant c.loop-rate-test.false)
+    (ends_done (2 ^ c.args.system.now.space.variables) c.args.rows _ c.loop-rate.current.items c.args.rates.now c.loop-rate.rate-index
+    c.loop-rate.invariant c.loop-rate-test.false)

@@ -6,4 +6,5 @@ use Rattle.it_eliminate.specs.Gathering.{rows_of}
 use Rattle.std.specs.List.{AllByRecursion as Every}
 
 abbrev pub invariant-loop-row : goal.invariant-loop-row
-invariant-loop-row l = (with_lowest_rows (rows_of l.ordered.keys) (drop l.row-index l.rows) ≡ with_lowest_rows [] l.rows) × Every IsCanonical (rows_of l.ordered.keys)
+invariant-loop-row l = (with_lowest_rows (rows_of l.ordered.keys) (drop l.row-index l.rows) ≡ with_lowest_rows [] l.rows)
+    × Every IsCanonical (rows_of l.ordered.keys)

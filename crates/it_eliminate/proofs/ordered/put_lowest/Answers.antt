@@ -7,4 +7,5 @@ use Rattle.std.specs.List.{AllByRecursion as Every}
 
 pub returns-clause-canonical : goal.returns-clause-canonical
 returns-clause-canonical c = λ a. subst (λ (rs : List Terms). Every IsCanonical rs) (sym c.in_ok-put.ensures)
-    (every-with_row IsCanonical (rows_of c.args.rows.now.keys) c.into_terms.result.items (subst (λ (r : Terms). IsCanonical r) (sym c.into_terms.ensures.terms) c.normal.ensures.canonical) a)
+    (every-with_row IsCanonical (rows_of c.args.rows.now.keys) c.into_terms.result.items
+    (subst (λ (r : Terms). IsCanonical r) (sym c.into_terms.ensures.terms) c.normal.ensures.canonical) a)

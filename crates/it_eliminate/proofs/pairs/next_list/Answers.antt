@@ -6,7 +6,8 @@ use Rattle.it_eliminate.proofs.pairs.next_list.Goals as goal
 pub returns-clause-list : goal.returns-clause-list
 returns-clause-list c =
     let none : rows_of c.new-list.result.keys ≡ [] = search rules in
-    next_kept c.args.most c.args.at c.args.rows.now (rows_of c.new-list.result.keys) (rows_of c.gather_flats.new.list.keys) (rows_of c.gather_ups.new.list.keys) none c.in_ok-gather_flats.ensures c.in_ok-gather_ups.ensures.list
+    next_kept c.args.most c.args.at c.args.rows.now (rows_of c.new-list.result.keys) (rows_of c.gather_flats.new.list.keys)
+    (rows_of c.gather_ups.new.list.keys) none c.in_ok-gather_flats.ensures c.in_ok-gather_ups.ensures.list
 
 pub returns-clause-fits : goal.returns-clause-fits
 returns-clause-fits c = pairs_fit c.args.at c.args.rows.now c.in_ok-gather_ups.ensures.fits

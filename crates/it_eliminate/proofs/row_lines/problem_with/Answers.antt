@@ -1,5 +1,5 @@
 use Rattle.std.proofs.Common.{rules, ◌≡◌, subst, sym}
-use Rattle.it_space.specs.Problems.{IsProblem, ProblemView}
+use Rattle.it_problems.specs.Problems.{IsProblem, ProblemView}
 use Rattle.it_eliminate.specs.RowLines.{with_rows}
 use Rattle.it_eliminate.proofs.RowLemmas.{problem_limits}
 use Rattle.it_eliminate.proofs.row_lines.problem_with.Goals as goal

@@ -6,8 +6,10 @@ use Rattle.it_engine.proofs.choice.leaving_row.Goals as goal
 
 pub better_row-best-requires-clause-best : goal.better_row-best-requires-clause-best
 better_row-best-requires-clause-best c = let b = c.args.basis.now in
-    best_within (number_at c.args.entries.now) (right_side_of (length b) c.args.rows.now) (basic_column_at b) c.loop-i.i (length b) c.loop-i.best c.loop-i.invariant (omega (arith, c.loop-i-test.true))
+    best_within (number_at c.args.entries.now) (right_side_of (length b) c.args.rows.now) (basic_column_at b) c.loop-i.i
+    (length b) c.loop-i.best c.loop-i.invariant (omega (arith, c.loop-i-test.true))
 
 pub returns-clause-within : goal.returns-clause-within
 returns-clause-within c = let b = c.args.basis.now in
-    best_within (number_at c.args.entries.now) (right_side_of (length b) c.args.rows.now) (basic_column_at b) c.loop-i.i (length b) c.loop-i.best c.loop-i.invariant (omega (arith, c.loop-i.auto.i-end))
+    best_within (number_at c.args.entries.now) (right_side_of (length b) c.args.rows.now) (basic_column_at b) c.loop-i.i
+    (length b) c.loop-i.best c.loop-i.invariant (omega (arith, c.loop-i.auto.i-end))

@@ -11,7 +11,9 @@ row_is : (c : After-index-rows-k) → c.index-rows-k.result ≡ whole_row_at c.a
 row_is c = item_by_default c.args.rows.now c.args.k c.index-rows-k.result record { numbers = []; bottom = 1 } c.requires.row c.index-rows-k.is
 
 pub returns-clause-row : goal.returns-clause-row
-returns-clause-row c = subst (λ (r : WholeRowView). IfOk c.narrowed.result (λ o. IfSome o (λ row. row ≡ r))) (row_is (goal.at.returns-clause-row c).After-index-rows-k) c.narrowed.ensures.row
+returns-clause-row c = subst (λ (r : WholeRowView). IfOk c.narrowed.result (λ o. IfSome o (λ row. row ≡ r)))
+    (row_is (goal.at.returns-clause-row c).After-index-rows-k) c.narrowed.ensures.row
 
 pub returns-clause-small : goal.returns-clause-small
-returns-clause-small c = subst (λ (r : WholeRowView). IfOk c.narrowed.result (λ o. IfSome o (λ row. AreAtMost r.numbers c.args.limit))) (row_is (goal.at.returns-clause-small c).After-index-rows-k) c.narrowed.ensures.small
+returns-clause-small c = subst (λ (r : WholeRowView). IfOk c.narrowed.result (λ o. IfSome o (λ row. AreAtMost r.numbers c.args.limit)))
+    (row_is (goal.at.returns-clause-small c).After-index-rows-k) c.narrowed.ensures.small

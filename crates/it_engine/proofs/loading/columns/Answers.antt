@@ -13,5 +13,6 @@ loop-j-preserved c =
     let j = c.loop-j.j in
     subst (λ (columns : List Terms). AreReadUpTo cs generators target (j + 1) columns) (sym c.in_ok-push.ensures.items)
     (columns_more cs generators target j c.loop-j.columns.items c.in-Some.column
-    (of_some c.in_ok-column.field-0 c.in-Some.column (IsReadColumn (length cs) (signed_coefficient cs target (slice_index_or generators j []))) c.in-Some.is c.in_ok-column.ensures)
+    (of_some c.in_ok-column.field-0 c.in-Some.column (IsReadColumn (length cs)
+    (signed_coefficient cs target (slice_index_or generators j []))) c.in-Some.is c.in_ok-column.ensures)
     c.loop-j.invariant)

@@ -7,7 +7,8 @@ use Rattle.it_engine.proofs.ColumnSteps.{column_first, column_more, column_whole
 use Rattle.it_engine.proofs.loading.read_column.Goals as goal
 
 pub loop-i-init : goal.loop-i-init
-loop-i-init c = subst (IsColumnUnderWay c.args.coordinates.now c.args.target.now (slice_index_or c.args.generators.now c.args.j []) 0) (sym c.empty-column.ensures) (column_first c.args.coordinates.now c.args.target.now (slice_index_or c.args.generators.now c.args.j []))
+loop-i-init c = subst (IsColumnUnderWay c.args.coordinates.now c.args.target.now (slice_index_or c.args.generators.now c.args.j []) 0)
+    (sym c.empty-column.ensures) (column_first c.args.coordinates.now c.args.target.now (slice_index_or c.args.generators.now c.args.j []))
 
 pub loop-i-preserved : goal.loop-i-preserved
 loop-i-preserved c =
@@ -22,7 +23,9 @@ loop-i-preserved c =
     (c.coordinate_at-coordinate.ensures ∙ ap (λ (ts : Terms). (slice_index_or ts i (0, pos 0)).0) c.terms_of-terms.ensures)
     (subst (λ (z : ℤ). IsTermPut cs target c.coordinate_at-coordinate.result z c.loop-i.column c.put_term.new.column)
     (to_z-of_z fits ∙ c.coefficient_at-number.ensures ∙ ap (λ (ts : Terms). (slice_index_or ts i (0, pos 0)).1) c.terms_of-terms.ensures)
-    (subst (λ (b : Bool). OnTrue b (IsTermPut cs target c.coordinate_at-coordinate.result (to_z w128 (of_z w128 c.coefficient_at-number.result)) c.loop-i.column c.put_term.new.column)) c.if-not-short.false c.in_ok-short.ensures)))
+    (subst (λ (b : Bool). OnTrue b (IsTermPut cs target c.coordinate_at-coordinate.result
+    (to_z w128 (of_z w128 c.coefficient_at-number.result)) c.loop-i.column c.put_term.new.column)) c.if-not-short.false
+    c.in_ok-short.ensures)))
     c.loop-i.invariant
 
 pub returns : goal.returns

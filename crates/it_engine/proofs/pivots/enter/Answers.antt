@@ -9,7 +9,8 @@ use Rattle.it_engine.proofs.Fitting.{fitting_short, fitting_suits}
 use Rattle.it_engine.proofs.pivots.enter.Goals as goal
 
 pub note_entries-requires-clause-suits : goal.note_entries-requires-clause-suits
-note_entries-requires-clause-suits c = λ i l. fitting_suits (length c.args.rows.now) c.args.limit c.args.column.now (whole_row_at c.args.rows.now i) c.requires.column (c.requires.rows i l)
+note_entries-requires-clause-suits c = λ i l. fitting_suits (length c.args.rows.now) c.args.limit c.args.column.now
+    (whole_row_at c.args.rows.now i) c.requires.column (c.requires.rows i l)
 
 pub pivot-requires-clause-row : goal.pivot-requires-clause-row
 pivot-requires-clause-row c = omega (arith, c.in_ok-row.ensures.within, c.requires.height)
@@ -22,14 +23,17 @@ pivot-requires-clause-short c = λ k l. let h : k < length c.args.rows.now = ome
 pub pivot-requires-clause-positive : goal.pivot-requires-clause-positive
 pivot-requires-clause-positive c = let entries = c.note_entries.new.entries in
     above_one (number_at entries c.in_ok-row.row)
-    (best_above (number_at entries) (right_side_of (length c.args.basis.now) c.args.rows.now) (basic_column_at c.args.basis.now) (length c.args.basis.now) c.in_ok-row.row (sym c.leaving_row.ensures.value ∙ c.in_ok-row.was))
+    (best_above (number_at entries) (right_side_of (length c.args.basis.now) c.args.rows.now) (basic_column_at c.args.basis.now)
+    (length c.args.basis.now) c.in_ok-row.row (sym c.leaving_row.ensures.value ∙ c.in_ok-row.was))
 
 pub returns-then-pivot-clause-leaves : goal.returns-then-pivot-clause-leaves
 returns-then-pivot-clause-leaves c = let entries = c.note_entries.new.entries in
-    sym (best_by_entries (number_at entries) (entry_of c.args.column.now c.args.rows.now) (right_side_of (length c.args.basis.now) c.args.rows.now) (basic_column_at c.args.basis.now) (length c.args.basis.now)
+    sym (best_by_entries (number_at entries) (entry_of c.args.column.now c.args.rows.now)
+    (right_side_of (length c.args.basis.now) c.args.rows.now) (basic_column_at c.args.basis.now) (length c.args.basis.now)
     (λ k l. c.note_entries.ensures.each k (omega (arith, l, c.requires.height)))) ∙ sym c.leaving_row.ensures.value ∙ c.in_ok-row.was
 
 pub returns-then-pivot-clause-pivoted : goal.returns-then-pivot-clause-pivoted
 returns-then-pivot-clause-pivoted c = let entries = c.note_entries.new.entries in
-    pivoted_by_entries (length c.args.rows.now) c.args.limit c.args.rows.now (number_at entries) (entry_of c.args.column.now c.args.rows.now) c.in_ok-row.row c.pivot.new.rows
+    pivoted_by_entries (length c.args.rows.now) c.args.limit c.args.rows.now (number_at entries)
+    (entry_of c.args.column.now c.args.rows.now) c.in_ok-row.row c.pivot.new.rows
     (omega (arith, c.in_ok-row.ensures.within, c.requires.height)) c.note_entries.ensures.each c.if-pivot.ensures.pivoted

@@ -14,7 +14,8 @@ more_shares-requires-clause-shares c = up_to_row c.args.block.now.moved.now (len
     c.loop-k.k c.row_at-q.result c.loop-k-test.true c.row_at-q.ensures c.loop-k.invariant
 
 pub loop-k-preserved : goal.loop-k-preserved
-loop-k-preserved c = after_row c.args.block.now.order.now (λ q. AreShares c.args.norm c.args.block.now.rows.now c.args.block.now.moved.now q c.in_ok-shares.shares.multiple c.in_ok-shares.shares.bound) c.loop-k.k c.row_at-q.result
+loop-k-preserved c = after_row c.args.block.now.order.now (λ q. AreShares c.args.norm c.args.block.now.rows.now c.args.block.now.moved.now q
+    c.in_ok-shares.shares.multiple c.in_ok-shares.shares.bound) c.loop-k.k c.row_at-q.result
     c.row_at-q.ensures c.in_ok-shares.ensures
 
 pub returns : goal.returns

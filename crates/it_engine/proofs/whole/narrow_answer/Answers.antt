@@ -15,16 +15,19 @@ engine_is : (c : In-Some) → c.in-Some.narrow ≡ c.args.engine.now
 engine_is c = of_some c.in_ok-narrow.field-0 c.in-Some.narrow (λ (e : EngineView). e ≡ c.args.engine.now) c.in-Some.is c.in_ok-narrow.ensures.engine
 
 numbers_are_small : (c : In-Some) → AreAllAtMost c.narrow_limit-lower.result c.args.engine.now.rows
-numbers_are_small c = of_some c.in_ok-narrow.field-0 c.in-Some.narrow (λ (e : EngineView). AreAllAtMost c.narrow_limit-lower.result c.args.engine.now.rows) c.in-Some.is c.in_ok-narrow.ensures.small
+numbers_are_small c = of_some c.in_ok-narrow.field-0 c.in-Some.narrow (λ (e : EngineView). AreAllAtMost c.narrow_limit-lower.result
+    c.args.engine.now.rows) c.in-Some.is c.in_ok-narrow.ensures.small
 
 pub answer-requires-clause-height : goal.answer-requires-clause-height
-answer-requires-clause-height c = let d = (goal.at.answer-requires-clause-height c).In-Some in ap (λ (e : EngineView). length e.basis) (engine_is d) ∙ c.requires.height
+answer-requires-clause-height c = let d = (goal.at.answer-requires-clause-height c).In-Some
+    in ap (λ (e : EngineView). length e.basis) (engine_is d) ∙ c.requires.height
 
 pub answer-requires-clause-engine : goal.answer-requires-clause-engine
 answer-requires-clause-engine c =
     let d = (goal.at.answer-requires-clause-engine c).In-Some in
     subst (λ (e : EngineView). IsSafe c.args.columns.now c.narrow_limit-lower.result e.rows e.basis) (sym (engine_is d))
-    (safe_below c.args.columns.now c.args.limit c.narrow_limit-lower.result c.args.engine.now.rows c.args.engine.now.basis c.narrow_limit-lower.ensures.below (numbers_are_small d) c.requires.engine)
+    (safe_below c.args.columns.now c.args.limit c.narrow_limit-lower.result c.args.engine.now.rows c.args.engine.now.basis
+    c.narrow_limit-lower.ensures.below (numbers_are_small d) c.requires.engine)
 
 pub answer-requires-clause-stands : goal.answer-requires-clause-stands
 answer-requires-clause-stands c =
@@ -33,7 +36,8 @@ answer-requires-clause-stands c =
       s.0,
       s.1,
       subst (λ (e : EngineView). Represents s.0 s.1 c.args.columns.now c.narrow_limit-lower.result e.rows e.basis) (sym (engine_is d))
-          (stands_below c.args.columns.now c.args.limit c.narrow_limit-lower.result c.args.engine.now.rows c.args.engine.now.basis c.narrow_limit-lower.ensures.below (numbers_are_small d) s.0 s.1 s.2),
+          (stands_below c.args.columns.now c.args.limit c.narrow_limit-lower.result c.args.engine.now.rows c.args.engine.now.basis
+          c.narrow_limit-lower.ensures.below (numbers_are_small d) s.0 s.1 s.2),
     )
 
 pub returns-in-Some : goal.returns-in-Some
@@ -43,8 +47,10 @@ returns-in-Some c =
     let rows = c.args.engine.now.rows in
     let basis = c.args.engine.now.basis in
     let lower = c.narrow_limit-lower.result in
-    let P : Solved → Type 0 = λ solved. AnswersQuestion c.args.coordinates.now c.args.target.now columns lower c.in-Some.narrow.rows c.in-Some.narrow.basis c.args.budget solved in
+    let P : Solved → Type 0 = λ solved. AnswersQuestion c.args.coordinates.now c.args.target.now columns lower c.in-Some.narrow.rows
+    c.in-Some.narrow.basis c.args.budget solved in
     let Q : Solved → Type 0 = λ solved. AnswersQuestion c.args.coordinates.now c.args.target.now columns c.args.limit rows basis c.args.budget solved in
     if_ok c.answer.result (λ o. IfSome o P) (λ o. IfSome o Q) c.answer.ensures
-    (λ o h. if_some_more o P Q h (λ solved a. answers_below columns c.args.limit lower rows basis c.narrow_limit-lower.ensures.below (numbers_are_small d) c.args.coordinates.now c.args.target.now c.args.budget solved
+    (λ o h. if_some_more o P Q h (λ solved a. answers_below columns c.args.limit lower rows basis c.narrow_limit-lower.ensures.below
+    (numbers_are_small d) c.args.coordinates.now c.args.target.now c.args.budget solved
     (subst (λ (e : EngineView). AnswersQuestion c.args.coordinates.now c.args.target.now columns lower e.rows e.basis c.args.budget solved) (engine_is d) a)))

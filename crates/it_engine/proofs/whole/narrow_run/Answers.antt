@@ -7,15 +7,23 @@ use Rattle.it_engine.proofs.Answers.{answers_from_start, of_some}
 use Rattle.it_engine.proofs.whole.narrow_run.Goals as goal
 use Rattle.it_engine.proofs.whole.narrow_run.Goals.{After-as_slice}
 
-is_start : (c : After-as_slice) → IsStart c.args.coordinates.now c.args.generators.now c.args.target.now c.as_slice.result.now c.in-Some.start.limit c.in-Some.start.engine
-is_start c = subst (λ (columns : List Terms). IsStart c.args.coordinates.now c.args.generators.now c.args.target.now columns c.in-Some.start.limit c.in-Some.start.engine) (sym c.as_slice.ensures.value)
-    (of_some c.in_ok-start.field-0 c.in-Some.start (λ start. IsStart c.args.coordinates.now c.args.generators.now c.args.target.now start.columns.items start.limit start.engine) c.in-Some.is c.in_ok-start.ensures)
+is_start : (c : After-as_slice) → IsStart c.args.coordinates.now c.args.generators.now c.args.target.now c.as_slice.result.now
+    c.in-Some.start.limit c.in-Some.start.engine
+is_start c = subst (λ (columns : List Terms). IsStart c.args.coordinates.now c.args.generators.now c.args.target.now columns
+    c.in-Some.start.limit c.in-Some.start.engine) (sym c.as_slice.ensures.value)
+    (of_some c.in_ok-start.field-0 c.in-Some.start (λ start. IsStart c.args.coordinates.now c.args.generators.now c.args.target.now
+    start.columns.items start.limit start.engine) c.in-Some.is c.in_ok-start.ensures)
 
 pub narrow_answer-requires-clause-stands : goal.narrow_answer-requires-clause-stands
-narrow_answer-requires-clause-stands c =
-    (feasibility_problem c.args.coordinates.now c.args.generators.now c.args.target.now, start_of c.args.coordinates.now c.args.generators.now c.args.target.now, (is_start (goal.at.narrow_answer-requires-clause-stands c).After-as_slice).stands)
+narrow_answer-requires-clause-stands c = (
+  feasibility_problem c.args.coordinates.now c.args.generators.now c.args.target.now,
+  start_of c.args.coordinates.now
+      c.args.generators.now c.args.target.now,
+  (is_start (goal.at.narrow_answer-requires-clause-stands c).After-as_slice).stands,
+)
 
 pub returns : goal.returns
 returns c =
     let d = (goal.at.returns c).After-as_slice in
-    answers_from_start c.args.coordinates.now c.args.generators.now c.args.target.now c.as_slice.result.now c.in-Some.start.limit c.in-Some.start.engine (is_start d) c.args.budget c.narrow_answer.result c.narrow_answer.ensures
+    answers_from_start c.args.coordinates.now c.args.generators.now c.args.target.now c.as_slice.result.now c.in-Some.start.limit
+    c.in-Some.start.engine (is_start d) c.args.budget c.narrow_answer.result c.narrow_answer.ensures

@@ -19,4 +19,5 @@ returns-in-Valid c =
     let q = c.args.problem.now in
     let zero : value c.args.left.now (point_of c.args.point) ≡ pos 0 = search rules in
     never_is_right q c.args.left.now c.args.right.now c.args.point c.requires.sides.problem c.requires.sides.right c.requires.complete
-    (subst (λ (row : Terms). Valid ≡ no_verdict (length (elementals q.space.variables)) (generators q) row (point_of c.args.point)) c.requires.turned c.in-Valid.ensures) zero
+    (subst (λ (row : Terms). Valid ≡ no_verdict (length (elementals q.space.variables)) (generators q) row (point_of c.args.point))
+    c.requires.turned c.in-Valid.ensures) zero

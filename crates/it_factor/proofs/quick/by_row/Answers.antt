@@ -12,7 +12,10 @@ use Rattle.it_factor.proofs.quick.by_row.Goals as goal
 pub settle-requires : goal.settle-requires
 settle-requires c =
     let size = size_of c.args.problem.now.space in
-    record { target = subst (IsOver size) (sym c.requires.row) (row_over size c.args.trial.factor.num (pos c.args.trial.factor.den) c.args.left.now c.args.right.now) }
+    record {
+      target = subst (IsOver size) (sym c.requires.row) (row_over size c.args.trial.factor.num
+          (pos c.args.trial.factor.den) c.args.left.now c.args.right.now);
+    }
 
 pub returns-in-Some-Yes : goal.returns-in-Some-Yes
 returns-in-Some-Yes c =
@@ -20,4 +23,5 @@ returns-in-Some-Yes c =
     let w = certificate_view c.in-Some-Yes.proof in
     let settled : IsSettled q c.args.row.now (Yes w) = search rules in
     subst (IsQuickBest q c.args.left.now c.args.right.now) (sym c.answer.ensures)
-    (answer_is_right q c.args.left.now c.args.right.now c.args.trial.factor c.args.trial.reason w c.requires.trial (subst (λ (row : Terms). CertifiesRow q row w) c.requires.row settled.0.0))
+    (answer_is_right q c.args.left.now c.args.right.now c.args.trial.factor c.args.trial.reason w c.requires.trial
+    (subst (λ (row : Terms). CertifiesRow q row w) c.requires.row settled.0.0))

@@ -16,7 +16,8 @@ returns-in-Prove-clause-right c =
     let q = question_body c.args.question.now in
     let p = c.args.problem.now in
     let r = relation_view c.in-Prove.relation in
-    if_ok c.relation_reply.result (λ x. IsReplyByRows p c.args.effort (at_least r.sign r) (reply_view x)) (λ x. IsRightReply c.args.effort q (reply_view x)) c.relation_reply.ensures
+    if_ok c.relation_reply.result (λ x. IsReplyByRows p c.args.effort (at_least r.sign r) (reply_view x))
+    (λ x. IsRightReply c.args.effort q (reply_view x)) c.relation_reply.ensures
     (λ x by_rows. right_reply q p c.requires.problem c.args.effort r (reply_view x) (ap verb_view c.in-Prove.is) by_rows)
 
 pub returns-in-Prove-clause-printable : goal.returns-in-Prove-clause-printable

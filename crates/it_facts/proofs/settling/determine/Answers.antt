@@ -7,4 +7,5 @@ use Rattle.it_facts.proofs.settling.determine.Goals as goal
 pub returns : goal.returns
 returns c =
     OnTrue_from c.tell_rates.result (Determine c.args.space.variables c.args.space.rates c.args.facts.now (point_of c.args.point.now)) (λ e.
-    facts_determine c.args.space.variables c.args.space.rates (point_of c.args.point.now) c.args.facts.now c.if-not-are_facts_of.ensures c.if-not-tell_sets.ensures (OnTrue_at e c.tell_rates.ensures))
+    facts_determine c.args.space.variables c.args.space.rates (point_of c.args.point.now) c.args.facts.now c.if-not-are_facts_of.ensures
+    c.if-not-tell_sets.ensures (OnTrue_at e c.tell_rates.ensures))

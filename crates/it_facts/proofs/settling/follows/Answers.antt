@@ -8,8 +8,11 @@ use Rattle.it_facts.proofs.settling.follows.Goals as goal
 pub returns-then-eq : goal.returns-then-eq
 returns-then-eq c =
     let n = c.args.space.variables in
-    subst (λ (s : ℕ). Follows n (point_of c.args.point.now) c.args.facts.now s) (sym (eqb-true c.args.set c.empty.result (sym c.if-eq.ensures) ∙ c.empty.ensures)) (empty_follows n c.args.point.now c.args.facts.now)
+    subst (λ (s : ℕ). Follows n (point_of c.args.point.now) c.args.facts.now s)
+    (sym (eqb-true c.args.set c.empty.result (sym c.if-eq.ensures) ∙ c.empty.ensures))
+    (empty_follows n c.args.point.now c.args.facts.now)
 
 pub returns-then-settles : goal.returns-then-settles
 returns-then-settles c =
-    follows_by_item c.args.space.variables (point_of c.args.point.now) c.args.facts.now c.args.set c.loop-fact.fact-index c.fact-item.result c.loop-fact-test.true c.fact-item.is c.if-settles.ensures
+    follows_by_item c.args.space.variables (point_of c.args.point.now) c.args.facts.now c.args.set c.loop-fact.fact-index c.fact-item.result
+    c.loop-fact-test.true c.fact-item.is c.if-settles.ensures

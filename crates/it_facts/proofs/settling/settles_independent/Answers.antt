@@ -11,4 +11,5 @@ returns-then-not-is_single c =
     let n = c.args.n in
     let p : ℕ → ℤ = point_of c.args.point.now in
     OnTrue_from c.are_independent.result (Settles n p c.args.set (Independent c.args.whole)) (λ e.
-    independent_settles n p c.args.set c.args.whole c.requires.few c.requires.below (c.if-inside.ensures.0 refl) (c.if-not-is_single.ensures) (OnTrue_at e c.are_independent.ensures))
+    independent_settles n p c.args.set c.args.whole c.requires.few c.requires.below (c.if-inside.ensures.0 refl)
+    (c.if-not-is_single.ensures) (OnTrue_at e c.are_independent.ensures))

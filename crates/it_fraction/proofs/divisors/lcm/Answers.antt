@@ -11,10 +11,12 @@ formed_is : (c : After-quotient) → c.unsigned_abs-left.result * c.quotient.res
 formed_is c =
     let fa : FitsSigned w128 c.args.a = c.ranges.a in
     let fb : FitsSigned w128 c.args.b = c.ranges.b in
-    lcm-formed _ _ _ _ _ _ (simp to_z-of_z at c.unsigned_abs-left.ensures.value) (simp to_z-of_z at c.unsigned_abs-right.ensures.value) c.common_divisor.ensures.value c.quotient.ensures
+    lcm-formed _ _ _ _ _ _ (simp to_z-of_z at c.unsigned_abs-left.ensures.value)
+    (simp to_z-of_z at c.unsigned_abs-right.ensures.value) c.common_divisor.ensures.value c.quotient.ensures
 
 pub returns-in_err-multiple : goal.returns-in_err-multiple
-returns-in_err-multiple c = OkIff-err _ _ _ c.from_residual.ensures.0 (λ fit. c.in_err-multiple.ensures (rw (formed_is (goal.at.returns-in_err-multiple c).After-quotient) fit))
+returns-in_err-multiple c = OkIff-err _ _ _ c.from_residual.ensures.0 (λ fit. c.in_err-multiple.ensures
+    (rw (formed_is (goal.at.returns-in_err-multiple c).After-quotient) fit))
 
 pub returns : goal.returns
 returns c =

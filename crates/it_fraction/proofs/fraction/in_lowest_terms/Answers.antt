@@ -11,4 +11,5 @@ invariant_of-result c =
 pub returns : goal.returns
 returns c =
     let f : FitsSigned w128 c.args.top = c.ranges.top in
-    sym (quotient_is (to_z w128 (of_z w128 c.args.top)) c.args.top c.args.bottom c.args.bottom c.requires.some _ _ (ap (λ z. z *ℤ pos c.args.bottom) (to_z-of_z f)))
+    sym (quotient_is (to_z w128 (of_z w128 c.args.top)) c.args.top c.args.bottom c.args.bottom c.requires.some _ _
+    (ap (λ z. z *ℤ pos c.args.bottom) (to_z-of_z f)))

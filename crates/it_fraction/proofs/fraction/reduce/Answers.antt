@@ -24,10 +24,12 @@ pub in_lowest_terms-requires-clause-lowest : goal.in_lowest_terms-requires-claus
 in_lowest_terms-requires-clause-lowest c =
     let g = goal.at.in_lowest_terms-requires-clause-lowest c in
     let f : FitsSigned w128 c.signed_quotient.result = search rules in
-    simp to_z-of_z (rw (top_is g.After-signed_quotient, c.quotient.ensures) (reduced-lowest c.args.num c.args.den c.common_divisor-shared.result c.requires.den_some (shared_is g.After-common_divisor-shared)))
+    simp to_z-of_z (rw (top_is g.After-signed_quotient, c.quotient.ensures)
+    (reduced-lowest c.args.num c.args.den c.common_divisor-shared.result c.requires.den_some (shared_is g.After-common_divisor-shared)))
 
 pub returns : goal.returns
 returns c =
     let g = goal.at.returns c in
     let f : FitsSigned w128 c.signed_quotient.result = search rules in
-    simp to_z-of_z at c.in_lowest_terms.ensures ∙ ap₂ quotient (top_is g.After-signed_quotient) c.quotient.ensures ∙ reduced-is c.args.num c.args.den c.common_divisor-shared.result c.requires.den_some (shared_is g.After-common_divisor-shared)
+    simp to_z-of_z at c.in_lowest_terms.ensures ∙ ap₂ quotient (top_is g.After-signed_quotient) c.quotient.ensures
+    ∙ reduced-is c.args.num c.args.den c.common_divisor-shared.result c.requires.den_some (shared_is g.After-common_divisor-shared)

@@ -9,13 +9,18 @@ use Rattle.it_fraction.proofs.ProductLemmas.{product_top, product_bottom, produc
 use Rattle.it_fraction.proofs.products.parts_product.Goals as goal
 use Rattle.it_fraction.proofs.products.parts_product.Goals.{After-signed_quotient-right, In_ok-top, After-quotient-2}
 
-product_is : (c : After-signed_quotient-right) → c.signed_quotient-left.result *ℤ c.signed_quotient-right.result ≡ product_top c.args.a c.args.b c.args.c c.args.d
+product_is : (c : After-signed_quotient-right) → c.signed_quotient-left.result *ℤ c.signed_quotient-right.result
+    ≡ product_top c.args.a c.args.b c.args.c c.args.d
 product_is c =
     let fa : FitsSigned w128 c.args.a = c.ranges.a in
     let fc : FitsSigned w128 c.args.c = c.ranges.c in
     ap₂ (λ x y. x *ℤ y)
-    (simp to_z-of_z at c.signed_quotient-left.ensures ∙ ap (int_quotient c.args.a) (c.common_divisor-left_shared.ensures.value ∙ ap (λ n. gcd n c.args.d) (simp to_z-of_z at c.unsigned_abs.ensures.value)))
-    (simp to_z-of_z at c.signed_quotient-right.ensures ∙ ap (int_quotient c.args.c) (c.common_divisor-right_shared.ensures.value ∙ ap (λ n. gcd n c.args.b) (simp to_z-of_z at c.unsigned_abs-2.ensures.value)))
+    (simp to_z-of_z at c.signed_quotient-left.ensures
+    ∙ ap (int_quotient c.args.a) (c.common_divisor-left_shared.ensures.value
+    ∙ ap (λ n. gcd n c.args.d) (simp to_z-of_z at c.unsigned_abs.ensures.value)))
+    (simp to_z-of_z at c.signed_quotient-right.ensures
+    ∙ ap (int_quotient c.args.c) (c.common_divisor-right_shared.ensures.value
+    ∙ ap (λ n. gcd n c.args.b) (simp to_z-of_z at c.unsigned_abs-2.ensures.value)))
 
 top_is : (c : In_ok-top) → c.in_ok-top.top ≡ c.signed_quotient-left.result *ℤ c.signed_quotient-right.result
 top_is c =
@@ -28,8 +33,10 @@ rest_is c =
     let fa : FitsSigned w128 c.args.a = c.ranges.a in
     let fc : FitsSigned w128 c.args.c = c.ranges.c in
     ap₂ (λ m n. m * n)
-    (c.quotient.ensures ∙ ap (λ n. c.args.b / n) (c.common_divisor-right_shared.ensures.value ∙ ap (λ n. gcd n c.args.b) (simp to_z-of_z at c.unsigned_abs-2.ensures.value)))
-    (c.quotient-2.ensures ∙ ap (λ n. c.args.d / n) (c.common_divisor-left_shared.ensures.value ∙ ap (λ n. gcd n c.args.d) (simp to_z-of_z at c.unsigned_abs.ensures.value)))
+    (c.quotient.ensures ∙ ap (λ n. c.args.b / n) (c.common_divisor-right_shared.ensures.value
+    ∙ ap (λ n. gcd n c.args.b) (simp to_z-of_z at c.unsigned_abs-2.ensures.value)))
+    (c.quotient-2.ensures ∙ ap (λ n. c.args.d / n) (c.common_divisor-left_shared.ensures.value
+    ∙ ap (λ n. gcd n c.args.d) (simp to_z-of_z at c.unsigned_abs.ensures.value)))
 
 pub returns-in_err-top : goal.returns-in_err-top
 returns-in_err-top c =
@@ -37,7 +44,8 @@ returns-in_err-top c =
     let g : FitsSigned w128 c.signed_quotient-right.result = search rules in
     let n = product-narrow c.args.a c.args.b c.args.c c.args.d c.requires.b_some c.requires.d_some c.requires.left c.requires.right in
     OkIff-err _ _ _ c.from_residual.ensures.0
-    (λ (fit : IsNarrow (quotient (c.args.a *ℤ c.args.c) (c.args.b * c.args.d))). c.in_err-top.ensures (simp to_z-of_z (rw (product_is (goal.at.returns-in_err-top c).After-signed_quotient-right) (n.0 fit).0)))
+    (λ (fit : IsNarrow (quotient (c.args.a *ℤ c.args.c) (c.args.b * c.args.d))). c.in_err-top.ensures
+    (simp to_z-of_z (rw (product_is (goal.at.returns-in_err-top c).After-signed_quotient-right) (n.0 fit).0)))
 
 pub returns-in_err-bottom : goal.returns-in_err-bottom
 returns-in_err-bottom c =
@@ -65,5 +73,6 @@ returns c =
     let bottom = c.in_ok-bottom.ensures.1 ∙ rest_is g.After-quotient-2 in
     let n = product-narrow c.args.a c.args.b c.args.c c.args.d c.requires.b_some c.requires.d_some c.requires.left c.requires.right in (
       n.1 (rw (← top, c.in_ok-top.ensures.1) c.in_ok-top.ensures.0, rw (← bottom, c.in_ok-bottom.ensures.1) c.in_ok-bottom.ensures.0),
-      (simp to_z-of_z at c.in_lowest_terms.ensures) ∙ ap₂ quotient top bottom ∙ product-is c.args.a c.args.b c.args.c c.args.d c.requires.b_some c.requires.d_some c.requires.left c.requires.right,
+      (simp to_z-of_z at c.in_lowest_terms.ensures) ∙ ap₂ quotient top bottom
+          ∙ product-is c.args.a c.args.b c.args.c c.args.d c.requires.b_some c.requires.d_some c.requires.left c.requires.right,
     )

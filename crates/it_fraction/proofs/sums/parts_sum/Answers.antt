@@ -9,7 +9,8 @@ use Rattle.it_fraction.proofs.SumLemmas.{AreSteps, AreParts, steps-parts, steps-
 use Rattle.it_fraction.proofs.sums.parts_sum.Goals as goal
 use Rattle.it_fraction.proofs.sums.parts_sum.Goals.{After-common_divisor-rest, After-quotient, In_ok-bottom, After-signed_quotient}
 
-steps : (c : After-common_divisor-rest) → AreSteps c.args.a c.args.b c.args.c c.args.d c.in_ok-left.left c.in_ok-right.right c.in_ok-total.total c.common_divisor-rest.result
+steps : (c : After-common_divisor-rest) → AreSteps c.args.a c.args.b c.args.c c.args.d c.in_ok-left.left c.in_ok-right.right
+    c.in_ok-total.total c.common_divisor-rest.result
 steps c =
     let fa : FitsSigned w128 c.args.a = c.ranges.a in
     let fc : FitsSigned w128 c.args.c = c.ranges.c in
@@ -21,11 +22,13 @@ steps c =
       left_is = rw (← shared, ← c.quotient-left_factor.ensures) (simp to_z-of_z at c.in_ok-left.ensures.1);
       right_is = rw (← shared, ← c.quotient-right_factor.ensures) (simp to_z-of_z at c.in_ok-right.ensures.1);
       sum_is = simp to_z-of_z at c.in_ok-total.ensures.1;
-      rest_is = rw (← shared) (c.common_divisor-rest.ensures.value ∙ ap (λ n. gcd n c.common_divisor-shared.result) (simp to_z-of_z at c.unsigned_abs.ensures.value));
+      rest_is = rw (← shared) (c.common_divisor-rest.ensures.value ∙ ap (λ n. gcd n c.common_divisor-shared.result)
+          (simp to_z-of_z at c.unsigned_abs.ensures.value));
     }
 
 -- the denominator that is formed
-formed_is : (c : After-quotient) → c.quotient-right_factor.result * c.quotient.result ≡ (c.args.b / gcd c.args.b c.args.d) * (c.args.d / c.common_divisor-rest.result)
+formed_is : (c : After-quotient) → c.quotient-right_factor.result * c.quotient.result
+    ≡ (c.args.b / gcd c.args.b c.args.d) * (c.args.d / c.common_divisor-rest.result)
 formed_is c = ap₂ (λ m n. m * n) (c.quotient-right_factor.ensures ∙ ap (λ n. c.args.b / n) c.common_divisor-shared.ensures.value) c.quotient.ensures
 
 total_within : (c : After-common_divisor-rest) → IsWithin c.in_ok-total.total
@@ -42,13 +45,15 @@ parts c s e = steps-parts _ _ _ _ _ _ _ _ _ s e c.requires.b_some c.requires.d_s
 pub returns-in_err-bottom : goal.returns-in_err-bottom
 returns-in_err-bottom c =
     let g = goal.at.returns-in_err-bottom c in
-    OkIff-err _ _ _ c.from_residual-in_err-bottom.ensures.0 (λ fit. c.in_err-bottom.ensures (rw (formed_is g.After-quotient) (fit-bottom _ _ _ _ _ _ _ _ (steps g.After-common_divisor-rest) fit)))
+    OkIff-err _ _ _ c.from_residual-in_err-bottom.ensures.0 (λ fit. c.in_err-bottom.ensures
+    (rw (formed_is g.After-quotient) (fit-bottom _ _ _ _ _ _ _ _ (steps g.After-common_divisor-rest) fit)))
 
 pub in_lowest_terms-requires-clause-top_within : goal.in_lowest_terms-requires-clause-top_within
 in_lowest_terms-requires-clause-top_within c =
     let g = goal.at.in_lowest_terms-requires-clause-top_within c in
     let f : FitsSigned w128 c.signed_quotient.result = search rules in
-    simp to_z-of_z (rw (top_is g.After-signed_quotient) (over-within c.in_ok-total.total c.common_divisor-rest.result (total_within g.After-common_divisor-rest)))
+    simp to_z-of_z (rw (top_is g.After-signed_quotient) (over-within c.in_ok-total.total c.common_divisor-rest.result
+    (total_within g.After-common_divisor-rest)))
 
 pub in_lowest_terms-requires-clause-some : goal.in_lowest_terms-requires-clause-some
 in_lowest_terms-requires-clause-some c =
@@ -59,7 +64,8 @@ pub in_lowest_terms-requires-clause-lowest : goal.in_lowest_terms-requires-claus
 in_lowest_terms-requires-clause-lowest c =
     let g = goal.at.in_lowest_terms-requires-clause-lowest c in
     let f : FitsSigned w128 c.signed_quotient.result = search rules in
-    simp to_z-of_z (rw (top_is g.After-signed_quotient) (parts g.In_ok-bottom (steps g.After-common_divisor-rest) (c.in_ok-bottom.ensures.1 ∙ formed_is g.After-quotient)).lowest)
+    simp to_z-of_z (rw (top_is g.After-signed_quotient) (parts g.In_ok-bottom (steps g.After-common_divisor-rest)
+    (c.in_ok-bottom.ensures.1 ∙ formed_is g.After-quotient)).lowest)
 
 pub returns : goal.returns
 returns c =
@@ -69,5 +75,6 @@ returns c =
     let e = c.in_ok-bottom.ensures.1 ∙ formed_is g.After-quotient in (
       steps-fit _ _ _ _ _ _ _ _ _ s e (rw c.in_ok-left.ensures.1 c.in_ok-left.ensures.0) (rw c.in_ok-right.ensures.1 c.in_ok-right.ensures.0)
           (total_within g.After-common_divisor-rest) (rw c.in_ok-bottom.ensures.1 c.in_ok-bottom.ensures.0),
-      (simp to_z-of_z at c.in_lowest_terms.ensures) ∙ ap (λ n. quotient n c.in_ok-bottom.bottom) (top_is g.After-signed_quotient) ∙ (parts g.In_ok-bottom s e).sum_is,
+      (simp to_z-of_z at c.in_lowest_terms.ensures) ∙ ap (λ n. quotient n c.in_ok-bottom.bottom) (top_is g.After-signed_quotient)
+          ∙ (parts g.In_ok-bottom s e).sum_is,
     )

@@ -9,5 +9,6 @@ returns-clause-value c =
     let fits : ValueFits c.args.row.now (point_of c.args.ray.now) = search rules in
     let is : c.in_ok-at_ray.at_ray ≡ value c.args.row.now (point_of c.args.ray.now) = search rules in
     let short : FitsSigned w128 c.in_ok-at_ray.at_ray = search rules in
-    turned_fits (value c.args.row.now (point_of c.args.ray.now)) c.in_ok-at_ray.at_ray (ValueFits c.args.row.now (point_of c.args.ray.now)) c.difference.result is fits
+    turned_fits (value c.args.row.now (point_of c.args.ray.now)) c.in_ok-at_ray.at_ray
+    (ValueFits c.args.row.now (point_of c.args.ray.now)) c.difference.result is fits
     (value_within c.args.row.now (point_of c.args.ray.now) fits) (rw (to_z-of_z short) at c.difference.ensures)

@@ -5,4 +5,5 @@ use Rattle.it_lift.proofs.EmptySteps.{IsEvening}
 use Rattle.it_lift.proofs.excesses.empty_excess.Given as goal
 
 abbrev pub invariant-loop-number : goal.invariant-loop-number
-invariant-loop-number l = IsEvening l.dependences.space.variables l.dependences.list (value l.target) (generators_of l.problem) (certificate_view l.collapsed) l.number l.total
+invariant-loop-number l = IsEvening l.dependences.space.variables l.dependences.list (value l.target) (generators_of l.problem)
+    (certificate_view l.collapsed) l.number l.total

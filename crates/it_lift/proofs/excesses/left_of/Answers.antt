@@ -16,7 +16,8 @@ returns-in_err-left c =
     let coefficient_fits : FitsSigned w128 c.coefficient_at_set.result = search rules in
     let whole_fits : FitsSigned w128 c.args.whole = c.ranges.whole in
     let wide = simp to_z-of_z at c.in_err-left.ensures in
-    let stops = falling-stops items (λ i. (generators_of c.args.problem.now).form i (one_at c.args.set)) c.args.whole i (to_z w128 c.loop-index.left-bits) c.coefficient_at_set.result w below
+    let stops = falling-stops items (λ i. (generators_of c.args.problem.now).form i (one_at c.args.set)) c.args.whole i
+    (to_z w128 c.loop-index.left-bits) c.coefficient_at_set.result w below
     (get_or_default items i (0, pos 0) w below) c.coefficient_at_set.ensures wide (simp to_z-of_z at c.loop-index.invariant) in
     search (rules, stops)
 
@@ -31,5 +32,6 @@ loop-index-preserved c =
     let whole_fits : FitsSigned w128 c.args.whole = c.ranges.whole in
     let left_fits : FitsSigned w128 c.in_ok-left.left = search rules in
     let step = simp to_z-of_z at c.in_ok-left.ensures in
-    rw (to_z-of_z left_fits, to_z-of_z whole_fits) (falling-more items (λ i. (generators_of c.args.problem.now).form i (one_at c.args.set)) c.args.whole i (to_z w128 c.loop-index.left-bits) c.in_ok-left.left c.coefficient_at_set.result w below
+    rw (to_z-of_z left_fits, to_z-of_z whole_fits) (falling-more items (λ i. (generators_of c.args.problem.now).form i (one_at c.args.set))
+    c.args.whole i (to_z w128 c.loop-index.left-bits) c.in_ok-left.left c.coefficient_at_set.result w below
     (get_or_default items i (0, pos 0) w below) c.coefficient_at_set.ensures step.0 step.1 (simp to_z-of_z at c.loop-index.invariant))

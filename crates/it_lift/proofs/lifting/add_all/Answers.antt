@@ -20,7 +20,8 @@ returns-in_err-add_moves-clause-wide c =
     let f : FitsSigned w128 c.in_ok-empty.empty = search rules in
     let is = first_found n ds e c.empty.result c.in_ok-empty.empty c.empty.ensures c.in_ok-empty.ensures.value in
     let wide = simp to_z-of_z at c.in_err-add_moves.ensures.wide in
-    let stops = where_fault wide (λ w. first-stops (moves_of n ds e) n c.args.sums.now (EmptyFits n ds (value c.args.target.now) (generators_of c.args.problem.now) (certificate_view c.args.collapsed.now))
+    let stops = where_fault wide (λ w. first-stops (moves_of n ds e) n c.args.sums.now
+    (EmptyFits n ds (value c.args.target.now) (generators_of c.args.problem.now) (certificate_view c.args.collapsed.now))
     (subst (λ (ms : List (ℕ × ℤ)). ¬ (WeightSumsFit (number_at c.args.sums.now) ms)) is w)) in
     search (rules, stops)
 
@@ -32,7 +33,8 @@ returns-in_err-add_others-clause-wide c =
     let f : FitsSigned w128 c.in_ok-empty.empty = search rules in
     let is = first_found n ds e c.empty.result c.in_ok-empty.empty c.empty.ensures c.in_ok-empty.ensures.value in
     let added = simp to_z-of_z at c.in_ok-add_moves.ensures.added in
-    let stops = where_fault c.in_err-add_others.ensures.wide (later-stops (moves_of n ds e) n c.args.sums.now c.add_moves.new.sums (EmptyFits n ds (value c.args.target.now) (generators_of c.args.problem.now) (certificate_view c.args.collapsed.now))
+    let stops = where_fault c.in_err-add_others.ensures.wide (later-stops (moves_of n ds e) n c.args.sums.now c.add_moves.new.sums
+    (EmptyFits n ds (value c.args.target.now) (generators_of c.args.problem.now) (certificate_view c.args.collapsed.now))
     (subst (AreWeightsAdded c.args.sums.now c.add_moves.new.sums) is added)) in
     search (rules, stops)
 
@@ -44,4 +46,5 @@ returns-clause-added c =
     let f : FitsSigned w128 c.in_ok-empty.empty = search rules in
     let is = first_found n ds e c.empty.result c.in_ok-empty.empty c.empty.ensures c.in_ok-empty.ensures.value in
     let added = simp to_z-of_z at c.in_ok-add_moves.ensures.added in
-    all-added (moves_of n ds e) n c.args.sums.now c.add_moves.new.sums c.add_others.new.sums (subst (AreWeightsAdded c.args.sums.now c.add_moves.new.sums) is added) c.in_ok-add_others.ensures.added
+    all-added (moves_of n ds e) n c.args.sums.now c.add_moves.new.sums c.add_others.new.sums
+    (subst (AreWeightsAdded c.args.sums.now c.add_moves.new.sums) is added) c.in_ok-add_others.ensures.added

@@ -19,11 +19,13 @@ add_mutual-requires-clause-a_apart_from_b c =
 
 pub add_mutual-requires-clause-a_apart_from_c : goal.add_mutual-requires-clause-a_apart_from_c
 add_mutual-requires-clause-a_apart_from_c c =
-    rw (less_found c.args.by.to c.args.set c.minus.result c.minus.ensures.rest, c.meet-shared.ensures) (less_meet_right c.args.n c.args.by.to c.args.set c.requires.to_below c.requires.below)
+    rw (less_found c.args.by.to c.args.set c.minus.result c.minus.ensures.rest, c.meet-shared.ensures)
+    (less_meet_right c.args.n c.args.by.to c.args.set c.requires.to_below c.requires.below)
 
 pub add_mutual-requires-clause-b_apart_from_c : goal.add_mutual-requires-clause-b_apart_from_c
 add_mutual-requires-clause-b_apart_from_c c =
-    rw (less_found c.args.set c.args.by.to c.minus-2.result c.minus-2.ensures.rest, c.meet-shared.ensures) (less_meet c.args.n c.args.set c.args.by.to c.requires.below c.requires.to_below)
+    rw (less_found c.args.set c.args.by.to c.minus-2.result c.minus-2.ensures.rest, c.meet-shared.ensures)
+    (less_meet c.args.n c.args.set c.args.by.to c.requires.below c.requires.to_below)
 
 pub add_conditional-requires-clause-disjoint : goal.add_conditional-requires-clause-disjoint
 add_conditional-requires-clause-disjoint c =
@@ -45,9 +47,11 @@ returns-in_err-add_mutual-clause-wide c =
     let v : ℕ = c.minus-2.result in
     let w : ℕ = c.meet-shared.result in
     let z : ℕ = set_difference w c.args.by.from in
-    let parts = turn_parts n x c.args.set c.args.by u v w z (less_found c.args.by.to c.args.set u c.minus.ensures.rest) (less_found c.args.set c.args.by.to v c.minus-2.ensures.rest) c.meet-shared.ensures refl in
+    let parts = turn_parts n x c.args.set c.args.by u v w z (less_found c.args.by.to c.args.set u c.minus.ensures.rest)
+    (less_found c.args.set c.args.by.to v c.minus-2.ensures.rest) c.meet-shared.ensures refl in
     let stops = where_fault c.in_err-add_mutual.ensures.wide
-    (first_stops c.args.sums.now (mutual_part n x u v w) (conditional_part n x z c.args.by.from) ((c.args.by.generator, signed_value (not c.args.by.negated) x) ∷ []) (turn_moves n x (c.args.set, c.args.by)) parts) in
+    (first_stops c.args.sums.now (mutual_part n x u v w) (conditional_part n x z c.args.by.from)
+    ((c.args.by.generator, signed_value (not c.args.by.negated) x) ∷ []) (turn_moves n x (c.args.set, c.args.by)) parts) in
     search (rules, stops)
 
 pub returns-in_err-add_conditional-clause-wide : goal.returns-in_err-add_conditional-clause-wide
@@ -58,10 +62,13 @@ returns-in_err-add_conditional-clause-wide c =
     let v : ℕ = c.minus-2.result in
     let w : ℕ = c.meet-shared.result in
     let z : ℕ = c.minus-3.result in
-    let parts = turn_parts n x c.args.set c.args.by u v w z (less_found c.args.by.to c.args.set u c.minus.ensures.rest) (less_found c.args.set c.args.by.to v c.minus-2.ensures.rest) c.meet-shared.ensures
+    let parts = turn_parts n x c.args.set c.args.by u v w z (less_found c.args.by.to c.args.set u c.minus.ensures.rest)
+    (less_found c.args.set c.args.by.to v c.minus-2.ensures.rest) c.meet-shared.ensures
     (less_found w c.args.by.from z c.minus-3.ensures.rest) in
     let stops = where_fault c.in_err-add_conditional.ensures.wide
-    (second_stops c.args.sums.now c.add_mutual.new.sums (mutual_part n x u v w) (conditional_part n x z c.args.by.from) ((c.args.by.generator, signed_value (not c.args.by.negated) x) ∷ []) (turn_moves n x (c.args.set, c.args.by)) parts c.in_ok-add_mutual.ensures.added) in
+    (second_stops c.args.sums.now c.add_mutual.new.sums (mutual_part n x u v w) (conditional_part n x z c.args.by.from)
+    ((c.args.by.generator, signed_value (not c.args.by.negated) x) ∷ [])
+    (turn_moves n x (c.args.set, c.args.by)) parts c.in_ok-add_mutual.ensures.added) in
     search (rules, stops)
 
 pub returns-in_err-add-clause-wide : goal.returns-in_err-add-clause-wide
@@ -72,9 +79,11 @@ returns-in_err-add-clause-wide c =
     let v : ℕ = c.minus-2.result in
     let w : ℕ = c.meet-shared.result in
     let z : ℕ = c.minus-3.result in
-    let parts = turn_parts n x c.args.set c.args.by u v w z (less_found c.args.by.to c.args.set u c.minus.ensures.rest) (less_found c.args.set c.args.by.to v c.minus-2.ensures.rest) c.meet-shared.ensures
+    let parts = turn_parts n x c.args.set c.args.by u v w z (less_found c.args.by.to c.args.set u c.minus.ensures.rest)
+    (less_found c.args.set c.args.by.to v c.minus-2.ensures.rest) c.meet-shared.ensures
     (less_found w c.args.by.from z c.minus-3.ensures.rest) in
-    let stops = third_stops c.args.sums.now c.add_mutual.new.sums c.add_conditional.new.sums (mutual_part n x u v w) (conditional_part n x z c.args.by.from) ((c.args.by.generator, signed_value (not c.args.by.negated) x) ∷ [])
+    let stops = third_stops c.args.sums.now c.add_mutual.new.sums c.add_conditional.new.sums (mutual_part n x u v w)
+    (conditional_part n x z c.args.by.from) ((c.args.by.generator, signed_value (not c.args.by.negated) x) ∷ [])
     (turn_moves n x (c.args.set, c.args.by)) parts c.in_ok-add_mutual.ensures.added c.in_ok-add_conditional.ensures.added c.in_err-add.ensures.wide in
     search (rules, stops)
 
@@ -86,7 +95,9 @@ returns-clause-added c =
     let v : ℕ = c.minus-2.result in
     let w : ℕ = c.meet-shared.result in
     let z : ℕ = c.minus-3.result in
-    let parts = turn_parts n x c.args.set c.args.by u v w z (less_found c.args.by.to c.args.set u c.minus.ensures.rest) (less_found c.args.set c.args.by.to v c.minus-2.ensures.rest) c.meet-shared.ensures
+    let parts = turn_parts n x c.args.set c.args.by u v w z (less_found c.args.by.to c.args.set u c.minus.ensures.rest)
+    (less_found c.args.set c.args.by.to v c.minus-2.ensures.rest) c.meet-shared.ensures
     (less_found w c.args.by.from z c.minus-3.ensures.rest) in
-    all_added c.args.sums.now c.add_mutual.new.sums c.add_conditional.new.sums c.add.new.self (mutual_part n x u v w) (conditional_part n x z c.args.by.from) ((c.args.by.generator, signed_value (not c.args.by.negated) x) ∷ [])
+    all_added c.args.sums.now c.add_mutual.new.sums c.add_conditional.new.sums c.add.new.self (mutual_part n x u v w)
+    (conditional_part n x z c.args.by.from) ((c.args.by.generator, signed_value (not c.args.by.negated) x) ∷ [])
     (turn_moves n x (c.args.set, c.args.by)) parts c.in_ok-add_mutual.ensures.added c.in_ok-add_conditional.ensures.added c.in_ok-add.ensures.added

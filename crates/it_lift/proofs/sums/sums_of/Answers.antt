@@ -7,7 +7,10 @@ use Rattle.it_lift.proofs.sums.sums_of.Goals as goal
 use mir.Syntax.{w128}
 
 pub loop-index-init : goal.loop-index-init
-loop-index-init c = (ap length c.in_ok-sums.ensures ∙ length-replicate c.args.count (pos 0), (λ i. ap (λ xs. number_at xs i) c.in_ok-sums.ensures ∙ at-zeros c.args.count i))
+loop-index-init c = (
+  ap length c.in_ok-sums.ensures ∙ length-replicate c.args.count (pos 0),
+  (λ i. ap (λ xs. number_at xs i) c.in_ok-sums.ensures ∙ at-zeros c.args.count i),
+)
 
 pub set-requires : goal.set-requires
 set-requires c =

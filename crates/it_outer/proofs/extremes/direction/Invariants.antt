@@ -6,6 +6,7 @@ use Rattle.it_outer.proofs.extremes.direction.Given as goal
 
 abbrev pub invariant-loop-at : goal.invariant-loop-at
 invariant-loop-at l = record {
-  terms : l.terms.items ++ flat_map (λ c. single_term c (point_of l.point c)) (drop l.at-index l.kept) ≡ flat_map (λ c. single_term c (point_of l.point c)) l.kept;
+  terms : l.terms.items ++ flat_map (λ c. single_term c (point_of l.point c)) (drop l.at-index l.kept)
+      ≡ flat_map (λ c. single_term c (point_of l.point c)) l.kept;
   within : AllWithin (λ c. IsWithin (point_of l.point c)) l.kept 0 l.at-index;
 }

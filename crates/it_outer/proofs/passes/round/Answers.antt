@@ -15,22 +15,30 @@ visit-requires-clause-rows c = rw c.as_slice.ensures.value (hull_over (search_of
 
 pub returns-in-Proved-clause-ends : goal.returns-in-Proved-clause-ends
 returns-in-Proved-clause-ends c =
-    let e : VisitEnds c.args.frame.now.problem.now c.args.frame.now.limits.effort c.args.hull.rows.items (visit_view c.in_ok-proofs.field-0) = rw (← c.as_slice.ensures.value) c.in_ok-proofs.ensures.ends in
+    let e : VisitEnds c.args.frame.now.problem.now c.args.frame.now.limits.effort c.args.hull.rows.items
+    (visit_view c.in_ok-proofs.field-0) = rw (← c.as_slice.ensures.value) c.in_ok-proofs.ensures.ends in
     visited (search_of c.args.frame.now) c.args.hull.rows.items c.args.rays.items c.in_ok-proofs.field-0 (visits.Proved c.in-Proved.proofs)
     (rounds.Ends (ends.Bounds (record { hull = c.args.hull; proofs = c.in-Proved.proofs; rays = c.args.rays }))) c.in-Proved.is e (λ more end r. r)
 
 pub returns-in-Refuted-clause-ends : goal.returns-in-Refuted-clause-ends
 returns-in-Refuted-clause-ends c =
-    let e : VisitEnds c.args.frame.now.problem.now c.args.frame.now.limits.effort c.args.hull.rows.items (visit_view c.in_ok-proofs.field-0) = rw (← c.as_slice.ensures.value) c.in_ok-proofs.ensures.ends in
-    refuted_round (search_of c.args.frame.now) c.args.hull.rows.items c.args.rays.items c.in_ok-proofs.field-0 c.in-Refuted.point c.with_point.result c.in-Refuted.is e c.with_point.ensures.ends
+    let e : VisitEnds c.args.frame.now.problem.now c.args.frame.now.limits.effort c.args.hull.rows.items
+    (visit_view c.in_ok-proofs.field-0) = rw (← c.as_slice.ensures.value) c.in_ok-proofs.ensures.ends in
+    refuted_round (search_of c.args.frame.now) c.args.hull.rows.items c.args.rays.items c.in_ok-proofs.field-0 c.in-Refuted.point
+    c.with_point.result c.in-Refuted.is e c.with_point.ensures.ends
 
 pub returns-in-Left-clause-ends : goal.returns-in-Left-clause-ends
 returns-in-Left-clause-ends c =
-    let e : VisitEnds c.args.frame.now.problem.now c.args.frame.now.limits.effort c.args.hull.rows.items (visit_view c.in_ok-proofs.field-0) = rw (← c.as_slice.ensures.value) c.in_ok-proofs.ensures.ends in
-    visited (search_of c.args.frame.now) c.args.hull.rows.items c.args.rays.items c.in_ok-proofs.field-0 (visits.Left c.in-Left.row c.in-Left.cause) (rounds.Ends (ends.Undecided (causes.Run c.in-Left.row c.in-Left.cause))) c.in-Left.is e (λ more end r. r)
+    let e : VisitEnds c.args.frame.now.problem.now c.args.frame.now.limits.effort c.args.hull.rows.items
+    (visit_view c.in_ok-proofs.field-0) = rw (← c.as_slice.ensures.value) c.in_ok-proofs.ensures.ends in
+    visited (search_of c.args.frame.now) c.args.hull.rows.items c.args.rays.items c.in_ok-proofs.field-0
+    (visits.Left c.in-Left.row c.in-Left.cause) (rounds.Ends (ends.Undecided (causes.Run c.in-Left.row c.in-Left.cause))) c.in-Left.is e
+    (λ more end r. r)
 
 pub with_point-requires-clause-point : goal.with_point-requires-clause-point
 with_point-requires-clause-point c =
-    let e : VisitEnds c.args.frame.now.problem.now c.args.frame.now.limits.effort c.args.hull.rows.items (visit_view c.in_ok-proofs.field-0) = rw (← c.as_slice.ensures.value) c.in_ok-proofs.ensures.ends in
+    let e : VisitEnds c.args.frame.now.problem.now c.args.frame.now.limits.effort c.args.hull.rows.items
+    (visit_view c.in_ok-proofs.field-0) = rw (← c.as_slice.ensures.value) c.in_ok-proofs.ensures.ends in
     subst (λ (v : Visit). IsVisit (search_of c.args.frame.now) v) c.in-Refuted.is
-    (visit_is (search_of c.args.frame.now) c.args.hull.rows.items c.in_ok-proofs.field-0 c.requires.frame.search.problem (hull_over (search_of c.args.frame.now) c.requires.frame.search c.args.hull c.requires.hull) e)
+    (visit_is (search_of c.args.frame.now) c.args.hull.rows.items c.in_ok-proofs.field-0 c.requires.frame.search.problem
+    (hull_over (search_of c.args.frame.now) c.requires.frame.search c.args.hull c.requires.hull) e)

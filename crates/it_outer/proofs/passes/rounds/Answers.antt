@@ -15,7 +15,8 @@ loop-count-init c =
 pub loop-count-preserved : goal.loop-count-preserved
 loop-count-preserved c =
     let kept = round_kept (search_of c.args.frame.now) c.in_ok-next.field-0 c.in-Goes.next c.in-Goes.found c.in-Goes.is c.in_ok-next.ensures.round in record {
-      leads = round_goes (search_of c.args.frame.now) c.args.frame.now.limits.rays c.args.hull.rows.items c.args.rays.items c.loop-count.hull.rows.items c.loop-count.rays.items c.loop-count.count c.in_ok-next.field-0 c.in-Goes.next c.in-Goes.found
+      leads = round_goes (search_of c.args.frame.now) c.args.frame.now.limits.rays c.args.hull.rows.items c.args.rays.items
+          c.loop-count.hull.rows.items c.loop-count.rays.items c.loop-count.count c.in_ok-next.field-0 c.in-Goes.next c.in-Goes.found
           c.loop-count-test.true c.in_ok-next.ensures.ends c.in-Goes.is c.loop-count.invariant.leads;
       hull = kept.0;
       rays = kept.1;
@@ -24,14 +25,16 @@ loop-count-preserved c =
 
 pub returns-in-Ends : goal.returns-in-Ends
 returns-in-Ends c = record {
-  ends = round_ends (search_of c.args.frame.now) c.args.frame.now.limits.rays c.args.hull.rows.items c.args.rays.items c.loop-count.hull.rows.items c.loop-count.rays.items c.loop-count.count c.in_ok-next.field-0 c.in-Ends.end
+  ends = round_ends (search_of c.args.frame.now) c.args.frame.now.limits.rays c.args.hull.rows.items c.args.rays.items
+      c.loop-count.hull.rows.items c.loop-count.rays.items c.loop-count.count c.in_ok-next.field-0 c.in-Ends.end
       c.loop-count-test.true c.in_ok-next.ensures.ends c.in-Ends.is c.loop-count.invariant.leads;
   outcomes = c.in_ok-next.ensures.outcomes;
 }
 
 pub returns : goal.returns
 returns c = record {
-  ends = last_result (search_of c.args.frame.now) c.args.frame.now.limits.rays c.args.hull.rows.items c.args.rays.items c.loop-count.hull.rows.items c.loop-count.rays.items c.loop-count.count c.last_round.result
+  ends = last_result (search_of c.args.frame.now) c.args.frame.now.limits.rays c.args.hull.rows.items c.args.rays.items
+      c.loop-count.hull.rows.items c.loop-count.rays.items c.loop-count.count c.last_round.result
       c.loop-count-test.false c.last_round.ensures.ends c.loop-count.invariant.leads;
   outcomes = c.last_round.ensures.outcomes;
 }

@@ -9,10 +9,13 @@ use Rattle.it_outer.proofs.search.second.Goals as goal
 
 pub second_pass-requires : goal.second_pass-requires
 second_pass-requires c =
-    let first : PassWithEnds (search_of c.args.frame.now) [] (Bounds c.in-Bounds.bounds.hull.rows.items (map certificate_view c.in-Bounds.bounds.proofs.items) c.in-Bounds.bounds.rays.items) =
+    let first : PassWithEnds (search_of c.args.frame.now) [] (Bounds c.in-Bounds.bounds.hull.rows.items
+    (map certificate_view c.in-Bounds.bounds.proofs.items) c.in-Bounds.bounds.rays.items) =
     subst (λ (o : Outer). PassWithEnds (search_of c.args.frame.now) [] (outer_view o)) c.in-Bounds.is c.requires.first in record {
       frame = c.requires.frame;
       outcomes = c.requires.outcomes;
-      rows = bounds_over (search_of c.args.frame.now) c.requires.frame.search c.in-Bounds.bounds.hull.rows.items (map certificate_view c.in-Bounds.bounds.proofs.items) c.in-Bounds.bounds.rays.items first;
-      rays = bounds_rays (search_of c.args.frame.now) c.requires.frame.search c.in-Bounds.bounds.hull.rows.items (map certificate_view c.in-Bounds.bounds.proofs.items) c.in-Bounds.bounds.rays.items first;
+      rows = bounds_over (search_of c.args.frame.now) c.requires.frame.search c.in-Bounds.bounds.hull.rows.items
+          (map certificate_view c.in-Bounds.bounds.proofs.items) c.in-Bounds.bounds.rays.items first;
+      rays = bounds_rays (search_of c.args.frame.now) c.requires.frame.search c.in-Bounds.bounds.hull.rows.items
+          (map certificate_view c.in-Bounds.bounds.proofs.items) c.in-Bounds.bounds.rays.items first;
     }

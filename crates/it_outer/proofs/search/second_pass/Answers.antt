@@ -20,14 +20,22 @@ pub pass-requires-clause-rays : goal.pass-requires-clause-rays
 pass-requires-clause-rays c =
     let is : c.in-Ok.rays.items ≡ extreme_rays c.args.frame.now.kept.items c.args.first.now.hull.rows.items c.args.first.now.rays.items = search rules in
     subst (λ (rs : List (List ℤ)). All (λ values. length values ≡ size_of c.args.frame.now.problem.now.space) rs) (sym is)
-    (all_extreme (λ values. length values ≡ size_of c.args.frame.now.problem.now.space) c.args.frame.now.kept.items c.args.first.now.hull.rows.items c.args.first.now.rays.items c.requires.rays)
+    (all_extreme (λ values. length values ≡ size_of c.args.frame.now.problem.now.space) c.args.frame.now.kept.items
+    c.args.first.now.hull.rows.items c.args.first.now.rays.items c.requires.rays)
 
 pub returns-in-Ok : goal.returns-in-Ok
 returns-in-Ok c =
     let is : c.in-Ok.rays.items ≡ extreme_rays c.args.frame.now.kept.items c.args.first.now.hull.rows.items c.args.first.now.rays.items = search rules in
-    let fit : AllFit c.args.first.now.hull.rows.items c.args.first.now.rays.items = subst (λ (rs : List Terms). AllFit rs c.args.first.now.rays.items) c.as_slice-2.ensures.value (subst (λ (rs : List (List ℤ)). AllFit c.as_slice-2.result.now rs) c.as_slice-3.ensures.value c.in-Ok.ensures.fit) in
-    second_result (search_of c.args.frame.now) c.args.first.now.hull.rows.items c.args.first.now.rays.items c.in-Ok.rays.items c.pass.result is fit c.pass.ensures.ends
+    let fit : AllFit c.args.first.now.hull.rows.items c.args.first.now.rays.items = subst
+    (λ (rs : List Terms). AllFit rs c.args.first.now.rays.items) c.as_slice-2.ensures.value
+    (subst (λ (rs : List (List ℤ)). AllFit c.as_slice-2.result.now rs) c.as_slice-3.ensures.value c.in-Ok.ensures.fit) in
+    second_result (search_of c.args.frame.now) c.args.first.now.hull.rows.items c.args.first.now.rays.items c.in-Ok.rays.items c.pass.result
+    is fit c.pass.ensures.ends
 
 pub returns-in-Err-Wide : goal.returns-in-Err-Wide
 returns-in-Err-Wide c =
-    inl (second_wide c.args.first.now.hull.rows.items c.as_slice-2.result.now c.args.first.now.rays.items c.as_slice-3.result.now c.as_slice-2.ensures.value c.as_slice-3.ensures.value (c.in-Err-Wide.ensures.wide c.in-Err-Wide.field-0-is), refl)
+    inl (
+      second_wide c.args.first.now.hull.rows.items c.as_slice-2.result.now c.args.first.now.rays.items c.as_slice-3.result.now
+          c.as_slice-2.ensures.value c.as_slice-3.ensures.value (c.in-Err-Wide.ensures.wide c.in-Err-Wide.field-0-is),
+      refl,
+    )

@@ -16,10 +16,12 @@ loop-number-preserved c =
     let values = c.loop-number.values.items in
     let fits : FitsSigned w128 c.at.result = search rules in
     let items : c.push.new.self.items ≡ values ++ c.at.result ∷ [] = simp to_z-of_z at c.in_ok-push.ensures.items in
-    let same : c.at.result ≡ value_at c.args.table.now (union_of_images c.args.by.now c.loop-number.number) = c.at.ensures.value ∙ ap (value_at c.args.table.now) (c.union_of_images.ensures ∙ ap (union_of_images c.args.by.now) c.from_number.ensures) in
+    let same : c.at.result ≡ value_at c.args.table.now (union_of_images c.args.by.now c.loop-number.number) = c.at.ensures.value
+    ∙ ap (value_at c.args.table.now) (c.union_of_images.ensures ∙ ap (union_of_images c.args.by.now) c.from_number.ensures) in
     let within : IsWithin c.at.result = rw same (table_within c.args.table.now c.at.ensures.table (union_of_images c.args.by.now c.loop-number.number)) in (
       omega (arith, c.in_ok-push.ensures.len, ap length items),
       rw items (All-push IsWithin values c.at.result c.loop-number.invariant.1 within),
-      rw items (values-push values (λ s. value_at c.args.table.now (union_of_images c.args.by.now s)) c.loop-number.number c.at.result c.loop-number.invariant.0 c.loop-number.invariant.2 same),
+      rw items (values-push values (λ s. value_at c.args.table.now (union_of_images c.args.by.now s)) c.loop-number.number c.at.result
+          c.loop-number.invariant.0 c.loop-number.invariant.2 same),
       λ _. c.at.ensures.table,
     )

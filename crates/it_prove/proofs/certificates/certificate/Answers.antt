@@ -14,12 +14,23 @@ scale_is c = c.in_ok-scale.ensures.value.1 ∙ ap scale_of (c.as_slice.ensures.v
 pub terms-requires-clause-columns : goal.terms-requires-clause-columns
 terms-requires-clause-columns c =
     let n = length (columns (generators c.args.problem.now)) in
-    columns_below (2 ^ 32) n 0 c.args.weights.now (omega (arith, few_columns (generators c.args.problem.now), few_generators c.args.problem.now c.facts.ensures)) c.requires.ordered
+    columns_below (2 ^ 32) n 0 c.args.weights.now (omega (
+      arith,
+      few_columns
+          (generators c.args.problem.now),
+      few_generators c.args.problem.now c.facts.ensures,
+    )) c.requires.ordered
 
 pub new-row-requires : goal.new-row-requires
 new-row-requires c =
-    terms_canonical (length (columns (generators c.args.problem.now))) c.in_ok-scale.scale c.args.weights.now (scale_is (goal.at.new-row-requires c).In_ok-scale) c.requires.ordered c.in_ok-terms.field-0.items c.in_ok-terms.ensures.value c.in_ok-terms.ensures.fits
+    terms_canonical (length (columns (generators c.args.problem.now))) c.in_ok-scale.scale c.args.weights.now
+    (scale_is (goal.at.new-row-requires c).In_ok-scale) c.requires.ordered c.in_ok-terms.field-0.items c.in_ok-terms.ensures.value
+    c.in_ok-terms.ensures.fits
 
 pub generator_weights-requires : goal.generator_weights-requires
 generator_weights-requires c =
-    record { positive = terms_positive (length (columns (generators c.args.problem.now))) c.in_ok-scale.scale c.args.weights.now (scale_is (goal.at.generator_weights-requires c).In_ok-scale) c.requires.ordered c.new-row.result (c.new-row.ensures ∙ c.in_ok-terms.ensures.value) }
+    record {
+      positive = terms_positive (length (columns (generators c.args.problem.now))) c.in_ok-scale.scale c.args.weights.now
+          (scale_is (goal.at.generator_weights-requires c).In_ok-scale) c.requires.ordered c.new-row.result
+          (c.new-row.ensures ∙ c.in_ok-terms.ensures.value);
+    }

@@ -1,6 +1,6 @@
 use Rattle.std.proofs.Common.{◌++◌, List, [], arith, subst, sym}
 use Rattle.it_space.specs.declared.faults.RowFault.TheVariants.{Wide}
-use Rattle.it_space.specs.declared.problems.Kind.TheVariants.{Inequality}
+use Rattle.it_problems.specs.declared.problems.Kind.TheVariants.{Inequality}
 use Rattle.it_elemental.specs.Generators.{generators}
 use Rattle.it_closure.specs.declared.dependences.Dependence.{Dependence}
 use Rattle.it_closure.specs.Reading.{dependences_of}
@@ -14,7 +14,8 @@ loop-index-preserved c =
     let q = c.args.problem.now in
     columns_more_by q.space.variables (dependences_of q) (generators q) c.args.closed.now.dependences.list c.loop-index.index
     (c.args.closed.now.columns.items ++ c.loop-index.columns.items) (c.args.closed.now.columns.items ++ c.push_columns.new.columns.items)
-    c.requires.closed.list (omega (arith, c.generator_count-index-end.ensures, c.loop-index-test.true)) (c.in_ok-push_columns.ensures.added c.args.closed.now.columns.items) c.in_ok-push_columns.ensures.fits c.loop-index.invariant
+    c.requires.closed.list (omega (arith, c.generator_count-index-end.ensures, c.loop-index-test.true))
+    (c.in_ok-push_columns.ensures.added c.args.closed.now.columns.items) c.in_ok-push_columns.ensures.fits c.loop-index.invariant
 
 pub returns-clause-fits : goal.returns-clause-fits
 returns-clause-fits c =

@@ -5,4 +5,5 @@ use Rattle.it_prove.specs.ClosedProblems.{AreColumns}
 use Rattle.it_prove.proofs.closed.other_columns.Given as goal
 
 abbrev pub invariant-loop-index : goal.invariant-loop-index
-invariant-loop-index l = AreColumns l.problem.space.variables (dependences_of l.problem) (generators l.problem) l.index (l.closed.columns.items ++ l.columns.items)
+invariant-loop-index l = AreColumns l.problem.space.variables (dependences_of l.problem) (generators l.problem) l.index
+    (l.closed.columns.items ++ l.columns.items)

@@ -12,7 +12,9 @@ returns-clause-closed c =
     record {
       space = c.in_ok-dependences.ensures.space;
       list = c.in_ok-dependences.ensures.list;
-      coordinates = c.in_ok-coordinates.ensures ∙ rw c.space.ensures.value (ap (closed_coordinates q.space.variables q.space.rates) c.in_ok-dependences.ensures.list);
+      coordinates = c.in_ok-coordinates.ensures ∙ rw c.space.ensures.value
+          (ap (closed_coordinates q.space.variables q.space.rates) c.in_ok-dependences.ensures.list);
       few = omega arith;
-      columns = subst (AreColumns q.space.variables (dependences_of q) (generators q) 0) (sym c.new.ensures.items) (columns_start q.space.variables (dependences_of q) (generators q));
+      columns = subst (AreColumns q.space.variables (dependences_of q) (generators q) 0) (sym c.new.ensures.items)
+          (columns_start q.space.variables (dependences_of q) (generators q));
     }

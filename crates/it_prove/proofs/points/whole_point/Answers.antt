@@ -8,11 +8,16 @@ pub whole_row-requires-clause-rise : goal.whole_row-requires-clause-rise
 whole_row-requires-clause-rise c = places_rise c.args.problem.now c.args.coordinates.now c.facts.ensures c.requires.coordinates
 
 pub new-requires-clause-complete : goal.new-requires-clause-complete
-new-requires-clause-complete c = rw (c.in_ok-values.ensures, c.space.ensures.value) (spread_length c.args.dependences.now.space.variables c.args.dependences.now.list (size_of c.args.dependences.now.space) c.in_ok-row.row ∙ ap size_of c.requires.space)
+new-requires-clause-complete c = rw (c.in_ok-values.ensures, c.space.ensures.value)
+    (spread_length c.args.dependences.now.space.variables c.args.dependences.now.list (size_of c.args.dependences.now.space) c.in_ok-row.row
+    ∙ ap size_of c.requires.space)
 
 pub new-requires-clause-within : goal.new-requires-clause-within
-new-requires-clause-within c = subst (λ (xs : List ℤ). All IsWithin xs) (sym c.in_ok-values.ensures) (spread_within c.args.dependences.now.space.variables c.args.dependences.now.list (size_of c.args.dependences.now.space) c.in_ok-row.row c.in_ok-row.ensures.canonical)
+new-requires-clause-within c = subst (λ (xs : List ℤ). All IsWithin xs) (sym c.in_ok-values.ensures)
+    (spread_within c.args.dependences.now.space.variables c.args.dependences.now.list
+    (size_of c.args.dependences.now.space) c.in_ok-row.row c.in_ok-row.ensures.canonical)
 
 pub returns-clause-value : goal.returns-clause-value
-returns-clause-value c = point_spread c.args.problem.now c.args.dependences.now.space c.args.dependences.now.list c.args.coordinates.now c.args.point.now c.in_ok-row.row c.new.result
+returns-clause-value c = point_spread c.args.problem.now c.args.dependences.now.space c.args.dependences.now.list c.args.coordinates.now
+    c.args.point.now c.in_ok-row.row c.new.result
     c.requires.space c.requires.list c.requires.coordinates c.in_ok-row.ensures.value (c.new.ensures ∙ c.in_ok-values.ensures)

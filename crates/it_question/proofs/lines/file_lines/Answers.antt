@@ -11,6 +11,8 @@ pub loop-rest-preserved : goal.loop-rest-preserved
 loop-rest-preserved c = (
   omega arith,
   omega (arith, c.first_line.ensures.progress, c.loop-rest.invariant),
-  goes_on c.loop-rest.number (split_lines c.args.bytes.now) (split_lines c.first_line.result.1.now) c.first_line.result.0.now (map line_view c.loop-rest.lines.items) (map line_view c.add.new.lines.items)
-      (subst (λ (more : List _). GoOn c.loop-rest.number (split_lines c.args.bytes.now) more (map line_view c.loop-rest.lines.items)) c.first_line.ensures.split c.loop-rest.invariant.2) c.in_ok-add.ensures,
+  goes_on c.loop-rest.number (split_lines c.args.bytes.now) (split_lines c.first_line.result.1.now) c.first_line.result.0.now
+      (map line_view c.loop-rest.lines.items) (map line_view c.add.new.lines.items)
+      (subst (λ (more : List _). GoOn c.loop-rest.number (split_lines c.args.bytes.now) more (map line_view c.loop-rest.lines.items))
+      c.first_line.ensures.split c.loop-rest.invariant.2) c.in_ok-add.ensures,
 )

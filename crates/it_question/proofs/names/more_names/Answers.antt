@@ -10,12 +10,15 @@ loop-sort-smaller c = rest_is_shorter (symbol Comma) _ _ _ _ _ _ c.loop-sort-tes
 
 pub loop-sort-preserved : goal.loop-sort-preserved
 unfolding more_new
-loop-sort-preserved c = symbol_goes Comma (new_name (name_sort_view c.args.sort) c.args.most) (λ v more. more) c.loop-sort.names c.new_name.new.names _ _ _ _ c.loop-sort-test.ensures.taken c.in-Ok.ensures c.loop-sort.invariant
+loop-sort-preserved c = symbol_goes Comma (new_name (name_sort_view c.args.sort) c.args.most)
+    (λ v more. more) c.loop-sort.names c.new_name.new.names _ _ _ _ c.loop-sort-test.ensures.taken c.in-Ok.ensures c.loop-sort.invariant
 
 pub returns-in-Err : goal.returns-in-Err
 unfolding more_new
-returns-in-Err c = symbol_stops Comma (new_name (name_sort_view c.args.sort) c.args.most) (λ v more. more) c.loop-sort.names _ _ _ c.in-Err.stop _ c.loop-sort-test.ensures.taken c.in-Err.ensures c.loop-sort.invariant
+returns-in-Err c = symbol_stops Comma (new_name (name_sort_view c.args.sort) c.args.most)
+    (λ v more. more) c.loop-sort.names _ _ _ c.in-Err.stop _ c.loop-sort-test.ensures.taken c.in-Err.ensures c.loop-sort.invariant
 
 pub returns : goal.returns
 unfolding more_new
-returns c = rw c.loop-sort-test.ensures.same (symbol_ends Comma (new_name (name_sort_view c.args.sort) c.args.most) (λ v more. more) c.loop-sort.names _ _ c.loop-sort-test.ensures.none c.loop-sort.invariant)
+returns c = rw c.loop-sort-test.ensures.same (symbol_ends Comma (new_name (name_sort_view c.args.sort) c.args.most)
+    (λ v more. more) c.loop-sort.names _ _ c.loop-sort-test.ensures.none c.loop-sort.invariant)

@@ -16,10 +16,13 @@ use Rattle.it_syntax.proofs.Loops.{after_with_flags, no_limit, loop_goes, loop_s
 use Rattle.it_question.proofs.own.own_lines.Goals as goal
 
 -- what stands there under the flags of the limits
-stands : (g r : ℕ) (own : OwnLinesView) (b : Bool) (m : Option Code) (ls tail : List Letter) → after own_word ls ≡ Some ((None, b), tail) → limit_flag (if b then givens_left g own else rows_left r own) ≡ m → after (record { kinds = own_words; says = own_keyword g r own }) ls ≡ Some ((m, b), tail)
+stands : (g r : ℕ) (own : OwnLinesView) (b : Bool) (m : Option Code) (ls tail : List Letter) → after own_word ls ≡ Some ((None, b), tail)
+    → limit_flag (if b then givens_left g own else rows_left r own) ≡ m
+    → after (record { kinds = own_words; says = own_keyword g r own }) ls ≡ Some ((m, b), tail)
 stands g r own b m ls tail e h = after_with_flags own_words (is_of (Keyword (codes "given"))) (λ b. limit_flag (if b then givens_left g own else rows_left r own)) b ls tail e ∙ ap (λ (k : Option Code). Some ((k, b), tail)) h
 
-none_stands : (g r : ℕ) (own : OwnLinesView) (ls : List Letter) → after own_word ls ≡ None → after (record { kinds = own_words; says = own_keyword g r own }) ls ≡ None
+none_stands : (g r : ℕ) (own : OwnLinesView) (ls : List Letter) → after own_word ls ≡ None
+    → after (record { kinds = own_words; says = own_keyword g r own }) ls ≡ None
 none_stands g r own [] e = refl
 none_stands g r own (l ∷ ls) e = by_test (is_among own_words l) e
   where
@@ -34,10 +37,12 @@ returns-then-lines_left-eq0 c =
     let r = c.args.most_rows in
     let own = own_lines_view c.loop-is_given.own in
     let n = sym c.lines_left.ensures ∙ c.if-lines_left-eq0.true in
-    sym c.loop-is_given.invariant ∙ loop_flagged own_words (own_keyword g r) (own_line c.args.names.now) own c.in-Some.is_given Many _ _ (stands g r own c.in-Some.is_given (Some Many) (letters_left c.loop-is_given.cursor) _ c.in-Some.ensures.found (ap limit_flag n))
+    sym c.loop-is_given.invariant ∙ loop_flagged own_words (own_keyword g r) (own_line c.args.names.now) own c.in-Some.is_given Many _ _
+    (stands g r own c.in-Some.is_given (Some Many) (letters_left c.loop-is_given.cursor) _ c.in-Some.ensures.found (ap limit_flag n))
 
 pub loop-is_given-smaller : goal.loop-is_given-smaller
-loop-is_given-smaller c = rest_is_shorter own_word (own_line c.args.names.now (own_lines_view c.loop-is_given.own) c.in-Some.is_given) _ _ _ _ _ c.in-Some.ensures.found c.in-Ok.ensures
+loop-is_given-smaller c = rest_is_shorter own_word (own_line c.args.names.now (own_lines_view c.loop-is_given.own) c.in-Some.is_given) _ _ _
+    _ _ c.in-Some.ensures.found c.in-Ok.ensures
 
 pub loop-is_given-preserved : goal.loop-is_given-preserved
 unfolding more_own_lines
@@ -46,7 +51,9 @@ loop-is_given-preserved c =
     let r = c.args.most_rows in
     let own = own_lines_view c.loop-is_given.own in
     let free = no_limit (if c.in-Some.is_given then givens_left g own else rows_left r own) (λ e. c.if-lines_left-eq0.false (c.lines_left.ensures ∙ e)) in
-    loop_goes own_words (own_keyword g r) (own_line c.args.names.now) own (own_lines_view c.own_line.new.own) c.in-Some.is_given _ _ _ (stands g r own c.in-Some.is_given None (letters_left c.loop-is_given.cursor) _ c.in-Some.ensures.found free) c.in-Ok.ensures ∙ c.loop-is_given.invariant
+    loop_goes own_words (own_keyword g r) (own_line c.args.names.now) own (own_lines_view c.own_line.new.own) c.in-Some.is_given _ _ _
+    (stands g r own c.in-Some.is_given None (letters_left c.loop-is_given.cursor) _ c.in-Some.ensures.found free) c.in-Ok.ensures
+    ∙ c.loop-is_given.invariant
 
 pub returns-in-Err : goal.returns-in-Err
 unfolding more_own_lines
@@ -55,8 +62,12 @@ returns-in-Err c =
     let r = c.args.most_rows in
     let own = own_lines_view c.loop-is_given.own in
     let free = no_limit (if c.in-Some.is_given then givens_left g own else rows_left r own) (λ e. c.if-lines_left-eq0.false (c.lines_left.ensures ∙ e)) in
-    subst (StopsAs c.in-Err.stop (letters_left c.own_line.new.cursor)) c.loop-is_given.invariant (loop_stops own_words (own_keyword g r) (own_line c.args.names.now) own c.in-Some.is_given _ _ _ c.in-Err.stop (stands g r own c.in-Some.is_given None (letters_left c.loop-is_given.cursor) _ c.in-Some.ensures.found free) c.in-Err.ensures)
+    subst (StopsAs c.in-Err.stop (letters_left c.own_line.new.cursor)) c.loop-is_given.invariant
+    (loop_stops own_words (own_keyword g r) (own_line c.args.names.now) own c.in-Some.is_given _ _ _ c.in-Err.stop
+    (stands g r own c.in-Some.is_given None (letters_left c.loop-is_given.cursor) _ c.in-Some.ensures.found free) c.in-Err.ensures)
 
 pub returns : goal.returns
 unfolding more_own_lines
-returns c = sym c.loop-is_given.invariant ∙ loop_ends own_words (own_keyword c.args.most_givens c.args.most_rows) (own_line c.args.names.now) (own_lines_view c.loop-is_given.own) _ (none_stands c.args.most_givens c.args.most_rows (own_lines_view c.loop-is_given.own) (letters_left c.loop-is_given.cursor) c.in_default.ensures.none)
+returns c = sym c.loop-is_given.invariant ∙ loop_ends own_words (own_keyword c.args.most_givens c.args.most_rows)
+    (own_line c.args.names.now) (own_lines_view c.loop-is_given.own) _ (none_stands c.args.most_givens c.args.most_rows
+    (own_lines_view c.loop-is_given.own) (letters_left c.loop-is_given.cursor) c.in_default.ensures.none)

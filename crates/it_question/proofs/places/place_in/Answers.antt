@@ -12,5 +12,6 @@ same_place line e = sym (ap (place_at line) e)
 pub returns : goal.returns
 returns c =
     let line = c.args.line.now in
-    let e = c.column.ensures ∙ column_is line.tokens.tokens.items c.as_slice-2.result.now line.tokens.misspelling c.len.result c.args.at c.as_slice-2.ensures.value (omega (arith, c.len.ensures)) c.requires in
+    let e = c.column.ensures ∙ column_is line.tokens.tokens.items c.as_slice-2.result.now line.tokens.misspelling c.len.result c.args.at
+    c.as_slice-2.ensures.value (omega (arith, c.len.ensures)) c.requires in
     place_is (line_view line) c.args.at c.requires ∙ same_place line.number e

@@ -11,12 +11,17 @@ loop-cursor-smaller c = rest_is_shorter (symbol Comma) _ _ _ _ _ _ c.loop-cursor
 
 pub loop-cursor-preserved : goal.loop-cursor-preserved
 unfolding more_once
-loop-cursor-preserved c = rw c.in_ok-add-in-Ok.ensures.added (symbol_goes Comma (once (index_of c.args.names.now.rates)) (λ seen i. seen ++ i ∷ []) c.loop-cursor.found.items c.in-Ok.next _ _ _ _ c.loop-cursor-test.ensures.taken (rw (← c.as_slice.ensures.value) c.in-Ok.ensures) c.loop-cursor.invariant)
+loop-cursor-preserved c = rw c.in_ok-add-in-Ok.ensures.added (symbol_goes Comma (once (index_of c.args.names.now.rates))
+    (λ seen i. seen ++ i ∷ []) c.loop-cursor.found.items c.in-Ok.next _ _ _ _ c.loop-cursor-test.ensures.taken
+    (rw (← c.as_slice.ensures.value) c.in-Ok.ensures) c.loop-cursor.invariant)
 
 pub returns-in-Err : goal.returns-in-Err
 unfolding more_once
-returns-in-Err c = symbol_stops Comma (once (index_of c.args.names.now.rates)) (λ seen i. seen ++ i ∷ []) c.loop-cursor.found.items _ _ _ c.in-Err.stop _ c.loop-cursor-test.ensures.taken (rw (← c.as_slice.ensures.value) c.in-Err.ensures) c.loop-cursor.invariant
+returns-in-Err c = symbol_stops Comma (once (index_of c.args.names.now.rates))
+    (λ seen i. seen ++ i ∷ []) c.loop-cursor.found.items _ _ _ c.in-Err.stop _ c.loop-cursor-test.ensures.taken
+    (rw (← c.as_slice.ensures.value) c.in-Err.ensures) c.loop-cursor.invariant
 
 pub returns : goal.returns
 unfolding more_once
-returns c = rw c.loop-cursor-test.ensures.same (symbol_ends Comma (once (index_of c.args.names.now.rates)) (λ seen i. seen ++ i ∷ []) c.loop-cursor.found.items _ _ c.loop-cursor-test.ensures.none c.loop-cursor.invariant)
+returns c = rw c.loop-cursor-test.ensures.same (symbol_ends Comma (once (index_of c.args.names.now.rates))
+    (λ seen i. seen ++ i ∷ []) c.loop-cursor.found.items _ _ c.loop-cursor-test.ensures.none c.loop-cursor.invariant)

@@ -12,11 +12,13 @@ use Rattle.it_question.proofs.TableLemmas.{region_space, region_givens, region_r
 use Rattle.it_question.proofs.tables.containment_is_large.Goals as goal
 
 pub region_constraints-requires-clause-givens : goal.region_constraints-requires-clause-givens
-region_constraints-requires-clause-givens c = subst (λ (s : Space). All (IsGivenOf s.variables) (own_lines_view c.args.lines.now).givens) (sym c.space-space.ensures.counts)
+region_constraints-requires-clause-givens c = subst (λ (s : Space). All (IsGivenOf s.variables) (own_lines_view c.args.lines.now).givens)
+    (sym c.space-space.ensures.counts)
     (region_givens c.args.names.now (region_view c.args.first.now) (own_lines_view c.args.lines.now).givens c.requires.region c.requires.lines.givens)
 
 pub region_constraints-requires-clause-rows : goal.region_constraints-requires-clause-rows
-region_constraints-requires-clause-rows c = subst (λ (s : Space). All (IsRelationOf s.variables s.rates) (own_lines_view c.args.lines.now).rows) (sym c.space-space.ensures.counts)
+region_constraints-requires-clause-rows c = subst (λ (s : Space). All (IsRelationOf s.variables s.rates)
+    (own_lines_view c.args.lines.now).rows) (sym c.space-space.ensures.counts)
     (region_rows c.args.names.now (region_view c.args.first.now) (own_lines_view c.args.lines.now).rows c.requires.region c.requires.lines.rows)
 
 pub is_large-requires : goal.is_large-requires
@@ -26,12 +28,17 @@ is_large-requires c =
     let same = sym c.space-space.ensures.counts in
     let space = subst IsSpace same (region_space c.args.names.now first c.requires.space c.requires.region) in
     let givens = subst (λ (s : Space). All (IsGivenOf s.variables) (own.givens ++ first.lines.givens)) same
-    (All-append (IsGivenOf (length first.names.variables)) own.givens first.lines.givens (region_givens c.args.names.now first own.givens c.requires.region c.requires.lines.givens) c.requires.region.lines.givens) in
+    (All-append (IsGivenOf (length first.names.variables)) own.givens first.lines.givens
+    (region_givens c.args.names.now first own.givens c.requires.region c.requires.lines.givens) c.requires.region.lines.givens) in
     lines_problem c.space-space.result (lines_with own first) c.in_ok-constraints.constraints.items space givens
-    (omega (arith, length-append own.givens first.lines.givens, c.requires.lines.few_givens, c.requires.region.lines.few_givens)) (omega (arith, length-append own.rows first.lines.rows, c.requires.lines.few_rows, c.requires.region.lines.few_rows)) c.in_ok-constraints.ensures
+    (omega (arith, length-append own.givens first.lines.givens, c.requires.lines.few_givens, c.requires.region.lines.few_givens))
+    (omega (arith, length-append own.rows first.lines.rows, c.requires.lines.few_rows, c.requires.region.lines.few_rows))
+    c.in_ok-constraints.ensures
 
 pub returns-clause-large : goal.returns-clause-large
-returns-clause-large c = space_flag c.space-space.result c.args.first.now.names (lines_with (own_lines_view c.args.lines.now) (region_view c.args.first.now)) c.in_ok-constraints.constraints.items c.in_ok-large.large c.space-space.ensures.counts c.in_ok-constraints.ensures c.in_ok-large.ensures.large
+returns-clause-large c = space_flag c.space-space.result c.args.first.now.names
+    (lines_with (own_lines_view c.args.lines.now) (region_view c.args.first.now)) c.in_ok-constraints.constraints.items c.in_ok-large.large
+    c.space-space.ensures.counts c.in_ok-constraints.ensures c.in_ok-large.ensures.large
 
 pub returns-then-space-le-MOST_SMALL-clause-large : goal.returns-then-space-le-MOST_SMALL-clause-large
 returns-then-space-le-MOST_SMALL-clause-large c =
@@ -39,7 +46,22 @@ returns-then-space-le-MOST_SMALL-clause-large c =
     let first = region_view c.args.first.now in
     let space = region_space c.args.names.now first c.requires.space c.requires.region in
     let givens = region_givens c.args.names.now first own.givens c.requires.region c.requires.lines.givens in
-    few_variables first.names (lines_with own first) (omega (arith, ap (λ (s : Space). s.variables) c.space-space.ensures.counts, c.if-space-le-MOST_SMALL.true)) space.few_rates
+    few_variables first.names (lines_with own first)
+    (omega (arith, ap (λ (s : Space). s.variables) c.space-space.ensures.counts, c.if-space-le-MOST_SMALL.true)) space.few_rates
     (All-append (IsGivenOf (length first.names.variables)) own.givens first.lines.givens givens c.requires.region.lines.givens)
-    (omega (arith, length-append own.givens first.lines.givens, length-map c.args.lines.now.givens.items given_view, length-map c.args.first.now.lines.givens.items given_view, c.requires.few_givens))
-    (omega (arith, length-append own.rows first.lines.rows, length-map c.args.lines.now.rows.items relation_view, length-map c.args.first.now.lines.rows.items relation_view, c.requires.few_rows))
+    (omega (
+      arith,
+      length-append own.givens first.lines.givens,
+      length-map c.args.lines.now.givens.items given_view,
+      length-map
+          c.args.first.now.lines.givens.items given_view,
+      c.requires.few_givens,
+    ))
+    (omega (
+      arith,
+      length-append own.rows first.lines.rows,
+      length-map c.args.lines.now.rows.items relation_view,
+      length-map
+          c.args.first.now.lines.rows.items relation_view,
+      c.requires.few_rows,
+    ))

@@ -13,7 +13,12 @@ returns c =
     let n = c.args.space.variables in
     let givens = c.args.lines.now.givens.items in
     let rows = c.args.lines.now.rows.items in
-    stated-append c.args.space (given_origins n 1 (map given_view givens)) (row_origins 1 (map relation_view rows)) (flat_map (demands n) (map given_view givens)) (map (demand_of n) (map relation_view rows)) c.in_ok-constraints.constraints.items c.in_ok-others.others.items c.append.new.self.items
-    (subst (λ (gs : List Given). AreStated c.args.space (given_origins n 1 (map given_view gs)) (flat_map (demands n) (map given_view gs)) c.in_ok-constraints.constraints.items) c.as_slice.ensures.value c.in_ok-constraints.ensures)
-    (subst (λ (rs : List Relation). AreStated c.args.space (row_origins 1 (map relation_view rs)) (map (demand_of n) (map relation_view rs)) c.in_ok-others.others.items) c.as_slice-2.ensures.value c.in_ok-others.ensures)
+    stated-append c.args.space (given_origins n 1 (map given_view givens)) (row_origins 1 (map relation_view rows))
+    (flat_map (demands n) (map given_view givens)) (map (demand_of n) (map relation_view rows)) c.in_ok-constraints.constraints.items
+    c.in_ok-others.others.items c.append.new.self.items
+    (subst (λ (gs : List Given). AreStated c.args.space (given_origins n 1 (map given_view gs))
+    (flat_map (demands n) (map given_view gs)) c.in_ok-constraints.constraints.items) c.as_slice.ensures.value
+    c.in_ok-constraints.ensures)
+    (subst (λ (rs : List Relation). AreStated c.args.space (row_origins 1 (map relation_view rs))
+    (map (demand_of n) (map relation_view rs)) c.in_ok-others.others.items) c.as_slice-2.ensures.value c.in_ok-others.ensures)
     c.in_ok-append.ensures.items

@@ -11,12 +11,17 @@ pub is_large-requires : goal.is_large-requires
 is_large-requires c =
     let own = own_lines_view c.args.lines.now in
     let same = sym c.space-space.ensures.counts in
-    lines_problem c.space-space.result own c.in_ok-constraints.constraints.items (subst IsSpace same c.requires.space) (subst (λ (s : Space). All (IsGivenOf s.variables) own.givens) same c.requires.lines.givens)
+    lines_problem c.space-space.result own c.in_ok-constraints.constraints.items (subst IsSpace same c.requires.space)
+    (subst (λ (s : Space). All (IsGivenOf s.variables) own.givens) same c.requires.lines.givens)
     (omega (arith, c.requires.lines.few_givens)) (omega (arith, c.requires.lines.few_rows)) c.in_ok-constraints.ensures
 
 pub returns-clause-large : goal.returns-clause-large
-returns-clause-large c = space_flag c.space-space.result c.args.names.now (own_lines_view c.args.lines.now) c.in_ok-constraints.constraints.items c.in_ok-large.large c.space-space.ensures.counts c.in_ok-constraints.ensures c.in_ok-large.ensures.large
+returns-clause-large c = space_flag c.space-space.result c.args.names.now
+    (own_lines_view c.args.lines.now) c.in_ok-constraints.constraints.items c.in_ok-large.large c.space-space.ensures.counts
+    c.in_ok-constraints.ensures c.in_ok-large.ensures.large
 
 pub returns-then-space-le-MOST_SMALL-clause-large : goal.returns-then-space-le-MOST_SMALL-clause-large
 returns-then-space-le-MOST_SMALL-clause-large c =
-    few_variables c.args.names.now (own_lines_view c.args.lines.now) (omega (arith, ap (λ (s : Space). s.variables) c.space-space.ensures.counts, c.if-space-le-MOST_SMALL.true)) c.requires.space.few_rates c.requires.lines.givens c.requires.lines.few_givens c.requires.lines.few_rows
+    few_variables c.args.names.now (own_lines_view c.args.lines.now)
+    (omega (arith, ap (λ (s : Space). s.variables) c.space-space.ensures.counts, c.if-space-le-MOST_SMALL.true))
+    c.requires.space.few_rates c.requires.lines.givens c.requires.lines.few_givens c.requires.lines.few_rows

@@ -9,12 +9,15 @@ loop-cursor-smaller c = rest_is_shorter (symbol Semicolon) _ _ _ _ _ _ c.loop-cu
 
 pub loop-cursor-preserved : goal.loop-cursor-preserved
 unfolding more_parts
-loop-cursor-preserved c = symbol_goes Semicolon (part _ _) (λ sets more. more) c.loop-cursor.sets c.part.new.sets _ _ _ _ c.loop-cursor-test.ensures.taken c.in-Ok.ensures c.loop-cursor.invariant
+loop-cursor-preserved c = symbol_goes Semicolon (part _ _) (λ sets more. more) c.loop-cursor.sets c.part.new.sets _ _ _ _
+    c.loop-cursor-test.ensures.taken c.in-Ok.ensures c.loop-cursor.invariant
 
 pub returns-in-Err : goal.returns-in-Err
 unfolding more_parts
-returns-in-Err c = symbol_stops Semicolon (part _ _) (λ sets more. more) c.loop-cursor.sets _ _ _ c.in-Err.stop _ c.loop-cursor-test.ensures.taken c.in-Err.ensures c.loop-cursor.invariant
+returns-in-Err c = symbol_stops Semicolon (part _ _) (λ sets more. more) c.loop-cursor.sets _ _ _ c.in-Err.stop _
+    c.loop-cursor-test.ensures.taken c.in-Err.ensures c.loop-cursor.invariant
 
 pub returns : goal.returns
 unfolding more_parts
-returns c = rw c.loop-cursor-test.ensures.same (symbol_ends Semicolon (part _ _) (λ sets more. more) c.loop-cursor.sets _ _ c.loop-cursor-test.ensures.none c.loop-cursor.invariant)
+returns c = rw c.loop-cursor-test.ensures.same (symbol_ends Semicolon (part _ _)
+    (λ sets more. more) c.loop-cursor.sets _ _ c.loop-cursor-test.ensures.none c.loop-cursor.invariant)

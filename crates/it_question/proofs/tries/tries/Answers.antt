@@ -23,13 +23,15 @@ loop-after-smaller c = rest_is_shorter (word (codes "try")) _ _ _ _ _ _ c.in-Som
 pub loop-after-preserved : goal.loop-after-preserved
 unfolding more_tries
 loop-after-preserved c =
-    let free = try_allowed c.args.auxiliaries c.loop-after.found.items c.if-auxiliaries-eq0.false (λ e. omega (arith, c.len.ensures, c.if-len-ge-MOST_LINES.false, e)) in
+    let free = try_allowed c.args.auxiliaries c.loop-after.found.items c.if-auxiliaries-eq0.false
+    (λ e. omega (arith, c.len.ensures, c.if-len-ge-MOST_LINES.false, e)) in
     rw c.in_ok-add-in-Ok.ensures.added (word_goes (codes "try") _ (λ ts. try_line _ _ _) (λ ts t. ts ++ t ∷ []) c.loop-after.found.items (letters_left c.loop-after.cursor) _ c.loop-after.invariant c.in-Ok.next _ _ free c.in-Some.ensures.found c.in-Ok.ensures)
 
 pub returns-in-Err : goal.returns-in-Err
 unfolding more_tries
 returns-in-Err c =
-    let free = try_allowed c.args.auxiliaries c.loop-after.found.items c.if-auxiliaries-eq0.false (λ e. omega (arith, c.len.ensures, c.if-len-ge-MOST_LINES.false, e)) in
+    let free = try_allowed c.args.auxiliaries c.loop-after.found.items c.if-auxiliaries-eq0.false
+    (λ e. omega (arith, c.len.ensures, c.if-len-ge-MOST_LINES.false, e)) in
     word_stops (codes "try") _ (λ ts. try_line _ _ _) (λ ts t. ts ++ t ∷ []) c.loop-after.found.items (letters_left c.loop-after.cursor) _ c.loop-after.invariant c.in-Err.stop _ _ free c.in-Some.ensures.found c.in-Err.ensures
 
 pub returns : goal.returns

@@ -11,7 +11,8 @@ abbrev pub invariant-loop-after : goal.invariant-loop-after
 invariant-loop-after l =
     let aux = auxiliary_env l.regions.question.now l.regions.second.now in
     let env = env_of l.regions.first.now in
-    read (more_tries aux env (unnamed_sets l.auxiliaries) l.found.items) (letters_left l.cursor) ≡ read (more_tries aux env (unnamed_sets l.auxiliaries) []) (letters_left l.initial.cursor)
+    read (more_tries aux env (unnamed_sets l.auxiliaries) l.found.items) (letters_left l.cursor)
+    ≡ read (more_tries aux env (unnamed_sets l.auxiliaries) []) (letters_left l.initial.cursor)
 
 abbrev pub decreases-loop-after : goal.decreases-loop-after
 decreases-loop-after l = length (letters_left l.cursor)

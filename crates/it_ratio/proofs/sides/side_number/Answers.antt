@@ -17,4 +17,5 @@ returns c =
     let three = simp (to_z-of_z above, to_z-of_z below) at c.difference.ensures in
     number_ok c.difference.result c.args.num.now c.args.den.now c.args.left.now c.args.right.now c.args.at c.in_ok-above.above c.in_ok-below.below
     (subst (λ (x : ℤ). IsWithin (c.args.num.now *ℤ x)) c.coefficient.ensures.value one.0) (one.1 ∙ ap (λ x. c.args.num.now *ℤ x) c.coefficient.ensures.value)
-    (subst (λ (x : ℤ). IsWithin (c.args.den.now *ℤ x)) c.coefficient-2.ensures.value two.0) (two.1 ∙ ap (λ x. c.args.den.now *ℤ x) c.coefficient-2.ensures.value) three
+    (subst (λ (x : ℤ). IsWithin (c.args.den.now *ℤ x)) c.coefficient-2.ensures.value two.0)
+    (two.1 ∙ ap (λ x. c.args.den.now *ℤ x) c.coefficient-2.ensures.value) three

@@ -18,12 +18,17 @@ new-requires c = row_canonical (size_of c.args.space) c.args.num.now c.args.den.
     (omega (arith, c.size-at-end.ensures)) c.loop-at.invariant
 
 pub returns-in_err-push_number-clause-forms : goal.returns-in_err-push_number-clause-forms
-returns-in_err-push_number-clause-forms c = row_stops (size_of c.args.space) c.args.num.now c.args.den.now c.args.left.now c.args.right.now c.loop-at.at c.loop-at.terms.items
-    (omega (arith, c.size-at-end.ensures)) c.loop-at.invariant c.from_residual.result c.in_err-push_number.field-0.0 c.from_residual.ensures.1 c.in_err-push_number.ensures.wide
+returns-in_err-push_number-clause-forms c = row_stops (size_of c.args.space) c.args.num.now c.args.den.now c.args.left.now c.args.right.now
+    c.loop-at.at c.loop-at.terms.items
+    (omega (arith, c.size-at-end.ensures)) c.loop-at.invariant c.from_residual.result c.in_err-push_number.field-0.0
+    c.from_residual.ensures.1 c.in_err-push_number.ensures.wide
 
 pub returns-clause-forms : goal.returns-clause-forms
-returns-clause-forms c = subst (λ (ts : Terms). RowForms (size_of c.args.space) c.args.num.now c.args.den.now c.args.left.now c.args.right.now (Ok ts)) (sym c.new.ensures)
-    (row_done (size_of c.args.space) c.args.num.now c.args.den.now c.args.left.now c.args.right.now c.loop-at.at c.loop-at.terms.items (omega (arith, c.size-at-end.ensures)) c.loop-at.invariant)
+returns-clause-forms c = subst (λ (ts : Terms). RowForms (size_of c.args.space) c.args.num.now c.args.den.now c.args.left.now
+    c.args.right.now (Ok ts)) (sym c.new.ensures)
+    (row_done (size_of c.args.space) c.args.num.now c.args.den.now c.args.left.now c.args.right.now c.loop-at.at c.loop-at.terms.items
+    (omega (arith, c.size-at-end.ensures)) c.loop-at.invariant)
 
 pub returns-clause-fits : goal.returns-clause-fits
-returns-clause-fits c = row_fits (size_of c.args.space) c.args.num.now c.args.den.now c.args.left.now c.args.right.now c.loop-at.at c.loop-at.terms.items (omega (arith, c.size-at-end.ensures)) c.loop-at.invariant
+returns-clause-fits c = row_fits (size_of c.args.space) c.args.num.now c.args.den.now c.args.left.now c.args.right.now c.loop-at.at
+    c.loop-at.terms.items (omega (arith, c.size-at-end.ensures)) c.loop-at.invariant

@@ -12,5 +12,6 @@ after_rate-requires-clause-system c = record {
 }
 
 pub returns-in_ok-system-in-Region-clause-next : goal.returns-in_ok-system-in-Region-clause-next
-returns-in_ok-system-in-Region-clause-next c = next_of_region c.args.givens.now c.args.effort c.args.rows c.args.rate c.args.end c.in-Region.reduced c.in_ok-system-in-Region.system.rows.items c.after_rate.result c.in-Region.is
+returns-in_ok-system-in-Region-clause-next c = next_of_region c.args.givens.now c.args.effort c.args.rows c.args.rate c.args.end
+    c.in-Region.reduced c.in_ok-system-in-Region.system.rows.items c.after_rate.result c.in-Region.is
     c.in_ok-system-in-Region.ensures.rows c.after_rate.ensures.after

@@ -8,6 +8,9 @@ use Rattle.it_region.proofs.PairLemmas.{pair_by}
 use Rattle.it_region.proofs.pairs.pair_of.Goals as goal
 
 pub returns-clause-pair : goal.returns-clause-pair
-returns-clause-pair c = pair_by (question_body c.args.question.now) (region_view c.in-Contain.first) (region_view c.in-Contain.second) c.in-Contain.tries.items _ (1 + c.len.result) (1 + c.len-2.result) (ap verb_view c.in-Contain.is)
-    c.in_ok-first.ensures.poses c.space-space.ensures.counts (omega (arith, length-map c.args.question.now.lines.givens.items given_view, c.len.ensures)) (omega (arith, length-map c.args.question.now.lines.rows.items relation_view, c.len-2.ensures))
+returns-clause-pair c = pair_by (question_body c.args.question.now) (region_view c.in-Contain.first)
+    (region_view c.in-Contain.second) c.in-Contain.tries.items _ (1 + c.len.result) (1 + c.len-2.result) (ap verb_view c.in-Contain.is)
+    c.in_ok-first.ensures.poses c.space-space.ensures.counts
+    (omega (arith, length-map c.args.question.now.lines.givens.items given_view, c.len.ensures))
+    (omega (arith, length-map c.args.question.now.lines.rows.items relation_view, c.len-2.ensures))
     c.in_ok-own.ensures (ap (λ (s : Space). s.variables) c.space.ensures.counts) refl

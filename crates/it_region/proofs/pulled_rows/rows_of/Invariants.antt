@@ -6,4 +6,5 @@ use Rattle.it_region.proofs.RowLemmas.{obligations_from}
 use Rattle.it_region.proofs.pulled_rows.rows_of.Given as goal
 
 abbrev pub invariant-loop-constraint : goal.invariant-loop-constraint
-invariant-loop-constraint l = AreMatched (IsPulledRow l.pair.first.space) (obligations_from (pair_coordinate l.pair l.sets)) l.pair.own.items l.constraint-index l.rows.items
+invariant-loop-constraint l = AreMatched (IsPulledRow l.pair.first.space)
+    (obligations_from (pair_coordinate l.pair l.sets)) l.pair.own.items l.constraint-index l.rows.items

@@ -28,7 +28,8 @@ returns-then-not-is_valid c =
     let p = c.in_ok-problem.problem in
     let v = c.parts_verdict-verdict.result in
     let invalid : is_valid v ≡ false = search rules in
-    let verdict : bounds_verdict q b ≡ v = sym (c.parts_verdict-verdict.ensures.verdict ∙ ap (λ x. parts_verdict x b) (one_problem (under_all_lines q) p c.in_ok-problem.ensures)) in
+    let verdict : bounds_verdict q b ≡ v = sym (c.parts_verdict-verdict.ensures.verdict
+    ∙ ap (λ x. parts_verdict x b) (one_problem (under_all_lines q) p c.in_ok-problem.ensures)) in
     bounds_told (λ j. j.text.items) (λ j. j.invalid) c.args.k q b (Judged q.names v) c.verdict_line.result (refl, verdict, invalid) c.verdict_line.ensures
 
 pub returns : goal.returns
@@ -38,5 +39,7 @@ returns c =
     let p = c.in_ok-problem.problem in
     let v = c.parts_verdict-verdict.result in
     let valid : is_valid v ≡ true = search rules in
-    let verdict : bounds_verdict q b ≡ Valid = sym (c.parts_verdict-verdict.ensures.verdict ∙ ap (λ x. parts_verdict x b) (one_problem (under_all_lines q) p c.in_ok-problem.ensures)) ∙ only_valid v valid in
-    bounds_told (λ j. j.text.items) (λ j. j.invalid) c.args.k q b (Hulled c.in_ok-hull.hull) c.hull_line.result (verdict, c.in_ok-hull.ensures) c.hull_line.ensures
+    let verdict : bounds_verdict q b ≡ Valid = sym (c.parts_verdict-verdict.ensures.verdict
+    ∙ ap (λ x. parts_verdict x b) (one_problem (under_all_lines q) p c.in_ok-problem.ensures)) ∙ only_valid v valid in
+    bounds_told (λ j. j.text.items) (λ j. j.invalid) c.args.k q b (Hulled c.in_ok-hull.hull) c.hull_line.result
+    (verdict, c.in_ok-hull.ensures) c.hull_line.ensures

@@ -10,12 +10,15 @@ use Rattle.it_report.proofs.FrameLemmas.{steps_complete}
 use Rattle.it_report.proofs.bounds.hull_verdict.Goals as goal
 
 pub check_hull-requires-clause-kept : goal.check_hull-requires-clause-kept
-check_hull-requires-clause-kept c = own_kept most_rows (question_body c.args.question.now) c.requires.limits (omega arith) (asked_rates (question_body c.args.question.now) c.requires.fits.gone c.requires.limits c.requires.fits.asked) c.space-space.result c.gone_rates-gone.result.now c.as_slice.result.now
+check_hull-requires-clause-kept c = own_kept most_rows (question_body c.args.question.now) c.requires.limits (omega arith)
+    (asked_rates (question_body c.args.question.now) c.requires.fits.gone c.requires.limits c.requires.fits.asked) c.space-space.result
+    c.gone_rates-gone.result.now c.as_slice.result.now
     c.space-space.ensures.counts c.gone_rates-gone.ensures (c.as_slice.ensures.value ∙ c.in_ok-kept.ensures)
 
 pub check_hull-requires-clause-steps : goal.check_hull-requires-clause-steps
 check_hull-requires-clause-steps c =
     let steps = c.args.bounds.now.steps.items in
-    let complete = subst (λ (s : Space). All (λ (v : StepView). length v.ray ≡ size_of s) (step_views steps)) (sym c.space-space.ensures.counts) c.requires.fits.rays in
+    let complete = subst (λ (s : Space). All (λ (v : StepView). length v.ray ≡ size_of s) (step_views steps))
+    (sym c.space-space.ensures.counts) c.requires.fits.rays in
     steps_complete (size_of c.space-space.result) c.as_slice-2.result.now
     (subst (λ xs. All (λ (v : StepView). length v.ray ≡ size_of c.space-space.result) (step_views xs)) (sym c.as_slice-2.ensures.value) complete)

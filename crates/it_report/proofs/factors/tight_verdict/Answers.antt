@@ -9,4 +9,5 @@ use Rattle.it_report.proofs.factors.tight_verdict.Goals as goal
 
 pub returns-else-is_valid-clause-over : goal.returns-else-is_valid-clause-over
 returns-else-is_valid-clause-over c = subst (IsVerdictOver (size_of c.args.problem.now.space + 1)) (sym c.check_no-verdict.ensures)
-    (no_over (size_of c.args.problem.now.space + 1) (length (elementals c.args.problem.now.space.variables)) (generators c.args.problem.now) c.args.below.now (point_of c.args.point.now))
+    (no_over (size_of c.args.problem.now.space + 1) (length (elementals c.args.problem.now.space.variables))
+    (generators c.args.problem.now) c.args.below.now (point_of c.args.point.now))

@@ -20,15 +20,18 @@ overflow_add-place c = omega (
 
 pub returns-in_default-clause-verdict : goal.returns-in_default-clause-verdict
 returns-in_default-clause-verdict c = ap (λ n. Checked (Width (n + 1))) c.generator_count-place.ensures
-    ∙ zero_wide (length (generators c.args.problem.now) + 1) c.args.row.now (point_of c.args.point.now) c.value.result c.value.ensures c.in_default.field-0 c.in_default.is
+    ∙ zero_wide (length (generators c.args.problem.now) + 1) c.args.row.now
+    (point_of c.args.point.now) c.value.result c.value.ensures c.in_default.field-0 c.in_default.is
 
 pub returns-then-value-eq0-clause-verdict : goal.returns-then-value-eq0-clause-verdict
 returns-then-value-eq0-clause-verdict c =
     let fits : FitsSigned w128 c.in-Ok.value = search rules in
-    zero_there (length (generators c.args.problem.now) + 1) c.args.row.now (point_of c.args.point.now) c.value.result c.value.ensures c.in-Ok.value c.in-Ok.is (omega (arith, ints))
+    zero_there (length (generators c.args.problem.now) + 1) c.args.row.now
+    (point_of c.args.point.now) c.value.result c.value.ensures c.in-Ok.value c.in-Ok.is (omega (arith, ints))
 
 pub returns-else-value-eq0-clause-verdict : goal.returns-else-value-eq0-clause-verdict
 returns-else-value-eq0-clause-verdict c =
     let fits : FitsSigned w128 c.in-Ok.value = search rules in
     ap NotZero (to_z-of_z fits)
-    ∙ not_zero (length (generators c.args.problem.now) + 1) c.args.row.now (point_of c.args.point.now) c.value.result c.value.ensures c.in-Ok.value c.in-Ok.is (λ e. absurd (omega (arith, ints)))
+    ∙ not_zero (length (generators c.args.problem.now) + 1) c.args.row.now
+    (point_of c.args.point.now) c.value.result c.value.ensures c.in-Ok.value c.in-Ok.is (λ e. absurd (omega (arith, ints)))

@@ -9,12 +9,15 @@ use Rattle.it_report.proofs.judging.best_line.Goals as goal
 
 pub factor_line-requires : goal.factor_line-requires
 factor_line-requires c = subst (λ n. IsFactorVerdictOver n c.in-Some.verdict)
-    (size_named (question_body c.args.question.now) c.in_ok-problem.problem.space c.problem_names.result.now c.in_ok-problem.ensures.poses.space c.problem_names.ensures)
+    (size_named (question_body c.args.question.now) c.in_ok-problem.problem.space c.problem_names.result.now
+    c.in_ok-problem.ensures.poses.space c.problem_names.ensures)
     (c.in_ok-verdict.ensures.over c.in-Some.verdict c.in-Some.is)
 
 pub returns-in-Some : goal.returns-in-Some
 returns-in-Some c =
-    let told = weighed_as_told (question_body c.args.question.now) c.in_ok-problem.problem c.in_ok-problem.ensures.poses (relation_view c.relation_of.result.now) c.relation_of.ensures
-    (best_view c.args.best.now) c.in_ok-left.left c.in_ok-left.right c.problem_names.result.now c.in-Some.verdict c.requires.fits.asks (rw c.space.ensures.value at c.in_ok-left.ensures.left) (rw c.space.ensures.value at c.in_ok-left.ensures.right)
+    let told = weighed_as_told (question_body c.args.question.now) c.in_ok-problem.problem c.in_ok-problem.ensures.poses
+    (relation_view c.relation_of.result.now) c.relation_of.ensures
+    (best_view c.args.best.now) c.in_ok-left.left c.in_ok-left.right c.problem_names.result.now c.in-Some.verdict c.requires.fits.asks
+    (rw c.space.ensures.value at c.in_ok-left.ensures.left) (rw c.space.ensures.value at c.in_ok-left.ensures.right)
     c.problem_names.ensures (sym c.in_ok-verdict.ensures.verdict ∙ c.in-Some.is) in
     subst (λ (w : LineVerdict). IfOk c.factor_line.result (λ j. IsLineOf c.args.k w j.text.items j.invalid)) told c.factor_line.ensures

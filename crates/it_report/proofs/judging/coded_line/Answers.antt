@@ -8,16 +8,19 @@ use Rattle.it_report.proofs.JudgingLemmas.{code_is, invalid_coded, other_coded, 
 use Rattle.it_report.proofs.judging.coded_line.Goals as goal
 
 pub first_other-requires-clause-code : goal.first_other-requires-clause-code
-first_other-requires-clause-code c = code_is (question_body c.args.question.now) (answer_view c.args.answer.now) (reported_code_view c.args.code.now) c.requires.limits c.requires.fits
+first_other-requires-clause-code c = code_is (question_body c.args.question.now) (answer_view c.args.answer.now)
+    (reported_code_view c.args.code.now) c.requires.limits c.requires.fits
 
 pub first_other-requires-clause-complete : goal.first_other-requires-clause-complete
 first_other-requires-clause-complete c =
     let code = reported_code_view c.args.code.now in
-    subst (λ values. 2 ^ variables_of code.code - 1 ≤ length values) c.point_of-point.ensures (values_complete (question_body c.args.question.now) (answer_view c.args.answer.now) code c.requires.fits)
+    subst (λ values. 2 ^ variables_of code.code - 1 ≤ length values) c.point_of-point.ensures
+    (values_complete (question_body c.args.question.now) (answer_view c.args.answer.now) code c.requires.fits)
 
 pub returns-then-judged : goal.returns-then-judged
 returns-then-judged c =
-    invalid_coded c.args.k (question_body c.args.question.now) (answer_view c.args.answer.now) (reported_code_view c.args.code.now) c.in_ok-judged.judged.text.items c.in_ok-judged.judged.invalid
+    invalid_coded c.args.k (question_body c.args.question.now) (answer_view c.args.answer.now)
+    (reported_code_view c.args.code.now) c.in_ok-judged.judged.text.items c.in_ok-judged.judged.invalid
     c.requires.fits.no c.if-judged.true c.in_ok-judged.ensures
 
 pub other_line-requires : goal.other_line-requires
@@ -33,7 +36,8 @@ returns-in-Some c =
     let code = reported_code_view c.args.code.now in
     let a = answer_view c.args.answer.now in
     let told = subst (λ values. FirstOtherIs code.code code.times values c.in_ok-other.other) (sym c.point_of-point.ensures) c.in_ok-other.ensures in
-    other_coded (λ j. j.text.items) (λ j. j.invalid) c.args.k (question_body c.args.question.now) a code c.in_ok-judged.judged.text.items c.in_ok-judged.judged.invalid
+    other_coded (λ j. j.text.items) (λ j. j.invalid) c.args.k (question_body c.args.question.now) a code c.in_ok-judged.judged.text.items
+    c.in_ok-judged.judged.invalid
     c.problem_names.result.now c.in-Some.set c.other_line.result c.requires.fits.no c.if-judged.false c.in_ok-judged.ensures c.problem_names.ensures
     (subst (FirstOtherIs code.code code.times (values_of a)) c.in-Some.is told) c.other_line.ensures
 
@@ -42,5 +46,6 @@ returns-in-None c =
     let code = reported_code_view c.args.code.now in
     let a = answer_view c.args.answer.now in
     let told = subst (λ values. FirstOtherIs code.code code.times values c.in_ok-other.other) (sym c.point_of-point.ensures) c.in_ok-other.ensures in
-    valid_coded c.args.k (question_body c.args.question.now) a code c.in_ok-judged.judged.text.items c.in_ok-judged.judged.invalid c.requires.fits.no c.if-judged.false c.in_ok-judged.ensures
+    valid_coded c.args.k (question_body c.args.question.now) a code c.in_ok-judged.judged.text.items c.in_ok-judged.judged.invalid
+    c.requires.fits.no c.if-judged.false c.in_ok-judged.ensures
     (subst (FirstOtherIs code.code code.times (values_of a)) c.in-None.is told)

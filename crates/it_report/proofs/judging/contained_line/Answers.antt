@@ -7,15 +7,18 @@ use Rattle.it_report.proofs.JudgingLemmas.{verdict_is_told, has_verdict, contain
 use Rattle.it_report.proofs.judging.contained_line.Goals as goal
 
 pub pair-requires-clause-contains : goal.pair-requires-clause-contains
-pair-requires-clause-contains c = contained_is_about_regions (question_body c.args.question.now) c.args.parts.now (map certificate_view c.args.proofs.now) c.requires.fits
+pair-requires-clause-contains c = contained_is_about_regions (question_body c.args.question.now) c.args.parts.now
+    (map certificate_view c.args.proofs.now) c.requires.fits
 
 pub candidate-requires : goal.candidate-requires
 candidate-requires c =
-    few_parts (question_body c.args.question.now) c.in_ok-pair.pair c.args.parts.now (map certificate_view c.args.proofs.now) c.in_ok-pair.ensures.limits c.in_ok-pair.ensures.pair c.requires.fits
+    few_parts (question_body c.args.question.now) c.in_ok-pair.pair c.args.parts.now
+    (map certificate_view c.args.proofs.now) c.in_ok-pair.ensures.limits c.in_ok-pair.ensures.pair c.requires.fits
 
 pub obligations-requires-clause-fits : goal.obligations-requires-clause-fits
 obligations-requires-clause-fits c =
-    candidate_fits (question_body c.args.question.now) c.in_ok-pair.pair c.args.parts.now (map certificate_view c.args.proofs.now) c.in_ok-pair.ensures.limits c.in_ok-pair.ensures.pair c.requires.fits
+    candidate_fits (question_body c.args.question.now) c.in_ok-pair.pair c.args.parts.now
+    (map certificate_view c.args.proofs.now) c.in_ok-pair.ensures.limits c.in_ok-pair.ensures.pair c.requires.fits
     c.candidate.result (search rules) c.candidate.ensures.count c.candidate.ensures.parts
 
 pub returns : goal.returns
@@ -32,7 +35,8 @@ returns c =
     let fits = c.requires.fits in
     let e : answer_verdict p c.in_ok-rows.rows.items a ≡ Some v
     = subst (λ ts. answer_verdict p ts a ≡ Some v) c.as_slice.ensures.value (ap Some (sym c.proofs_verdict-verdict.ensures.verdict)) in
-    let are = obligation_rows_are q pair parts ws limits pairs fits c.candidate.result c.in_ok-rows.rows.items c.candidate.ensures.parts c.in_ok-rows.ensures.rows in
+    let are = obligation_rows_are q pair parts ws limits pairs fits c.candidate.result c.in_ok-rows.rows.items c.candidate.ensures.parts
+    c.in_ok-rows.ensures.rows in
     verdict_is_told (λ j. j.text.items) (λ j. j.invalid) c.args.k q a c.problem_names.result.now v c.verdict_line.result
     (has_verdict q p (pair_problem q pair parts ws limits pairs fits) a c.in_ok-rows.rows.items c.problem_names.result.now v are c.problem_names.ensures e)
     c.verdict_line.ensures

@@ -19,7 +19,8 @@ proofs_verdict-verdict-requires c =
     let a = answer_view c.args.answer.now in
     let rows : rows_of a ≡ c.as_slice.result.now = ap rows_of c.rows_of.ensures ∙ sym c.in_ok-rows.ensures ∙ sym c.as_slice.ensures.value in
     let over : All (IsOver (size_of c.in_ok-problem.problem.space)) (rows_of a) =
-    subst (λ (s : Space). All (IsOver (size_of s)) (rows_of a)) (sym c.in_ok-problem.ensures.space) (rows_over q a c.requires.fits.region c.requires.fits.answered) in
+    subst (λ (s : Space). All (IsOver (size_of s)) (rows_of a)) (sym c.in_ok-problem.ensures.space)
+    (rows_over q a c.requires.fits.region c.requires.fits.answered) in
     record { rows = subst (λ (ts : List Terms). All (IsOver (size_of c.in_ok-problem.problem.space)) ts) rows over }
 
 pub returns : goal.returns
@@ -31,5 +32,6 @@ returns c =
     let v = c.proofs_verdict-verdict.result in
     let rows : rows_of a ≡ c.as_slice.result.now = ap rows_of c.rows_of.ensures ∙ sym c.in_ok-rows.ensures ∙ sym c.as_slice.ensures.value in
     let verdict : IsDerivedVerdict q a ws (Judged q.names v) = ap (Judged q.names)
-    (c.proofs_verdict-verdict.ensures.verdict ∙ ap (λ ts. proofs_verdict p ts ws) (sym rows) ∙ ap (λ x. proofs_verdict x (rows_of a) ws) (one_problem (under_all_lines q) p c.in_ok-problem.ensures)) in
+    (c.proofs_verdict-verdict.ensures.verdict ∙ ap (λ ts. proofs_verdict p ts ws) (sym rows)
+    ∙ ap (λ x. proofs_verdict x (rows_of a) ws) (one_problem (under_all_lines q) p c.in_ok-problem.ensures)) in
     derived_told (λ j. j.text.items) (λ j. j.invalid) c.args.k q a ws (Judged q.names v) c.verdict_line.result verdict c.verdict_line.ensures

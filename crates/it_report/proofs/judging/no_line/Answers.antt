@@ -22,7 +22,8 @@ point_verdict-verdict-requires-clause-named c =
 
 pub point_verdict-verdict-requires-clause-complete : goal.point_verdict-verdict-requires-clause-complete
 point_verdict-verdict-requires-clause-complete c =
-    point_is_complete (question_body c.args.question.now) (relation_view c.relation_of.result.now) c.relation_of.ensures c.args.back c.args.point.now c.in_ok-problem.problem.space c.in_ok-problem.ensures.poses.space c.requires.fits
+    point_is_complete (question_body c.args.question.now) (relation_view c.relation_of.result.now) c.relation_of.ensures c.args.back
+    c.args.point.now c.in_ok-problem.problem.space c.in_ok-problem.ensures.poses.space c.requires.fits
 
 pub returns : goal.returns
 returns c =
@@ -32,7 +33,8 @@ returns c =
     let v = c.point_verdict-verdict.result in
     let e : answer_verdict p c.in_ok-rows.rows.items a ≡ Some v
     = subst (λ ts. answer_verdict p ts a ≡ Some v) c.as_slice.ensures.value (ap Some (sym c.point_verdict-verdict.ensures.verdict)) in
-    let are = target_rows_are q (relation_view c.relation_of.result.now) c.relation_of.ensures a p.space c.in_ok-rows.rows.items c.in_ok-problem.ensures.poses.space (rw c.space.ensures.value at c.in_ok-rows.ensures) in
+    let are = target_rows_are q (relation_view c.relation_of.result.now) c.relation_of.ensures a p.space c.in_ok-rows.rows.items
+    c.in_ok-problem.ensures.poses.space (rw c.space.ensures.value at c.in_ok-rows.ensures) in
     verdict_is_told (λ j. j.text.items) (λ j. j.invalid) c.args.k q a c.problem_names.result.now v c.verdict_line.result
     (has_verdict q p c.in_ok-problem.ensures.poses a c.in_ok-rows.rows.items c.problem_names.result.now v are c.problem_names.ensures e)
     c.verdict_line.ensures

@@ -11,4 +11,5 @@ pub returns-clause-over : goal.returns-clause-over
 returns-clause-over c =
     let p = c.args.problem.now in
     let bound = size_of p.space + 1 in
-    subst (IsVerdictOver bound) (sym c.check_no.ensures) (no_over bound (length (elementals p.space.variables)) (generators p) c.index-rows-place_named.result (point_of c.args.point.now))
+    subst (IsVerdictOver bound) (sym c.check_no.ensures) (no_over bound (length (elementals p.space.variables))
+    (generators p) c.index-rows-place_named.result (point_of c.args.point.now))

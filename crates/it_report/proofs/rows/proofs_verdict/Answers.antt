@@ -16,7 +16,8 @@ returns-then-not-is_valid-clause-verdict c =
     let e : is_valid (proof_verdict p c.index-rows-i.result (certificate_view c.index-proofs-i.result)) ≡ false
     = ap is_valid (sym c.proof_verdict-verdict.ensures.verdict) ∙ sym c.is_valid.ensures ∙ c.if-not-is_valid.true in
     c.proof_verdict-verdict.ensures.verdict
-    ∙ proofs_found p c.args.rows.now c.args.proofs.now c.loop-i.i c.index-rows-i.result c.index-proofs-i.result c.index-rows-i.is c.index-proofs-i.is c.loop-i-test.true c.if-i-proofs.false e c.loop-i.invariant.rest
+    ∙ proofs_found p c.args.rows.now c.args.proofs.now c.loop-i.i c.index-rows-i.result c.index-proofs-i.result c.index-rows-i.is
+    c.index-proofs-i.is c.loop-i-test.true c.if-i-proofs.false e c.loop-i.invariant.rest
 
 pub loop-i-preserved : goal.loop-i-preserved
 loop-i-preserved c =
@@ -25,5 +26,6 @@ loop-i-preserved c =
     = ap is_valid (sym c.proof_verdict-verdict.ensures.verdict) ∙ sym c.is_valid.ensures ∙ c.if-not-is_valid.false in
     record {
       end = refl;
-      rest = proofs_more p c.args.rows.now c.args.proofs.now c.loop-i.i c.index-rows-i.result c.index-proofs-i.result c.index-rows-i.is c.index-proofs-i.is c.loop-i-test.true c.if-i-proofs.false e c.loop-i.invariant.rest;
+      rest = proofs_more p c.args.rows.now c.args.proofs.now c.loop-i.i c.index-rows-i.result c.index-proofs-i.result c.index-rows-i.is
+          c.index-proofs-i.is c.loop-i-test.true c.if-i-proofs.false e c.loop-i.invariant.rest;
     }

@@ -11,7 +11,8 @@ returns-then-not-is_valid-clause-verdict c =
     let p = c.args.problem.now in
     let e : is_valid (ray_verdict p c.step-item.result.ray) ≡ false
     = ap is_valid (sym c.ray_verdict-verdict.ensures.verdict) ∙ sym c.is_valid.ensures ∙ c.if-not-is_valid.true in
-    c.ray_verdict-verdict.ensures.verdict ∙ rays_found p c.args.steps.now c.loop-step.step-index c.step-item.result c.loop-step-test.true c.step-item.is e c.loop-step.invariant
+    c.ray_verdict-verdict.ensures.verdict ∙ rays_found p c.args.steps.now c.loop-step.step-index c.step-item.result c.loop-step-test.true
+    c.step-item.is e c.loop-step.invariant
 
 pub loop-step-preserved : goal.loop-step-preserved
 loop-step-preserved c =

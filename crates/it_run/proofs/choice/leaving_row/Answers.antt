@@ -28,7 +28,8 @@ loop-i-preserved c =
       | then-is_positive+in_ok-ratio w ↦
           let o : Candidate c c.loop-i.i = ap not (ap (λ q. is_at_least_zero (minus q)) (sym c.entry.ensures) ∙ w.if-is_positive.ensures.yes) in record {
             best = subst (IsBestOf (height t) t.generator_columns (table t) c.args.column (c.loop-i.i + 1)) (sym (w.best-is ∙ w.best_after-best.ensures))
-                (best_takes (height t) t.generator_columns (table t) c.args.column c.loop-i.i w.in_ok-ratio.ratio c.loop-i.best within o w.in_ok-ratio.ensures.1 c.loop-i.invariant.best);
+                (best_takes (height t) t.generator_columns (table t) c.args.column c.loop-i.i w.in_ok-ratio.ratio c.loop-i.best within o
+                w.in_ok-ratio.ensures.1 c.loop-i.invariant.best);
             fits = fits_more c.loop-i.i (λ i. Candidate c i → Fit c i) c.loop-i.invariant.fits (λ _. w.in_ok-ratio.ensures.0);
           }
       | else-is_positive w ↦

@@ -10,5 +10,6 @@ use Rattle.it_run.proofs.choice.leaving_row.Given as goal
 abbrev pub invariant-loop-i : goal.invariant-loop-i
 invariant-loop-i l = record {
   best : IsBestOf (height l.tableau) l.tableau.generator_columns (table l.tableau) l.column l.i l.best;
-  fits : (i : ℕ) → i < l.i → is_candidate rationals (table l.tableau) l.column i ≡ true → IsNarrow (ratio rationals (height l.tableau) l.tableau.generator_columns (table l.tableau) l.column i);
+  fits : (i : ℕ) → i < l.i → is_candidate rationals (table l.tableau) l.column i ≡ true
+      → IsNarrow (ratio rationals (height l.tableau) l.tableau.generator_columns (table l.tableau) l.column i);
 }

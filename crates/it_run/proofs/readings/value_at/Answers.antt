@@ -14,9 +14,11 @@ sign_test : (c : After-sign) → int_lt (to_z w8 (of_z w8 c.sign.result)) (pos 0
 sign_test c = ap (λ s. int_lt (to_z w8 (of_z w8 s)) (pos 0)) c.sign.ensures ∙ sign_is_negative (is_negated c)
 
 signed_cost : (c : After-sign) → (if is_negated c then minus c.cost-cost.result else c.cost-cost.result)
-    ≡ times (sign_number c.args.tableau.now c.args.k) ((table c.args.tableau.now).entry (height c.args.tableau.now) (c.args.tableau.now.generator_columns + c.args.k))
+    ≡ times (sign_number c.args.tableau.now c.args.k) ((table c.args.tableau.now).entry (height c.args.tableau.now)
+    (c.args.tableau.now.generator_columns + c.args.k))
 signed_cost c = signed_is (is_negated c) c.cost-cost.result
-    ∙ ap (times (sign_number c.args.tableau.now c.args.k)) (c.cost-cost.ensures ∙ ap (λ j. (table c.args.tableau.now).entry (height c.args.tableau.now) j) (omega (arith, c.columns.ensures, c.rows.ensures)))
+    ∙ ap (times (sign_number c.args.tableau.now c.args.k)) (c.cost-cost.ensures
+    ∙ ap (λ j. (table c.args.tableau.now).entry (height c.args.tableau.now) j) (omega (arith, c.columns.ensures, c.rows.ensures)))
 
 pub returns-then-sign-lt0 : goal.returns-then-sign-lt0
 returns-then-sign-lt0 c = let d = (goal.at.returns-then-sign-lt0 c).After-sign in

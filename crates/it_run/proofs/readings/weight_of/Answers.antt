@@ -6,7 +6,8 @@ use Rattle.it_run.proofs.readings.weight_of.Goals as goal
 
 pub returns-then-basic-j-clause-some : goal.returns-then-basic-j-clause-some
 returns-then-basic-j-clause-some c = let t = c.args.tableau.now in c.rhs.ensures
-    ∙ sym (weight_found field_ℚ (height t) t.generator_columns c.requires.holds.0 (table t) c.requires.holds.1 c.loop-i.i c.args.j (omega (arith, c.loop-i-test.true)) (sym c.basic.ensures ∙ c.if-basic-j.true))
+    ∙ sym (weight_found field_ℚ (height t) t.generator_columns c.requires.holds.0 (table t) c.requires.holds.1 c.loop-i.i c.args.j
+    (omega (arith, c.loop-i-test.true)) (sym c.basic.ensures ∙ c.if-basic-j.true))
 
 pub returns-clause-none : goal.returns-clause-none
 returns-clause-none c = let t = c.args.tableau.now in

@@ -10,7 +10,8 @@ pub returns-then-is_done-clause-end : goal.returns-then-is_done-clause-end
 returns-then-is_done-clause-end c = unbound_done c.args.tableau.now c.steps.tableau c.steps.number c.steps.invariant.way c.if-is_done.ensures.yes
 
 pub step-requires-clause-ready : goal.step-requires-clause-ready
-step-requires-clause-ready c = let t = c.steps.tableau in let h = c.steps.invariant.kept.holds in ready_by_invariants (height t) t.generator_columns h.0 (table t) h.1
+step-requires-clause-ready c = let t = c.steps.tableau in let h = c.steps.invariant.kept.holds
+    in ready_by_invariants (height t) t.generator_columns h.0 (table t) h.1
 
 pub returns-in-Ok-false-clause-end : goal.returns-in-Ok-false-clause-end
 returns-in-Ok-false-clause-end c = let t = c.steps.tableau in let s = c.step.new.tableau in
@@ -33,8 +34,14 @@ steps-preserved c = let t = c.steps.tableau in let s = c.step.new.tableau in
     let f = c.steps.invariant.kept.frame in record {
       kept = record {
         usable = g.usable;
-        frame = record { generator_columns = g.frame.generator_columns ∙ f.generator_columns; height = g.frame.height ∙ f.height; negated = g.frame.negated ∙ f.negated };
+        frame = record {
+          generator_columns = g.frame.generator_columns ∙ f.generator_columns;
+          height = g.frame.height
+              ∙ f.height;
+          negated = g.frame.negated ∙ f.negated;
+        };
         holds = holds_next t s g c.steps.invariant.kept.holds;
       };
-      way = step_is_made c.args.tableau.now t c.steps.number c.steps.invariant.way s c.next_number-number.result c.next_number-number.ensures c.if-is_done.ensures.no g;
+      way = step_is_made c.args.tableau.now t c.steps.number c.steps.invariant.way s c.next_number-number.result
+          c.next_number-number.ensures c.if-is_done.ensures.no g;
     }

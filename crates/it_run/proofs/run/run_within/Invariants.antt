@@ -9,5 +9,6 @@ use Rattle.it_run.proofs.run.run_within.Given as goal
 abbrev pub invariant-loop-k : goal.invariant-loop-k
 invariant-loop-k l = record {
   kept : IsTableauKept l.fn.tableau l.tableau;
-  back : (e : RunEndView (SimplexTable Rational) (SimplexTable Rational)) → ReachesFrom l.tableau (l.budget - l.k) l.k e → ReachesFrom l.fn.tableau l.budget 0 e;
+  back : (e : RunEndView (SimplexTable Rational) (SimplexTable Rational)) → ReachesFrom l.tableau (l.budget - l.k) l.k e
+      → ReachesFrom l.fn.tableau l.budget 0 e;
 }

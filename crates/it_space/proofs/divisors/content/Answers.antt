@@ -25,6 +25,7 @@ loop-coefficient-preserved c =
     let within : IsWithin t.1 = coefficient_within 0 c.args.terms.now i (0, pos 0) c.requires below in
     let is : c.with_coefficient-common.result ≡ gcd c.loop-coefficient.common (unsigned_abs t.1) = simp to_z-of_z at c.with_coefficient-common.ensures in
     rw is (
-      sym (content-more c.loop-coefficient.common i c.args.terms.now t below (get_or_default c.args.terms.now i (0, pos 0) t below)) ∙ c.loop-coefficient.invariant.0,
+      sym (content-more c.loop-coefficient.common i c.args.terms.now t below (get_or_default c.args.terms.now i (0, pos 0) t below))
+          ∙ c.loop-coefficient.invariant.0,
       gcd_below c.loop-coefficient.common (unsigned_abs t.1) (2 ^ 127) c.loop-coefficient.invariant.1 within,
     )

@@ -13,7 +13,8 @@ quotient-term-requires-clause-within c =
     let t : ℕ × ℤ = get_or c.loop-term.terms i (0, pos 0) in
     let below : i < length c.args.terms.now = omega arith in
     let fits : FitsSigned w128 t.1 = search rules in
-    let was : t ≡ get_or c.args.terms.now i (0, pos 0) = item_not_reached (λ t. (t.0, int_quotient t.1 c.args.by)) c.args.terms.now c.loop-term.terms i (0, pos 0) below c.loop-term.invariant in
+    let was : t ≡ get_or c.args.terms.now i (0, pos 0) = item_not_reached
+    (λ t. (t.0, int_quotient t.1 c.args.by)) c.args.terms.now c.loop-term.terms i (0, pos 0) below c.loop-term.invariant in
     rw (to_z-of_z fits, was) (coefficient_within 0 c.args.terms.now i (0, pos 0) c.requires.within below)
 
 pub loop-term-preserved : goal.loop-term-preserved

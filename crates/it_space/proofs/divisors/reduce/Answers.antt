@@ -13,8 +13,14 @@ pub returns-then-common-gt1 : goal.returns-then-common-gt1
 returns-then-common-gt1 c =
     let common : c.content-common.result ≡ content 0 c.args.terms.items = c.content-common.ensures.value ∙ ap (content 0) c.as_slice.ensures.value in
     let above : 1 < content 0 c.args.terms.items = subst (λ (n : ℕ). 1 < n) common c.if-common-gt1.true in
-    let is : c.divide.new.terms ≡ divided_terms (content 0 c.args.terms.items) c.args.terms.items = divided_by c.args.terms.items c.as_mut_slice.result.now c.divide.new.terms c.content-common.result c.as_mut_slice.ensures.value common c.divide.ensures in
-    let whole : length c.divide.new.terms ≡ c.args.terms.len = omega (arith, ap length is, length-map {B = ℕ × ℤ} c.args.terms.items (λ (t : ℕ × ℤ). (t.0, int_quotient t.1 (content 0 c.args.terms.items)))) in
+    let is : c.divide.new.terms ≡ divided_terms (content 0 c.args.terms.items) c.args.terms.items = divided_by c.args.terms.items
+    c.as_mut_slice.result.now c.divide.new.terms c.content-common.result c.as_mut_slice.ensures.value common c.divide.ensures in
+    let whole : length c.divide.new.terms ≡ c.args.terms.len = omega (
+      arith,
+      ap length is,
+      length-map {B = ℕ × ℤ} c.args.terms.items
+          (λ (t : ℕ × ℤ). (t.0, int_quotient t.1 (content 0 c.args.terms.items))),
+    ) in
     rw (with_items_is c.args.terms c.divide.new.terms whole, is) record {
       canonical = divided_all c.args.terms.items c.requires (omega arith);
       meaning = lowest_terms_divided c.args.terms.items c.requires above;
@@ -25,4 +31,9 @@ pub returns-else-common-gt1 : goal.returns-else-common-gt1
 returns-else-common-gt1 c =
     let common : c.content-common.result ≡ content 0 c.args.terms.items = c.content-common.ensures.value ∙ ap (content 0) c.as_slice.ensures.value in
     let few : content 0 c.args.terms.items ≤ 1 = subst (λ (n : ℕ). n ≤ 1) common c.if-common-gt1.false in
-    record { canonical = c.requires; meaning = lowest_terms_already c.args.terms.items c.requires few; lowest_terms = lowest_terms_same c.args.terms.items c.requires few }
+    record {
+      canonical = c.requires;
+      meaning = lowest_terms_already c.args.terms.items c.requires few;
+      lowest_terms = lowest_terms_same
+          c.args.terms.items c.requires few;
+    }

@@ -14,7 +14,8 @@ returns-in_err-total c =
     let term_fits : FitsSigned w128 t.1 = search rules in
     let value_fits : FitsSigned w128 c.at.result = search rules in
     let wide = simp to_z-of_z at c.in_err-total.ensures in
-    let stops = under_way-stops c.args.row.now items (point_of c.args.point.now) i (to_z w128 c.loop-coordinate.total-bits) c.at.result t c.terms-coordinate-items.ensures.value below
+    let stops = under_way-stops c.args.row.now items (point_of c.args.point.now) i
+    (to_z w128 c.loop-coordinate.total-bits) c.at.result t c.terms-coordinate-items.ensures.value below
     (get_or_default items i (0, pos 0) t below) c.at.ensures.value wide c.loop-coordinate.invariant in
     search (rules, stops)
 
@@ -28,5 +29,6 @@ loop-coordinate-preserved c =
     let value_fits : FitsSigned w128 c.at.result = search rules in
     let sum_fits : FitsSigned w128 c.in_ok-total.total = search rules in
     let step = simp to_z-of_z at c.in_ok-total.ensures in
-    rw (to_z-of_z sum_fits) (under_way-more c.args.row.now items (point_of c.args.point.now) i (to_z w128 c.loop-coordinate.total-bits) c.in_ok-total.total c.at.result t c.terms-coordinate-items.ensures.value below
+    rw (to_z-of_z sum_fits) (under_way-more c.args.row.now items (point_of c.args.point.now) i
+    (to_z w128 c.loop-coordinate.total-bits) c.in_ok-total.total c.at.result t c.terms-coordinate-items.ensures.value below
     (get_or_default items i (0, pos 0) t below) c.at.ensures.value step.0 step.1 c.loop-coordinate.invariant)

@@ -1,5 +1,5 @@
 use Rattle.std.proofs.Common.{◌≤◌, List, All, arith, length, subst, sym, ◌∙◌}
-use Rattle.it_space.specs.Problems.{ProblemView}
+use Rattle.it_problems.specs.Problems.{ProblemView}
 use Rattle.it_space.specs.Rows.{Terms, IsOver}
 use Rattle.it_space.specs.Spaces.{size_of}
 use Rattle.it_hull.proofs.ConstantLemmas.{few_constants}
@@ -14,4 +14,5 @@ problem_with-requires-clause-few_givens c =
 pub problem_with-requires-clause-rows : goal.problem_with-requires-clause-rows
 problem_with-requires-clause-rows c =
     let over = IsOver (size_of c.args.givens.now.space) in
-    subst (λ (rows : List Terms). All over rows) (sym (c.as_slice.ensures.value ∙ c.remove-row.ensures.items)) (all-remove over c.args.rows.now.items c.args.drop.now.row c.requires.over)
+    subst (λ (rows : List Terms). All over rows) (sym (c.as_slice.ensures.value ∙ c.remove-row.ensures.items))
+    (all-remove over c.args.rows.now.items c.args.drop.now.row c.requires.over)

@@ -9,4 +9,5 @@ pub returns-in-Number-default-clause-read : goal.returns-in-Number-default-claus
 returns-in-Number-default-clause-read c =
     let n = c.in-Number-default.number in
     let front : letters_left c.args.rest.now ≡ Number n ∷ letters_left c.front.result.1 = rw c.in-Number-default.is-0 at c.front.ensures.front in
-    rw (front, read_at_number c.args.multiple (scope_of c.args.names.now c.args.rates) c.args.negative n (letters_left c.front.result.1)) c.after_number.ensures.read
+    rw (front, read_at_number c.args.multiple (scope_of c.args.names.now c.args.rates) c.args.negative n (letters_left c.front.result.1))
+    c.after_number.ensures.read

@@ -7,7 +7,8 @@ use Rattle.it_syntax.proofs.lists.more.Given as goal
 
 -- reading on from here gives what the whole reading gives
 abbrev pub invariant-loop-rest : goal.invariant-loop-rest
-invariant-loop-rest l = read (forms.more_names (env_of l.names) l.set) (letters_left l.rest) ≡ read (forms.more_names (env_of l.names) l.fn.first) (letters_left l.initial.rest)
+invariant-loop-rest l = read (forms.more_names (env_of l.names) l.set) (letters_left l.rest)
+    ≡ read (forms.more_names (env_of l.names) l.fn.first) (letters_left l.initial.rest)
 
 abbrev pub decreases-loop-rest : goal.decreases-loop-rest
 decreases-loop-rest l = length (letters_left l.rest)

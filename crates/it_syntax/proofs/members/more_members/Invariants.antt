@@ -7,7 +7,8 @@ use Rattle.it_syntax.proofs.members.more_members.Given as goal
 
 -- reading on from here gives what the whole reading gives
 abbrev pub invariant-loop-divider : goal.invariant-loop-divider
-invariant-loop-divider l = read (forms.more_members l.divider (env_of l.names) l.found.items) (letters_left l.rest) ≡ read (forms.more_members l.divider (env_of l.names) l.fn.first.items) (letters_left l.initial.rest)
+invariant-loop-divider l = read (forms.more_members l.divider (env_of l.names) l.found.items) (letters_left l.rest)
+    ≡ read (forms.more_members l.divider (env_of l.names) l.fn.first.items) (letters_left l.initial.rest)
 
 abbrev pub decreases-loop-divider : goal.decreases-loop-divider
 decreases-loop-divider l = length (letters_left l.rest)

@@ -11,17 +11,23 @@ use Rattle.it_syntax.proofs.FormLimits.{relation_limited}
 use Rattle.it_syntax.proofs.relations.relation.Goals as goal
 
 pub invariant_of-rest : goal.invariant_of-rest
-invariant_of-rest c = record { inside = rw (c.split_at.ensures.back, c.as_slice.ensures.value) (in_line_drop c.args.line.now c.args.tokens.now.tokens.items c.args.from c.requires.inside) }
+invariant_of-rest c = record {
+  inside = rw (c.split_at.ensures.back, c.as_slice.ensures.value)
+      (in_line_drop c.args.line.now c.args.tokens.now.tokens.items c.args.from c.requires.inside);
+}
 
 pub column-requires-clause-within : goal.column-requires-clause-within
 column-requires-clause-within c =
     let e = rw (c.in-Err-Fault.field-0-is, c.split_at.ensures.back, c.as_slice.ensures.value) at c.in-Err-Fault.ensures in
-    rw c.as_slice.ensures.value (stop_is_fault (relation_line c.args.names.now c.args.rates) _ (relation_line_has c.args.names.now c.args.rates) c.args.line.now c.args.tokens.now c.args.from c.relation_to_end.new.rest.line.now c.relation_to_end.new.rest.tokens.now (last_letter c.relation_to_end.new.rest.misspelling) c.in-Err-Fault.code e).0
+    rw c.as_slice.ensures.value (stop_is_fault (relation_line c.args.names.now c.args.rates) _
+    (relation_line_has c.args.names.now c.args.rates) c.args.line.now c.args.tokens.now c.args.from c.relation_to_end.new.rest.line.now
+    c.relation_to_end.new.rest.tokens.now (last_letter c.relation_to_end.new.rest.misspelling) c.in-Err-Fault.code e).0
 
 pub returns-in-Ok-clause-read : goal.returns-in-Ok-clause-read
 returns-in-Ok-clause-read c =
     let e = rw (c.split_at.ensures.back, c.as_slice.ensures.value) at c.in-Ok.ensures in
-    read_is_said (relation_line c.args.names.now c.args.rates) _ (relation_line_has c.args.names.now c.args.rates) (letters_from c.args.line.now c.args.tokens.now c.args.from) (relation_view c.in-Ok.relation) e
+    read_is_said (relation_line c.args.names.now c.args.rates) _ (relation_line_has c.args.names.now c.args.rates)
+    (letters_from c.args.line.now c.args.tokens.now c.args.from) (relation_view c.in-Ok.relation) e
 
 pub returns-in-Ok-clause-limits : goal.returns-in-Ok-clause-limits
 returns-in-Ok-clause-limits c = relation_limited c.args.names.now c.args.rates _ _ (relation_view c.in-Ok.relation) c.in-Ok.ensures
@@ -29,4 +35,6 @@ returns-in-Ok-clause-limits c = relation_limited c.args.names.now c.args.rates _
 pub returns-in-Err-Fault-clause-fault : goal.returns-in-Err-Fault-clause-fault
 returns-in-Err-Fault-clause-fault c =
     let e = rw (c.in-Err-Fault.field-0-is, c.split_at.ensures.back, c.as_slice.ensures.value) at c.in-Err-Fault.ensures in
-    rw (c.column.ensures, c.as_slice.ensures.value) (stop_is_fault (relation_line c.args.names.now c.args.rates) _ (relation_line_has c.args.names.now c.args.rates) c.args.line.now c.args.tokens.now c.args.from c.relation_to_end.new.rest.line.now c.relation_to_end.new.rest.tokens.now (last_letter c.relation_to_end.new.rest.misspelling) c.in-Err-Fault.code e).1
+    rw (c.column.ensures, c.as_slice.ensures.value) (stop_is_fault (relation_line c.args.names.now c.args.rates) _
+    (relation_line_has c.args.names.now c.args.rates) c.args.line.now c.args.tokens.now c.args.from c.relation_to_end.new.rest.line.now
+    c.relation_to_end.new.rest.tokens.now (last_letter c.relation_to_end.new.rest.misspelling) c.in-Err-Fault.code e).1

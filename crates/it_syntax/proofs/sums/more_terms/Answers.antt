@@ -26,7 +26,8 @@ loop-negative-preserved c =
     rw c.in_ok-add-in-Ok.ensures.added (
       both.0,
       λ m e. (
-        each_goes signs (λ ts l. (None, is_of (Punctuation Minus) l)) (λ ts minus. allowed (c.args.most - length ts) (term (multiple_from m ts) s minus)) (λ ts t. ts ++ t ∷ []) found c.in-Some.negative c.in-Ok.next _ _ _ _ c.in-Some.ensures
+        each_goes signs (λ ts l. (None, is_of (Punctuation Minus) l)) (λ ts minus. allowed (c.args.most - length ts)
+            (term (multiple_from m ts) s minus)) (λ ts t. ts ++ t ∷ []) found c.in-Some.negative c.in-Ok.next _ _ _ _ c.in-Some.ensures
             (rw (← left, ← (c.loop-negative.invariant.1 m e).1) c.in-Ok.ensures.read) (c.loop-negative.invariant.1 m e).0,
         one_more_multiple m c.loop-negative.so_far c.in-Ok.both found c.in-Ok.next (c.loop-negative.invariant.1 m e).1 both.1,
       ),
@@ -38,14 +39,17 @@ returns-in-Err-clause-read c = λ m e.
     let s = scope_of c.args.names.now c.args.rates in
     let found = c.loop-negative.found.items in
     let left : c.saturating_sub-left.result ≡ c.args.most - length found = omega (arith, c.saturating_sub-left.ensures, c.len.ensures) in
-    each_stops signs (λ ts l. (None, is_of (Punctuation Minus) l)) (λ ts minus. allowed (c.args.most - length ts) (term (multiple_from m ts) s minus)) (λ ts t. ts ++ t ∷ []) found c.in-Some.negative _ _ _ c.in-Err.stop _ c.in-Some.ensures
+    each_stops signs (λ ts l. (None, is_of (Punctuation Minus) l)) (λ ts minus. allowed (c.args.most - length ts)
+    (term (multiple_from m ts) s minus)) (λ ts t. ts ++ t ∷ []) found c.in-Some.negative _ _ _ c.in-Err.stop _ c.in-Some.ensures
     (rw (← left, ← (c.loop-negative.invariant.1 m e).1) c.in-Err.ensures.read) (c.loop-negative.invariant.1 m e).0
 
 pub returns-clause-read : goal.returns-clause-read
 unfolding more_terms
 returns-clause-read c = λ m e.
     let s = scope_of c.args.names.now c.args.rates in
-    rw c.in_default.ensures.1 (each_ends signs (λ ts l. (None, is_of (Punctuation Minus) l)) (λ ts minus. allowed (c.args.most - length ts) (term (multiple_from m ts) s minus)) (λ ts t. ts ++ t ∷ []) c.loop-negative.found.items _ _ c.in_default.ensures.0 (c.loop-negative.invariant.1 m e).0)
+    rw c.in_default.ensures.1 (each_ends signs (λ ts l. (None, is_of (Punctuation Minus) l))
+    (λ ts minus. allowed (c.args.most - length ts) (term (multiple_from m ts) s minus))
+    (λ ts t. ts ++ t ∷ []) c.loop-negative.found.items _ _ c.in_default.ensures.0 (c.loop-negative.invariant.1 m e).0)
 
 pub returns-clause-multiple : goal.returns-clause-multiple
 returns-clause-multiple c = (c.loop-negative.invariant.0, λ m e. (c.loop-negative.invariant.1 m e).1)

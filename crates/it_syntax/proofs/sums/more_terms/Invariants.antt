@@ -11,7 +11,9 @@ use Rattle.it_syntax.proofs.sums.more_terms.Given as goal
 -- gives, and the terms so far have the multiple `so_far` with m
 abbrev pub invariant-loop-negative : goal.invariant-loop-negative
 invariant-loop-negative l = (1 ≤ l.so_far) × ((m : ℕ) → l.fn.multiple ≡ lcm m l.fn.first.denominator →
-    (read (forms.more_terms l.fn.most m (scope_of l.names l.rates) l.found.items) (letters_left l.rest) ≡ read (forms.more_terms l.fn.most m (scope_of l.names l.rates) (l.fn.first ∷ [])) (letters_left l.initial.rest)) × (l.so_far ≡ multiple_from m l.found.items))
+    (read (forms.more_terms l.fn.most m (scope_of l.names l.rates) l.found.items) (letters_left l.rest)
+    ≡ read (forms.more_terms l.fn.most m (scope_of l.names l.rates) (l.fn.first ∷ [])) (letters_left l.initial.rest))
+    × (l.so_far ≡ multiple_from m l.found.items))
 
 abbrev pub decreases-loop-negative : goal.decreases-loop-negative
 decreases-loop-negative l = length (letters_left l.rest)

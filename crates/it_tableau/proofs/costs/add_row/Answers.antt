@@ -21,17 +21,22 @@ returns-in_err-add_number-clause-err c =
 
 pub loop-i-preserved : goal.loop-i-preserved
 loop-i-preserved c =
-    term_is_added c.args.terms.now c.args.sums.now.items c.requires.narrow c.loop-i.i c.loop-i.sums.items c.loop-i.invariant c.loop-i-test.true c.add_number.new.sums.items
+    term_is_added c.args.terms.now c.args.sums.now.items c.requires.narrow c.loop-i.i c.loop-i.sums.items c.loop-i.invariant
+    c.loop-i-test.true c.add_number.new.sums.items
     (subst (λ (j : ℕ). SumFits (number_of_term c.args.terms.now c.loop-i.i) (entry_at c.loop-i.sums.items j)) c.column.ensures
     (subst (λ (x : Rational). SumFits x (entry_at c.loop-i.sums.items c.column.result)) c.term.ensures.value c.in_ok-add_number.ensures.ok))
     (subst (λ (j : ℕ). IsNumberAdded c.loop-i.sums.items j (number_of_term c.args.terms.now c.loop-i.i) c.add_number.new.sums.items) c.column.ensures
-    (subst (λ (x : Rational). IsNumberAdded c.loop-i.sums.items c.column.result x c.add_number.new.sums.items) c.term.ensures.value c.in_ok-add_number.ensures.value))
+    (subst (λ (x : Rational). IsNumberAdded c.loop-i.sums.items c.column.result x c.add_number.new.sums.items) c.term.ensures.value
+    c.in_ok-add_number.ensures.value))
 
 pub returns-clause-ok : goal.returns-clause-ok
-returns-clause-ok c = all_additions_fit c.args.terms.now c.args.sums.now.items c.requires.narrow c.loop-i.i c.loop-i.sums.items c.loop-i.invariant (omega (arith, c.loop-i-test.false))
+returns-clause-ok c = all_additions_fit c.args.terms.now c.args.sums.now.items c.requires.narrow c.loop-i.i c.loop-i.sums.items
+    c.loop-i.invariant (omega (arith, c.loop-i-test.false))
 
 pub returns-clause-value : goal.returns-clause-value
-returns-clause-value c = row_is_added c.args.terms.now c.args.sums.now.items c.requires.narrow c.loop-i.i c.loop-i.sums.items c.loop-i.invariant (omega (arith, c.loop-i-test.false))
+returns-clause-value c = row_is_added c.args.terms.now c.args.sums.now.items c.requires.narrow c.loop-i.i c.loop-i.sums.items
+    c.loop-i.invariant (omega (arith, c.loop-i-test.false))
 
 pub returns-clause-narrow : goal.returns-clause-narrow
-returns-clause-narrow c = all_sums_are_narrow c.args.terms.now c.args.sums.now.items c.requires.narrow c.loop-i.i c.loop-i.sums.items c.loop-i.invariant (omega (arith, c.loop-i-test.false))
+returns-clause-narrow c = all_sums_are_narrow c.args.terms.now c.args.sums.now.items c.requires.narrow c.loop-i.i c.loop-i.sums.items
+    c.loop-i.invariant (omega (arith, c.loop-i-test.false))

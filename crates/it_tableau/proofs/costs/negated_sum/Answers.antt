@@ -17,7 +17,8 @@ pub loop-i-preserved : goal.loop-i-preserved
 loop-i-preserved c =
     let rows : List (List Rational) = c.args.rows.now in
     let one : suc c.loop-i.i ≡ c.loop-i.i + 1 = omega arith in record {
-      sum_is = c.in_ok-sum.ensures.1 ∙ ap (λ x. plus x c.loop-i.sum) c.read.ensures ∙ ap (plus (entry_at (row_at rows c.loop-i.i) c.args.j)) c.loop-i.invariant.sum_is
+      sum_is = c.in_ok-sum.ensures.1 ∙ ap (λ x. plus x c.loop-i.sum) c.read.ensures
+          ∙ ap (plus (entry_at (row_at rows c.loop-i.i) c.args.j)) c.loop-i.invariant.sum_is
           ∙ ap (column_sum rows c.args.j) one;
       fits = fits_more c.loop-i.i (λ k. SumFits (entry_at (row_at rows k) c.args.j) (column_sum rows c.args.j k)) c.loop-i.invariant.fits
           (subst (λ (x : Rational). SumFits x (column_sum rows c.args.j c.loop-i.i)) c.read.ensures

@@ -20,5 +20,6 @@ returns c =
     let f : ℕ → Rational = λ k. start_number c.args.coordinates.now c.args.columns.now c.args.target.now k c.args.j in
     let terms : Terms = slice_index_or c.args.columns.now c.args.j [] in
     let e = ap (λ (ts : Terms). length ts) c.terms_of_column-terms.ensures.value in
-    column_put c.args.coordinates.now f terms c.args.j c.args.lists.now.items c.loop-i.i c.loop-i.lists.items c.loop-i.invariant (omega (arith, c.loop-i-test.false, e))
+    column_put c.args.coordinates.now f terms c.args.j c.args.lists.now.items c.loop-i.i c.loop-i.lists.items c.loop-i.invariant
+    (omega (arith, c.loop-i-test.false, e))
     (λ k l z. no_entry c.args.coordinates.now c.args.columns.now c.args.target.now c.args.j k c.requires.column z)

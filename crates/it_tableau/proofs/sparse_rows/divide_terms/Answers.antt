@@ -8,7 +8,8 @@ use Rattle.it_tableau.proofs.Zeros.{any_err}
 use Rattle.it_tableau.proofs.sparse_rows.divide_terms.Goals as goal
 
 pub loop-i-init : goal.loop-i-init
-loop-i-init c = subst (IsDividing c.args.width c.args.terms.now c.args.pivot 0) (sym c.clear.ensures.items) (division_begins c.args.width c.args.terms.now c.args.pivot c.requires.terms)
+loop-i-init c = subst (IsDividing c.args.width c.args.terms.now c.args.pivot 0) (sym c.clear.ensures.items)
+    (division_begins c.args.width c.args.terms.now c.args.pivot c.requires.terms)
 
 pub returns-in_err-div-clause-wide : goal.returns-in_err-div-clause-wide
 returns-in_err-div-clause-wide c =
@@ -25,7 +26,9 @@ loop-i-preserved c =
     (subst (λ (n : ℕ). IsAppended c.loop-i.buffer.items n v c.append.new.terms.items) c.column.ensures c.in_ok-append.ensures)
 
 pub returns-clause-ok : goal.returns-clause-ok
-returns-clause-ok c = all_quotients_fit c.args.width c.args.terms.now c.args.pivot c.loop-i.i c.loop-i.buffer.items c.loop-i.invariant (omega (arith, c.loop-i-test.false))
+returns-clause-ok c = all_quotients_fit c.args.width c.args.terms.now c.args.pivot c.loop-i.i c.loop-i.buffer.items c.loop-i.invariant
+    (omega (arith, c.loop-i-test.false))
 
 pub returns-clause-value : goal.returns-clause-value
-returns-clause-value c = division_ends c.args.width c.args.terms.now c.args.pivot c.loop-i.i c.loop-i.buffer.items c.loop-i.invariant (omega (arith, c.loop-i-test.false))
+returns-clause-value c = division_ends c.args.width c.args.terms.now c.args.pivot c.loop-i.i c.loop-i.buffer.items c.loop-i.invariant
+    (omega (arith, c.loop-i-test.false))

@@ -6,5 +6,6 @@ use Rattle.it_tableau.proofs.start.negations.Given as goal
 abbrev pub invariant-loop-k : goal.invariant-loop-k
 invariant-loop-k l = record {
   count : length l.negated.items ≡ l.k;
-  value : (k : ℕ) → k < l.k → slice_index_or l.negated.items k false ≡ not (is_at_least_zero (integer (coefficient l.target (slice_index_or l.coordinates k 0))));
+  value : (k : ℕ) → k < l.k → slice_index_or l.negated.items k false
+      ≡ not (is_at_least_zero (integer (coefficient l.target (slice_index_or l.coordinates k 0))));
 }

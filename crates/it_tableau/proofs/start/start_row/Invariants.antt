@@ -7,4 +7,7 @@ use Rattle.it_tableau.proofs.Building.{IsBuilt}
 use Rattle.it_tableau.proofs.start.start_row.Given as goal
 
 abbrev pub invariant-loop-j : goal.invariant-loop-j
-invariant-loop-j l = IsBuilt (start_row rationals (length l.coordinates) (length l.columns) (feasibility_problem l.coordinates l.columns l.target) l.k) (λ j. IsWholeNumber (start_row rationals (length l.coordinates) (length l.columns) (feasibility_problem l.coordinates l.columns l.target) l.k j)) l.j l.terms.items
+invariant-loop-j l = IsBuilt (start_row rationals (length l.coordinates) (length l.columns)
+    (feasibility_problem l.coordinates l.columns l.target) l.k) (λ j. IsWholeNumber
+    (start_row rationals (length l.coordinates) (length l.columns) (feasibility_problem l.coordinates l.columns l.target) l.k j)) l.j
+    l.terms.items

@@ -11,7 +11,8 @@ use Rattle.it_tableau.proofs.start.start_table.Goals as goal
 pub returns-in_err-cost-clause-wide : goal.returns-in_err-cost-clause-wide
 returns-in_err-cost-clause-wide c =
     fault_is_handed_on c.from_residual-in_err-cost.result c.in_err-cost.field-0.0 Wide
-    (¬ (StartFits (length c.args.coordinates.now) (length c.args.columns.now) (feasibility_problem c.args.coordinates.now c.args.columns.now c.args.target.now)))
+    (¬ (StartFits (length c.args.coordinates.now) (length c.args.columns.now)
+    (feasibility_problem c.args.coordinates.now c.args.columns.now c.args.target.now)))
     c.from_residual-in_err-cost.ensures.1
     (λ e fits. c.in_err-cost.ensures.wide e
     (subst (λ (x : List (List Rational)). ColumnsFit x (length c.args.columns.now + length c.args.coordinates.now + 1)) (sym c.as_slice.ensures.value)
@@ -19,4 +20,5 @@ returns-in_err-cost-clause-wide c =
 
 pub returns-clause-ok : goal.returns-clause-ok
 returns-clause-ok c = start_fits c.args.coordinates.now c.args.columns.now c.args.target.now c.in_ok-rows.rows.items c.in_ok-rows.ensures
-    (subst (λ (x : List (List Rational)). ColumnsFit x (length c.args.columns.now + length c.args.coordinates.now + 1)) c.as_slice.ensures.value c.in_ok-cost.ensures.ok)
+    (subst (λ (x : List (List Rational)). ColumnsFit x (length c.args.columns.now + length c.args.coordinates.now + 1))
+    c.as_slice.ensures.value c.in_ok-cost.ensures.ok)

@@ -5,5 +5,6 @@ use Rattle.it_tell.proofs.OwnLineLemmas.{free_problem}
 use Rattle.it_tell.proofs.containments.free_problem.Goals as goal
 
 pub invariant_of-result : goal.invariant_of-result
-invariant_of-result c = free_problem (question_body c.args.question.now) (record { space = c.space-space.result; constraints = c.new-constraints.result.items }) c.requires
+invariant_of-result c = free_problem (question_body c.args.question.now)
+    (record { space = c.space-space.result; constraints = c.new-constraints.result.items }) c.requires
     (c.space-space.ensures.counts ∙ ap space_of c.problem_names.ensures) c.new-constraints.ensures.items

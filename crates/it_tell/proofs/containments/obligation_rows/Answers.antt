@@ -9,15 +9,18 @@ use Rattle.it_tell.specs.Steps.{contained_by}
 use Rattle.it_tell.proofs.containments.obligation_rows.Goals as goal
 
 pub pair-requires-clause-contains : goal.pair-requires-clause-contains
-pair-requires-clause-contains c = contained_is_about_regions (question_body c.args.asked.now.question.now) c.args.asked.now.parts.now (map certificate_view c.args.proofs.now) c.requires.fits
+pair-requires-clause-contains c = contained_is_about_regions (question_body c.args.asked.now.question.now) c.args.asked.now.parts.now
+    (map certificate_view c.args.proofs.now) c.requires.fits
 
 pub candidate-requires : goal.candidate-requires
 candidate-requires c =
-    few_parts (question_body c.args.asked.now.question.now) c.in_ok-pair.pair c.args.asked.now.parts.now (map certificate_view c.args.proofs.now) c.in_ok-pair.ensures.limits c.in_ok-pair.ensures.pair c.requires.fits
+    few_parts (question_body c.args.asked.now.question.now) c.in_ok-pair.pair c.args.asked.now.parts.now
+    (map certificate_view c.args.proofs.now) c.in_ok-pair.ensures.limits c.in_ok-pair.ensures.pair c.requires.fits
 
 pub obligations-requires-clause-fits : goal.obligations-requires-clause-fits
 obligations-requires-clause-fits c =
-    candidate_fits (question_body c.args.asked.now.question.now) c.in_ok-pair.pair c.args.asked.now.parts.now (map certificate_view c.args.proofs.now) c.in_ok-pair.ensures.limits c.in_ok-pair.ensures.pair c.requires.fits
+    candidate_fits (question_body c.args.asked.now.question.now) c.in_ok-pair.pair c.args.asked.now.parts.now
+    (map certificate_view c.args.proofs.now) c.in_ok-pair.ensures.limits c.in_ok-pair.ensures.pair c.requires.fits
     c.candidate.result (search rules) c.candidate.ensures.count c.candidate.ensures.parts
 
 pub returns : goal.returns
@@ -26,5 +29,7 @@ returns c =
     let parts = c.args.asked.now.parts.now in
     let ws = map certificate_view c.args.proofs.now in
     let pair = c.in_ok-pair.pair in
-    subst (λ (s : Space). ArePulledRows s (answer_forms q (contained_by parts c.args.proofs.now)) c.in_ok-rows.rows.items) (pair_problem q pair parts ws c.in_ok-pair.ensures.limits c.in_ok-pair.ensures.pair c.requires.fits).space
-    (obligation_rows_are q pair parts ws c.in_ok-pair.ensures.limits c.in_ok-pair.ensures.pair c.requires.fits c.candidate.result c.in_ok-rows.rows.items c.candidate.ensures.parts c.in_ok-rows.ensures.rows)
+    subst (λ (s : Space). ArePulledRows s (answer_forms q (contained_by parts c.args.proofs.now)) c.in_ok-rows.rows.items)
+    (pair_problem q pair parts ws c.in_ok-pair.ensures.limits c.in_ok-pair.ensures.pair c.requires.fits).space
+    (obligation_rows_are q pair parts ws c.in_ok-pair.ensures.limits c.in_ok-pair.ensures.pair c.requires.fits c.candidate.result
+    c.in_ok-rows.rows.items c.candidate.ensures.parts c.in_ok-rows.ensures.rows)

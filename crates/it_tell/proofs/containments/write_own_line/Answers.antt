@@ -19,7 +19,8 @@ returns c =
     let relation = c.as_slice-relation.result.now in
     let below = c.as_slice-below.result.now in
     let old = c.args.out.now.items in
-    own_line_appended q options parts c.args.origin rows ws relation below c.in_ok-comment.comment.items old c.write_indented.new.out.items c.extend_from_slice.new.self.items
+    own_line_appended q options parts c.args.origin rows ws relation below c.in_ok-comment.comment.items old c.write_indented.new.out.items
+    c.extend_from_slice.new.self.items
     (subst (λ (text : List ℕ). SaysOrNothing (problem_names q) (map value rows) text) (sym c.as_slice-relation.ensures.value) c.in_ok-relation.ensures)
     (subst (λ (text : List ℕ). AppendsOwnProofs q options rows ws [] text) (sym c.as_slice-below.ensures.value) c.in_ok-below.ensures)
     (c.in_ok-comment.ensures ∙ ap (λ b. own_line_comment q parts c.args.origin relation b) c.is_empty.ensures)

@@ -14,13 +14,15 @@ pub relation_of-relation-requires : goal.relation_of-relation-requires
 relation_of-relation-requires c = yes_is_about_relation (question_body c.args.question.now) (map certificate_view c.args.proofs.now) c.requires.fits
 
 pub target_rows-requires-clause-within : goal.target_rows-requires-clause-within
-target_rows-requires-clause-within c = rw c.space.ensures.counts (subst (λ (v : VerbView). IsVerbOver (question_body c.args.question.now).names v) c.relation_of-relation.ensures c.requires.question.verb)
+target_rows-requires-clause-within c = rw c.space.ensures.counts (subst
+    (λ (v : VerbView). IsVerbOver (question_body c.args.question.now).names v) c.relation_of-relation.ensures c.requires.question.verb)
 
 pub returns : goal.returns
 unfolding AreRowsFor
 returns c =
     let q = question_body c.args.question.now in (
       c.space.result,
-      target_rows_are q (relation_view c.relation_of-relation.result.now) c.relation_of-relation.ensures (Yes (map certificate_view c.args.proofs.now)) c.space.result c.in_ok-rows.rows.items
+      target_rows_are q (relation_view c.relation_of-relation.result.now) c.relation_of-relation.ensures
+          (Yes (map certificate_view c.args.proofs.now)) c.space.result c.in_ok-rows.rows.items
           (c.space.ensures.counts ∙ ap (λ (v : VerbView). space_of (names_under q.names v)) (sym c.relation_of-relation.ensures)) c.in_ok-rows.ensures,
     )

@@ -9,7 +9,8 @@ use Rattle.it_tell.proofs.details.write_proof.Goals as goal
 
 pub returns : goal.returns
 returns c = on_ok_weaker c.write_steps.result
-    (proof_appended (question_body c.args.question.now) c.args.options (value c.args.row.now, certificate_view c.args.certificate.now) c.args.out.now.items c.write_indented.new.out.items c.write_steps.new.out.items
+    (proof_appended (question_body c.args.question.now) c.args.options (value c.args.row.now, certificate_view c.args.certificate.now)
+    c.args.out.now.items c.write_indented.new.out.items c.write_steps.new.out.items
     c.in_ok-texts.texts.proof.items (map (λ s. s.items) c.in_ok-texts.texts.steps.items) c.in_ok-texts.ensures
     (c.in_ok-write_indented.ensures ∙ ap (λ (t : List ℕ). c.args.out.now.items ++ indented_line t) c.as_slice.ensures.value))
     (rw c.as_slice-2.ensures.value at c.write_steps.ensures)

@@ -6,11 +6,15 @@ use Rattle.it_tell.proofs.ProofLemmas.{all_proofs, no_proof_appended, proofs_mor
 use Rattle.it_tell.proofs.details.write_proofs.Goals as goal
 
 pub loop-i-init : goal.loop-i-init
-loop-i-init c = no_proof_appended (question_body c.args.question.now) c.args.options c.args.rows.now (map certificate_view c.args.proofs.now) c.args.out.now.items
+loop-i-init c = no_proof_appended (question_body c.args.question.now) c.args.options c.args.rows.now
+    (map certificate_view c.args.proofs.now) c.args.out.now.items
 
 pub loop-i-preserved : goal.loop-i-preserved
-loop-i-preserved c = proofs_more (question_body c.args.question.now) c.args.options c.args.rows.now c.args.proofs.now c.index-rows-i.result c.index-proofs-i.result c.args.out.now.items c.loop-i.out.items c.write_proof.new.out.items
+loop-i-preserved c = proofs_more (question_body c.args.question.now) c.args.options c.args.rows.now c.args.proofs.now c.index-rows-i.result
+    c.index-proofs-i.result c.args.out.now.items c.loop-i.out.items c.write_proof.new.out.items
     c.loop-i.i c.loop-i.invariant c.requires.as_many c.loop-i-test.true c.index-rows-i.is c.index-proofs-i.is c.in_ok-write_proof.ensures
 
 pub returns : goal.returns
-returns c = all_proofs (question_body c.args.question.now) c.args.options c.args.rows.now (map certificate_view c.args.proofs.now) c.args.out.now.items c.loop-i.out.items c.loop-i.i c.loop-i.invariant (simp length-map c.loop-i-test.false)
+returns c = all_proofs (question_body c.args.question.now) c.args.options c.args.rows.now
+    (map certificate_view c.args.proofs.now) c.args.out.now.items c.loop-i.out.items c.loop-i.i c.loop-i.invariant
+    (simp length-map c.loop-i-test.false)

@@ -9,7 +9,9 @@ pub head_line-requires-clause-printable : goal.head_line-requires-clause-printab
 head_line-requires-clause-printable c =
     let q = question_body c.args.question.now in
     let p = c.in_ok-problem.problem in
-    subst (λ (n : ℕ). IsPrintable q n c.args.answer.now) (sym (ap length c.constraints-constraints.ensures.value ∙ few_constraints q p.space p.constraints c.in_ok-problem.ensures.poses.constraints)) c.requires.printable
+    subst (λ (n : ℕ). IsPrintable q n c.args.answer.now) (sym
+    (ap length c.constraints-constraints.ensures.value
+    ∙ few_constraints q p.space p.constraints c.in_ok-problem.ensures.poses.constraints)) c.requires.printable
 
 pub write_details-requires-clause-origins : goal.write_details-requires-clause-origins
 write_details-requires-clause-origins c =
@@ -21,4 +23,6 @@ pub write_details-requires-clause-printable : goal.write_details-requires-clause
 write_details-requires-clause-printable c =
     let q = question_body c.args.question.now in
     let p = c.in_ok-problem.problem in
-    subst (λ (n : ℕ). IsPrintable q n c.args.answer.now) (sym (ap length c.constraints-constraints.ensures.value ∙ few_constraints q p.space p.constraints c.in_ok-problem.ensures.poses.constraints)) c.requires.printable
+    subst (λ (n : ℕ). IsPrintable q n c.args.answer.now) (sym
+    (ap length c.constraints-constraints.ensures.value
+    ∙ few_constraints q p.space p.constraints c.in_ok-problem.ensures.poses.constraints)) c.requires.printable

@@ -5,4 +5,5 @@ use Rattle.it_tell.proofs.OrderLemmas.{rows_at}
 use Rattle.it_tell.proofs.regions.write_rows.Given as goal
 
 abbrev pub invariant-loop-row : goal.invariant-loop-row
-invariant-loop-row l = Appended indented_line (IsMarkedRowText (question_body l.question) l.options.style) l.initial.out.items l.out.items (rows_at l.in_order) l.row-index
+invariant-loop-row l = Appended indented_line (IsMarkedRowText (question_body l.question) l.options.style) l.initial.out.items l.out.items
+    (rows_at l.in_order) l.row-index

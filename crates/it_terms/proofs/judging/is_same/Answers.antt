@@ -6,4 +6,5 @@ use Rattle.it_terms.proofs.judging.is_same.Goals as goal
 
 pub returns : goal.returns
 returns c = OnTrue_from c.eq.result (c.args.row.now ≡ c.args.other.now)
-    (λ e. sym c.terms.ensures.value ∙ (slice_eq-Decides pair_decides c.terms.result.now c.terms-2.result.now c.eq.result c.eq.ensures).0 e ∙ c.terms-2.ensures.value)
+    (λ e. sym c.terms.ensures.value ∙ (slice_eq-Decides pair_decides c.terms.result.now c.terms-2.result.now c.eq.result c.eq.ensures).0 e
+    ∙ c.terms-2.ensures.value)

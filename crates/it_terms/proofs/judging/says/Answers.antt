@@ -13,5 +13,6 @@ returns c =
     let wanted : Terms = c.normal-wanted.result in
     let differs : c.args.relation.now.sign ≢ Equal = search (rules, c.if-eq.ensures, c.if-eq.false, c.eq.ensures) in
     OnTrue_from c.is_same.result (SaysRow c.args.space.variables (relation_view c.args.relation.now) c.args.row.now) (λ e.
-    same_row_says c.args.space (relation_view c.args.relation.now) c.args.row.now c.in_ok-canon.field-0 low wanted differs c.in_ok-canon.ensures c.normal-own.ensures.meaning
+    same_row_says c.args.space (relation_view c.args.relation.now) c.args.row.now c.in_ok-canon.field-0 low wanted differs
+    c.in_ok-canon.ensures c.normal-own.ensures.meaning
     (subst (λ (t : Terms). AreLowestTermsOf t wanted) c.in_ok-copy.ensures c.normal-wanted.ensures.meaning) (OnTrue_at e c.is_same.ensures))

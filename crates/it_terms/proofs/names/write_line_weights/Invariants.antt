@@ -5,4 +5,5 @@ use Rattle.it_terms.proofs.names.write_line_weights.Given as goal
 
 abbrev pub invariant-loop-weight : goal.invariant-loop-weight
 invariant-loop-weight l =
-    l.out.items ++ line_weights (origins_of l.constraints) l.is_first (drop l.weight-index l.weights) ≡ l.initial.out.items ++ line_weights (origins_of l.constraints) true l.weights
+    l.out.items ++ line_weights (origins_of l.constraints) l.is_first (drop l.weight-index l.weights)
+    ≡ l.initial.out.items ++ line_weights (origins_of l.constraints) true l.weights

@@ -5,4 +5,5 @@ use Rattle.it_terms.proofs.names.write_names.Given as goal
 
 abbrev pub invariant-loop-line : goal.invariant-loop-line
 invariant-loop-line l =
-    l.out.items ++ listed_names l.before (origins_of l.constraints) l.is_first (drop l.line-index l.lines) ≡ l.initial.out.items ++ listed_names l.before (origins_of l.constraints) true l.lines
+    l.out.items ++ listed_names l.before (origins_of l.constraints) l.is_first (drop l.line-index l.lines)
+    ≡ l.initial.out.items ++ listed_names l.before (origins_of l.constraints) true l.lines

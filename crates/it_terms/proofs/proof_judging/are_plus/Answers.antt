@@ -12,4 +12,5 @@ loop-term-preserved c =
     (subst (IsPlusShannon n) c.term-item.is c.if-not-is_plus.ensures)
 
 pub returns : goal.returns
-returns c = subst (λ (ts : List Term). All (IsPlusShannon c.args.space.variables) ts) (take_all c.loop-term.term-index c.args.terms.now (omega arith)) c.loop-term.invariant
+returns c = subst (λ (ts : List Term). All (IsPlusShannon c.args.space.variables) ts)
+    (take_all c.loop-term.term-index c.args.terms.now (omega arith)) c.loop-term.invariant

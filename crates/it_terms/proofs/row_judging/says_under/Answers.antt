@@ -15,4 +15,5 @@ returns c =
     let r = relation_view c.args.relation.now in
     let differs : c.args.relation.now.sign ≢ Equal = search (rules, c.if-eq.ensures, c.if-eq.false, c.eq.ensures) in
     OnTrue_from c.in_ok-is_same.is_same (SaysSpreadOut s.variables ds r c.args.row.now) (λ e.
-    spread_says s ds r c.args.row.now c.in_ok-own.own differs (subst (λ (z : Space). IsRowOf z (form_of z.variables r) c.in_ok-own.own) c.space.ensures.value c.in_ok-own.ensures) (OnTrue_at e c.in_ok-is_same.ensures))
+    spread_says s ds r c.args.row.now c.in_ok-own.own differs (subst (λ (z : Space). IsRowOf z (form_of z.variables r) c.in_ok-own.own)
+    c.space.ensures.value c.in_ok-own.ensures) (OnTrue_at e c.in_ok-is_same.ensures))

@@ -16,5 +16,7 @@ returns c =
     let functions = c.in-Some-2.functions in
     let row = c.args.row.now in
     OnTrue_from c.in_ok-says.says (TellsRowBy v g lines row c.args.text.now) (λ e.
-    said_by_functions v c.args.problem.now.space g lines functions.list r row c.args.text.now c.requires.space (rw c.in-Some.is at c.in_ok-relation.ensures.is) (rw c.in-Some-2.is at c.in_ok-functions.ensures.said)
-    (subst (λ (z : Space). SaysSpreadOut z.variables functions.list r row) (rw c.in-Some-2.is at c.in_ok-functions.ensures.space) (OnTrue_at e c.in_ok-says.ensures)))
+    said_by_functions v c.args.problem.now.space g lines functions.list r row c.args.text.now c.requires.space
+    (rw c.in-Some.is at c.in_ok-relation.ensures.is) (rw c.in-Some-2.is at c.in_ok-functions.ensures.said)
+    (subst (λ (z : Space). SaysSpreadOut z.variables functions.list r row) (rw c.in-Some-2.is at c.in_ok-functions.ensures.space)
+    (OnTrue_at e c.in_ok-says.ensures)))

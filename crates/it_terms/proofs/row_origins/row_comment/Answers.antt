@@ -1,5 +1,5 @@
 use Rattle.std.proofs.Common.{◌≡◌, List, subst}
-use Rattle.it_space.specs.declared.problems.Constraint.{Constraint}
+use Rattle.it_problems.specs.declared.problems.Constraint.{Constraint}
 use Rattle.it_question.specs.Questions.{question_body}
 use Rattle.it_print.specs.Lines.{origins_of}
 use Rattle.it_terms.specs.RowOrigins.{row_comment}

@@ -15,5 +15,7 @@ returns c =
     let weights = c.in_ok-weights.weights.items in
     let origin : IsOrigin p row (certificate_view certificate) = rw c.in-Some.is at c.in_ok-certificate.ensures in
     let space = c.space-space.ensures.value in
-    comes_from (question_body c.args.question.now) p row (certificate_view certificate) weights c.in_ok-posed.ensures (rw space at c.if-not-is_over.ensures) origin
-    (subst (λ (ws : List (ℕ × ℤ)). weights ≡ map (by_constraint (length (elementals p.space.variables))) ws) c.as_slice.ensures.value (rw space at c.in_ok-weights.ensures))
+    comes_from (question_body c.args.question.now) p row (certificate_view certificate) weights c.in_ok-posed.ensures
+    (rw space at c.if-not-is_over.ensures) origin
+    (subst (λ (ws : List (ℕ × ℤ)). weights ≡ map (by_constraint (length (elementals p.space.variables))) ws) c.as_slice.ensures.value
+    (rw space at c.in_ok-weights.ensures))

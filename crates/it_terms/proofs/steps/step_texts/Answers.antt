@@ -16,5 +16,7 @@ loop-i-preserved c =
     let term = c.index-terms-i.result in
     subst (λ (ls : List (List ℕ)). AreStepTexts v c.args.first.now (take (c.loop-i.i + 1) c.args.terms.now) step.sum.items ls)
     (sym (ap (map (λ line. line.items)) c.in_ok-push-in-Some.ensures.items ∙ map-append (λ line. line.items) c.loop-i.lines.items (step.text ∷ [])))
-    (one_step_more v c.args.first.now c.args.terms.now c.loop-i.sum.items step.sum.items lines c.loop-i.i term step.text.items c.loop-i-test.true c.index-terms-i.is c.loop-i.invariant
-    (subst (λ (sum : List Term). AreStepTexts v sum (term ∷ []) step.sum.items (step.text.items ∷ [])) c.as_slice.ensures.value (rw c.in-Some.is at c.in_ok-step.ensures)))
+    (one_step_more v c.args.first.now c.args.terms.now c.loop-i.sum.items step.sum.items lines c.loop-i.i term step.text.items
+    c.loop-i-test.true c.index-terms-i.is c.loop-i.invariant
+    (subst (λ (sum : List Term). AreStepTexts v sum (term ∷ []) step.sum.items (step.text.items ∷ [])) c.as_slice.ensures.value
+    (rw c.in-Some.is at c.in_ok-step.ensures)))

@@ -1,7 +1,7 @@
 use Rattle.std.proofs.Common.{All, List, false, map, pos, subst}
 use Rattle.std.proofs.lemmas.Bool.{OnTrue_at, OnTrue_from}
 use Rattle.it_space.specs.declared.spaces.Space.{Space}
-use Rattle.it_space.specs.declared.problems.Constraint.{Constraint}
+use Rattle.it_problems.specs.declared.problems.Constraint.{Constraint}
 use Rattle.it_space.specs.Rows.{value}
 use Rattle.it_polymatroid.specs.Certificates.{IsAllowed}
 use Rattle.it_elemental.specs.Generators.{forms_of, of_constraint}
@@ -28,5 +28,6 @@ returns c =
     equation_by_excess s under.lines.now r named cs ds row whole.0 whole.1
     (subst (λ (xs : List Constraint). All (IsAllowed (forms_of (map of_constraint xs))) named) all c.if-not-are_allowed.ensures)
     c.requires.read.said
-    (subst (λ (z : Space). IsExcess z r false cs named row) space (subst (λ (xs : List Constraint). IsExcess c.space-space.result r false xs named row) all (rw c.in-Some.is at c.in_ok-row.ensures)))
+    (subst (λ (z : Space). IsExcess z r false cs named row) space (subst
+    (λ (xs : List Constraint). IsExcess c.space-space.result r false xs named row) all (rw c.in-Some.is at c.in_ok-row.ensures)))
     (subst (λ (z : Space). AreSameUnder z.variables ds (value row) (λ p. pos 0)) c.requires.read.space (OnTrue_at e c.in_ok-is_nothing.ensures)))

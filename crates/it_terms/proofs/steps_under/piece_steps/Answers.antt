@@ -25,5 +25,7 @@ loop-i-preserved c =
     let piece = c.index-pieces-i.result in
     subst (λ (ls : List (List ℕ)). ArePieceSteps v os g by c.args.first.now (take (c.loop-i.i + 1) c.args.pieces.now) step.sum.items ls)
     (sym (ap (map (λ line. line.items)) c.in_ok-push-in-Some.ensures.items ∙ map-append (λ line. line.items) c.loop-i.lines.items (step.text ∷ [])))
-    (step_more_of piece_terms (IsPieceStep v os g by) c.args.first.now c.args.pieces.now c.loop-i.sum.items step.sum.items lines c.loop-i.i piece step.text.items c.loop-i-test.true c.index-pieces-i.is c.loop-i.invariant
-    (subst (λ (sum : List Term). ArePieceSteps v os g by sum (piece ∷ []) step.sum.items (step.text.items ∷ [])) c.as_slice.ensures.value (rw c.in-Some.is at c.in_ok-step.ensures)))
+    (step_more_of piece_terms (IsPieceStep v os g by) c.args.first.now c.args.pieces.now c.loop-i.sum.items step.sum.items lines c.loop-i.i
+    piece step.text.items c.loop-i-test.true c.index-pieces-i.is c.loop-i.invariant
+    (subst (λ (sum : List Term). ArePieceSteps v os g by sum (piece ∷ []) step.sum.items (step.text.items ∷ [])) c.as_slice.ensures.value
+    (rw c.in-Some.is at c.in_ok-step.ensures)))

@@ -5,4 +5,5 @@ use Rattle.it_terms.proofs.steps_under.printed_steps.Goals as goal
 
 pub returns : goal.returns
 returns c = IfSome_then c.in_ok-steps.steps c.in_ok-steps.ensures (λ ts h.
-    steps_by_lines (question_body c.args.question.now) c.args.lines.now c.args.named.now c.args.proof.now c.in_ok-posed.posed.space c.in_ok-posed.posed.constraints _ c.in_ok-posed.ensures.poses.constraints h)
+    steps_by_lines (question_body c.args.question.now) c.args.lines.now c.args.named.now c.args.proof.now c.in_ok-posed.posed.space
+    c.in_ok-posed.posed.constraints _ c.in_ok-posed.ensures.poses.constraints h)

@@ -8,5 +8,6 @@ loop-weight-preserved c =
     let i = c.loop-weight.weight-index in
     let values = constraint_value c.args.constraints.now in
     let weight : ℕ × ℤ = get_or c.args.weights.now i (0, pos 0) in
-    part_added-more (weights_form values) (λ p. weight.1 *ℤ values p weight.0) c.args.sums.now c.loop-weight.sums c.add_constraint.new.sums c.args.weights.now i weight (omega arith) (item_read c.args.weights.now i (0, pos 0) (omega arith))
+    part_added-more (weights_form values) (λ p. weight.1 *ℤ values p weight.0) c.args.sums.now c.loop-weight.sums c.add_constraint.new.sums
+    c.args.weights.now i weight (omega arith) (item_read c.args.weights.now i (0, pos 0) (omega arith))
     (λ p. refl) c.in_ok-add_constraint.ensures c.loop-weight.invariant

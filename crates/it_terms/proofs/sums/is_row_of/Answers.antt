@@ -10,5 +10,6 @@ use Rattle.it_terms.proofs.sums.is_row_of.Goals as goal
 
 pub returns : goal.returns
 returns c = OnTrue_from c.eq.result (AreSame (value c.args.row.now) (dense_form c.args.sums.now)) (λ e p z.
-    ap (λ (t : Terms). value t p) (sym c.terms-2.ensures.value ∙ (slice_eq-Decides pair_decides c.terms-2.result.now c.as_slice.result.now c.eq.result c.eq.ensures).0 e ∙ c.as_slice.ensures.value)
+    ap (λ (t : Terms). value t p) (sym c.terms-2.ensures.value ∙ (slice_eq-Decides pair_decides c.terms-2.result.now c.as_slice.result.now
+    c.eq.result c.eq.ensures).0 e ∙ c.as_slice.ensures.value)
     ∙ row-value c.args.sums.now c.in_ok-terms.terms.items p c.in_ok-terms.ensures z)

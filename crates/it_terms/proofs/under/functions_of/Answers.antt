@@ -1,5 +1,5 @@
 use Rattle.std.proofs.Common.{◌≡◌, ◌<◌, ◌≤◌, ◌^◌, ◌∙◌, All, List, ap, arith, get_or, length, map, subst, sym}
-use Rattle.it_space.specs.Problems.{IsProblem}
+use Rattle.it_problems.specs.Problems.{IsProblem}
 use Rattle.it_space.specs.Spaces.{size_of}
 use Rattle.it_space.specs.declared.spaces.Space.{Space}
 use Rattle.it_elemental.specs.Generators.{forms_of, of_constraint}

@@ -8,8 +8,10 @@ bound : (c : In_ok-sum) → IsBound c.args.row.now (unsigned_abs c.in_ok-x.x) c.
 bound c =
     let fx : FitsSigned w32 c.in_ok-x.x = search rules in
     let fy : FitsSigned w32 c.in_ok-y.y = search rules in
-    subst (λ (k : ℕ). IsBound c.args.row.now k c.args.most_by (unsigned_abs c.in_ok-y.y) c.args.limit c.in_ok-sum.sum) (c.from.ensures ∙ c.unsigned_abs.ensures.value ∙ ap unsigned_abs (to_z-of_z fx))
-    (subst (λ (k : ℕ). IsBound c.args.row.now c.from.result c.args.most_by k c.args.limit c.in_ok-sum.sum) (c.from-2.ensures ∙ c.unsigned_abs-2.ensures.value ∙ ap unsigned_abs (to_z-of_z fy)) c.in_ok-sum.ensures)
+    subst (λ (k : ℕ). IsBound c.args.row.now k c.args.most_by (unsigned_abs c.in_ok-y.y) c.args.limit c.in_ok-sum.sum)
+    (c.from.ensures ∙ c.unsigned_abs.ensures.value ∙ ap unsigned_abs (to_z-of_z fx))
+    (subst (λ (k : ℕ). IsBound c.args.row.now c.from.result c.args.most_by k c.args.limit c.in_ok-sum.sum)
+    (c.from-2.ensures ∙ c.unsigned_abs-2.ensures.value ∙ ap unsigned_abs (to_z-of_z fy)) c.in_ok-sum.ensures)
 
 -- the sum as a bound
 sum_is_bound : (c : In_ok-sum) → (bound c).most * unsigned_abs c.in_ok-x.x + c.args.most_by * unsigned_abs c.in_ok-y.y ≤ c.in_ok-sum.sum
@@ -21,7 +23,8 @@ combine_plain-requires-clause-bound c =
     let fy : FitsSigned w32 c.in_ok-y.y = search rules in
     let d = (goal.at.combine_plain-requires-clause-bound c).In_ok-sum in
     let b = bound d in
-    λ k l. let s = sizes c.args.row.now c.args.by.now c.in_ok-x.x c.in_ok-y.y b.most c.args.most_by c.in_ok-sum.sum b.at_most c.requires.most_by c.requires.even (sum_is_bound d) k l in
+    λ k l. let s = sizes c.args.row.now c.args.by.now c.in_ok-x.x c.in_ok-y.y b.most c.args.most_by c.in_ok-sum.sum b.at_most
+    c.requires.most_by c.requires.even (sum_is_bound d) k l in
     simp to_z-of_z (omega (arith, s, b.within, c.requires.limit))
 
 pub returns-clause-combined : goal.returns-clause-combined
@@ -40,7 +43,8 @@ returns-clause-combined c =
       length_is = c.combine_plain.ensures.length ∙ c.requires.even;
       entries = e;
       small = λ k l. subst (λ (z : ℤ). unsigned_abs z ≤ c.args.limit) (sym (e k l))
-          (let s = numbers_at_most c.args.row.now c.args.by.now c.in_ok-x.x c.in_ok-y.y b.most c.args.most_by c.in_ok-sum.sum b.at_most c.requires.most_by c.requires.even (sum_is_bound d) k l in omega (arith, s, b.within));
+          (let s = numbers_at_most c.args.row.now c.args.by.now c.in_ok-x.x c.in_ok-y.y b.most c.args.most_by c.in_ok-sum.sum b.at_most
+          c.requires.most_by c.requires.even (sum_is_bound d) k l in omega (arith, s, b.within));
     })
 
 pub returns-clause-most : goal.returns-clause-most
@@ -52,7 +56,8 @@ returns-clause-most c =
     let e = simp to_z-of_z at c.combine_plain.ensures.entries in
     λ k l. let h = index_is_within k l c.combine_plain.ensures.length c.requires.even in
     subst (λ (z : ℤ). unsigned_abs z ≤ c.in_ok-sum.sum) (sym (e k h))
-    (numbers_at_most c.args.row.now c.args.by.now c.in_ok-x.x c.in_ok-y.y b.most c.args.most_by c.in_ok-sum.sum b.at_most c.requires.most_by c.requires.even (sum_is_bound d) k h)
+    (numbers_at_most c.args.row.now c.args.by.now c.in_ok-x.x c.in_ok-y.y b.most c.args.most_by c.in_ok-sum.sum b.at_most c.requires.most_by
+    c.requires.even (sum_is_bound d) k h)
   where
     index_is_within : (k : ℕ) {n m o : ℕ} → k < n → n ≡ m → m ≡ o → k < o
     index_is_within k h e f = omega (arith, h, e, f)

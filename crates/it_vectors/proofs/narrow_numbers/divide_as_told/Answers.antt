@@ -18,6 +18,7 @@ loop-j-preserved c =
     rw (to_z-of_z f) (rw (to_z-of_z fk) record {
       same_length = search rules;
       done = set_done c.loop-j.row c.loop-j.j c.likely_quotient.result (λ j z. z *ℤ c.args.k ≡ number_at c.args.row.now j) l done
-          (ap (λ (z : ℤ). z *ℤ c.args.k) (q ∙ ap (likely_quotient_of c.args.shift c.args.inverse) here) ∙ told c.loop-j.j (omega (arith, l, c.loop-j.invariant.same_length)));
+          (ap (λ (z : ℤ). z *ℤ c.args.k) (q ∙ ap (likely_quotient_of c.args.shift c.args.inverse) here)
+          ∙ told c.loop-j.j (omega (arith, l, c.loop-j.invariant.same_length)));
       rest = set_rest c.loop-j.row c.args.row.now c.loop-j.j c.likely_quotient.result c.loop-j.invariant.rest;
     })

@@ -15,7 +15,8 @@ loop-from-init c = record {
 }
 
 pub returns-then-is_one-clause-numbers : goal.returns-then-is_one-clause-numbers
-returns-then-is_one-clause-numbers c = subst (λ (s : ℕ). DividesAll s c.args.row.now) (sym c.if-is_one.ensures) record { some = omega arith; each = λ k l. one-dvd _ }
+returns-then-is_one-clause-numbers c = subst (λ (s : ℕ). DividesAll s c.args.row.now) (sym c.if-is_one.ensures)
+    record { some = omega arith; each = λ k l. one-dvd _ }
 
 pub returns-then-is_one-clause-bottom : goal.returns-then-is_one-clause-bottom
 returns-then-is_one-clause-bottom c = subst (λ (s : ℕ). s ∣ c.args.bottom) (sym c.if-is_one.ensures) (one-dvd c.args.bottom)
@@ -23,5 +24,6 @@ returns-then-is_one-clause-bottom c = subst (λ (s : ℕ). s ∣ c.args.bottom) 
 pub loop-from-preserved : goal.loop-from-preserved
 loop-from-preserved c = record {
   within = c.end_of_part-to.ensures.1;
-  divides = parts_join c.args.row.now c.args.bottom c.loop-from.from c.end_of_part-to.result c.loop-from.shared.value c.shared_part-shared.result.value c.loop-from.invariant.divides c.shared_part-shared.ensures;
+  divides = parts_join c.args.row.now c.args.bottom c.loop-from.from c.end_of_part-to.result c.loop-from.shared.value
+      c.shared_part-shared.result.value c.loop-from.invariant.divides c.shared_part-shared.ensures;
 }

@@ -13,7 +13,8 @@ returns c =
     let v = simp to_z-of_z at c.unsigned_abs.ensures.value in
     let w = simp to_z-of_z at c.wrapped_product.ensures in
     let q = simp to_z-of_z at c.likely_quotient-quotient.ensures in
-    both_tests (nat_le c.unsigned_abs.result c.args.most) (nat_eq (of_z w32 c.wrapped_product.result) (of_z w32 c.args.z)) (likely_quotient_of c.args.shift c.args.inverse c.args.z *ℤ c.args.k ≡ c.args.z) (λ small same.
+    both_tests (nat_le c.unsigned_abs.result c.args.most) (nat_eq (of_z w32 c.wrapped_product.result) (of_z w32 c.args.z))
+    (likely_quotient_of c.args.shift c.args.inverse c.args.z *ℤ c.args.k ≡ c.args.z) (λ small same.
     let l : c.unsigned_abs.result ≤ c.args.most = search (rules, small) in
     let e : of_z w32 c.wrapped_product.result ≡ of_z w32 c.args.z = search (rules, same) in
     let p : c.wrapped_product.result ≡ c.args.z = sym (to_z-of_z fp) ∙ ap (to_z w32) e ∙ to_z-of_z fz in

@@ -17,7 +17,10 @@ loop-k-preserved c =
     let e = c.plain_number.ensures in
     rw (to_z-of_z f) record {
       same_length = search rules;
-      done = set_done c.loop-k.row c.loop-k.k c.plain_number.result (λ k z. z ≡ number_at c.args.row.now k *ℤ to_z w32 (of_z w32 c.args.a) +ℤ neg_ℤ (number_at c.args.by.now k *ℤ to_z w32 (of_z w32 c.args.b))) l c.loop-k.invariant.done
-          (e ∙ ap (λ z. z *ℤ to_z w32 (of_z w32 c.args.a) +ℤ neg_ℤ (number_at c.args.by.now c.loop-k.k *ℤ to_z w32 (of_z w32 c.args.b))) (c.loop-k.invariant.rest c.loop-k.k (omega arith)));
+      done = set_done c.loop-k.row c.loop-k.k c.plain_number.result (λ k z. z
+          ≡ number_at c.args.row.now k *ℤ to_z w32 (of_z w32 c.args.a) +ℤ neg_ℤ (number_at c.args.by.now k *ℤ to_z w32 (of_z w32 c.args.b)))
+          l c.loop-k.invariant.done
+          (e ∙ ap (λ z. z *ℤ to_z w32 (of_z w32 c.args.a) +ℤ neg_ℤ (number_at c.args.by.now c.loop-k.k *ℤ to_z w32 (of_z w32 c.args.b)))
+          (c.loop-k.invariant.rest c.loop-k.k (omega arith)));
       rest = set_rest c.loop-k.row c.args.row.now c.loop-k.k c.plain_number.result c.loop-k.invariant.rest;
     }

@@ -13,4 +13,5 @@ pub loop-k-preserved : goal.loop-k-preserved
 loop-k-preserved c =
     let f : FitsSigned w32 c.read.result = search rules in
     part_more c.args.row.now c.args.from c.loop-k.k c.args.earlier.value c.loop-k.shared.value c.shared_with-shared.result.value c.read.result
-    (c.shared_with-shared.ensures ∙ ap (λ n. gcd n c.loop-k.shared.value) (c.from.ensures ∙ c.unsigned_abs.ensures.value ∙ ap unsigned_abs (to_z-of_z f))) c.read.ensures c.loop-k.invariant
+    (c.shared_with-shared.ensures ∙ ap (λ n. gcd n c.loop-k.shared.value)
+    (c.from.ensures ∙ c.unsigned_abs.ensures.value ∙ ap unsigned_abs (to_z-of_z f))) c.read.ensures c.loop-k.invariant

@@ -9,29 +9,35 @@ use Rattle.it_vectors.proofs.narrow_numbers.subtract_multiple.Goals.{In_ok-sum}
 sum_is : (c : In_ok-sum) → c.in_ok-sum.sum ≡ c.args.most * 1 + c.args.most_by * unsigned_abs c.in_ok-y.y
 sum_is c =
     let fy : FitsSigned w32 c.in_ok-y.y = search rules in
-    subst (λ (k : ℕ). c.in_ok-sum.sum ≡ c.args.most * 1 + c.args.most_by * k) (c.from.ensures ∙ c.unsigned_abs.ensures.value ∙ ap unsigned_abs (to_z-of_z fy)) c.in_ok-sum.ensures.some.0
+    subst (λ (k : ℕ). c.in_ok-sum.sum ≡ c.args.most * 1 + c.args.most_by * k)
+    (c.from.ensures ∙ c.unsigned_abs.ensures.value ∙ ap unsigned_abs (to_z-of_z fy)) c.in_ok-sum.ensures.some.0
 
 -- the sum as a bound
 sum_is_bound : (c : In_ok-sum) → c.args.most * unsigned_abs (pos 1) + c.args.most_by * unsigned_abs c.in_ok-y.y ≤ c.in_ok-sum.sum
 sum_is_bound c = omega (arith, sum_is c)
 
 -- the numbers that are formed
-numbers_are : (c : In_ok-sum) (row : List ℤ) → ((k : ℕ) → k < length c.args.by.now → number_at row k ≡ number_at c.args.row.now k +ℤ neg_ℤ (number_at c.args.by.now k *ℤ c.in_ok-y.y))
+numbers_are : (c : In_ok-sum) (row : List ℤ) → ((k : ℕ) → k < length c.args.by.now
+    → number_at row k ≡ number_at c.args.row.now k +ℤ neg_ℤ (number_at c.args.by.now k *ℤ c.in_ok-y.y))
     → (k : ℕ) → k < length c.args.by.now → number_at row k ≡ combined_number c.args.row.now c.args.by.now (pos 1) c.in_ok-y.y k
 numbers_are c row e k l = e k l ∙ ap (λ z. z +ℤ neg_ℤ (number_at c.args.by.now k *ℤ c.in_ok-y.y)) (sym (times_one (number_at c.args.row.now k)))
 
-numbers_are_small : (c : In_ok-sum) (row : List ℤ) → ((k : ℕ) → k < length c.args.by.now → number_at row k ≡ number_at c.args.row.now k +ℤ neg_ℤ (number_at c.args.by.now k *ℤ c.in_ok-y.y))
+numbers_are_small : (c : In_ok-sum) (row : List ℤ) → ((k : ℕ) → k < length c.args.by.now
+    → number_at row k ≡ number_at c.args.row.now k +ℤ neg_ℤ (number_at c.args.by.now k *ℤ c.in_ok-y.y))
     → (k : ℕ) → k < length c.args.by.now → unsigned_abs (number_at row k) ≤ c.in_ok-sum.sum
 numbers_are_small c row e k l = subst (λ (z : ℤ). unsigned_abs z ≤ c.in_ok-sum.sum) (sym (numbers_are c row e k l))
-    (numbers_at_most c.args.row.now c.args.by.now (pos 1) c.in_ok-y.y c.args.most c.args.most_by c.in_ok-sum.sum c.requires.most c.requires.most_by c.requires.even (sum_is_bound c) k l)
+    (numbers_at_most c.args.row.now c.args.by.now (pos 1) c.in_ok-y.y c.args.most c.args.most_by c.in_ok-sum.sum c.requires.most
+    c.requires.most_by c.requires.even (sum_is_bound c) k l)
 
 pub subtract_noted-requires-clause-bound : goal.subtract_noted-requires-clause-bound
 subtract_noted-requires-clause-bound c =
     let fy : FitsSigned w32 c.in_ok-y.y = search rules in
     let d = (goal.at.subtract_noted-requires-clause-bound c).In_ok-sum in
     λ k l.
-    let s = sizes c.args.row.now c.args.by.now (pos 1) c.in_ok-y.y c.args.most c.args.most_by c.in_ok-sum.sum c.requires.most c.requires.most_by c.requires.even (sum_is_bound d) k l in
-    let t = subst (λ (z : ℤ). unsigned_abs z + unsigned_abs (number_at c.args.by.now k *ℤ c.in_ok-y.y) ≤ c.in_ok-sum.sum) (times_one (number_at c.args.row.now k)) s in
+    let s = sizes c.args.row.now c.args.by.now (pos 1) c.in_ok-y.y c.args.most c.args.most_by c.in_ok-sum.sum c.requires.most
+    c.requires.most_by c.requires.even (sum_is_bound d) k l in
+    let t = subst (λ (z : ℤ). unsigned_abs z + unsigned_abs (number_at c.args.by.now k *ℤ c.in_ok-y.y) ≤ c.in_ok-sum.sum)
+    (times_one (number_at c.args.row.now k)) s in
     simp to_z-of_z (omega (arith, t, c.in_ok-sum.ensures.some.1, c.requires.limit))
 
 pub returns-clause-combined : goal.returns-clause-combined

@@ -17,7 +17,8 @@ loop-j-preserved c =
     let next = slice_index_or c.args.starts.now (c.loop-j.j + 1) 0 in
     let b = to_z w32 (of_z w32 c.args.b) in record {
       same_length = c.subtract_stretch.ensures.length ∙ c.loop-j.invariant.same_length;
-      done = stretch_is_done c.loop-j.row c.args.row.now c.args.by.now c.subtract_stretch.new.row b from (from + 8) c.loop-j.invariant.done c.loop-j.invariant.rest
+      done = stretch_is_done c.loop-j.row c.args.row.now c.args.by.now c.subtract_stretch.new.row b from
+          (from + 8) c.loop-j.invariant.done c.loop-j.invariant.rest
           c.subtract_stretch.ensures.before c.subtract_stretch.ensures.part next (omega arith) n c.subtract_stretch.ensures.after;
       rest = rest_stays c.loop-j.row c.args.row.now c.args.by.now c.subtract_stretch.new.row b from (from + 8) c.loop-j.invariant.done c.loop-j.invariant.rest
           c.subtract_stretch.ensures.before c.subtract_stretch.ensures.part next (omega arith) n c.subtract_stretch.ensures.after;
@@ -29,8 +30,11 @@ returns-clause-entries c =
     let e : c.loop-j.j ≡ length c.args.starts.now - 1 = omega (arith, c.loop-j.auto.j-end, c.loop-j-test.false) in
     let from = slice_index_or c.args.starts.now (length c.args.starts.now - 1) 0 in
     let b = to_z w32 (of_z w32 c.args.b) in
-    let done = subst (λ (j : ℕ). (k : ℕ) → k < slice_index_or c.args.starts.now j 0 → number_at c.loop-j.row k ≡ number_at c.args.row.now k +ℤ neg_ℤ (number_at c.args.by.now k *ℤ b)) e c.loop-j.invariant.done in
-    let rest = subst (λ (j : ℕ). (k : ℕ) → slice_index_or c.args.starts.now j 0 ≤ k → number_at c.loop-j.row k ≡ number_at c.args.row.now k) e c.loop-j.invariant.rest in
-    let all = part_is_done c.loop-j.row c.args.row.now c.args.by.now c.subtract_part.new.row b from (length c.loop-j.row) done rest c.subtract_part.ensures.before c.subtract_part.ensures.part in
+    let done = subst (λ (j : ℕ). (k : ℕ) → k < slice_index_or c.args.starts.now j 0
+    → number_at c.loop-j.row k ≡ number_at c.args.row.now k +ℤ neg_ℤ (number_at c.args.by.now k *ℤ b)) e c.loop-j.invariant.done in
+    let rest = subst (λ (j : ℕ). (k : ℕ) → slice_index_or c.args.starts.now j 0 ≤ k → number_at c.loop-j.row k ≡ number_at c.args.row.now k)
+    e c.loop-j.invariant.rest in
+    let all = part_is_done c.loop-j.row c.args.row.now c.args.by.now c.subtract_part.new.row b from
+    (length c.loop-j.row) done rest c.subtract_part.ensures.before c.subtract_part.ensures.part in
     let entries = simp to_z-of_z at all in
     λ k h. entries k (omega (arith, h, c.loop-j.invariant.same_length, c.requires.even))

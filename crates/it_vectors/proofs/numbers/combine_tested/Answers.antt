@@ -9,7 +9,8 @@ next_number-requires-clause-row c = λ k l. at_place k l (cases_lt k c.loop-k.k)
   where
     at_place : (k : ℕ) → k < length c.loop-k.row → (k < c.loop-k.k) ⊎ (c.loop-k.k ≤ k) → unsigned_abs (number_at c.loop-k.row k) < 2 ^ 63
     at_place k l (inl h) = let s = c.loop-k.invariant.small k h in omega (arith, s, c.requires.limit)
-    at_place k l (inr h) = subst (λ (z : ℤ). unsigned_abs z < 2 ^ 63) (sym (c.loop-k.invariant.rest k h)) (c.requires.row k (omega (arith, l, c.loop-k.invariant.same_length)))
+    at_place k l (inr h) = subst (λ (z : ℤ). unsigned_abs z < 2 ^ 63) (sym (c.loop-k.invariant.rest k h))
+        (c.requires.row k (omega (arith, l, c.loop-k.invariant.same_length)))
 
 pub loop-k-preserved : goal.loop-k-preserved
 loop-k-preserved c =
@@ -19,9 +20,12 @@ loop-k-preserved c =
     let f : FitsSigned w64 c.in-Some.number = number_fits c.in-Some.number c.args.limit (ap unsigned_abs s1) s0 c.requires.limit in
     rw (to_z-of_z f) record {
       same_length = search rules;
-      done = set_done c.loop-k.row c.loop-k.k c.in-Some.number (λ k z. z ≡ number_at c.args.row.now k *ℤ to_z w64 (of_z w64 c.args.a) +ℤ neg_ℤ (number_at c.args.by.now k *ℤ to_z w64 (of_z w64 c.args.b))) l c.loop-k.invariant.done
-          (s1 ∙ ap (λ z. z *ℤ to_z w64 (of_z w64 c.args.a) +ℤ neg_ℤ (number_at c.args.by.now c.loop-k.k *ℤ to_z w64 (of_z w64 c.args.b))) (c.loop-k.invariant.rest c.loop-k.k (omega arith)));
-      small = set_done c.loop-k.row c.loop-k.k c.in-Some.number (λ k z. unsigned_abs z ≤ c.args.limit) l c.loop-k.invariant.small (subst (λ (z : ℤ). unsigned_abs z ≤ c.args.limit) (sym s1) s0);
+      done = set_done c.loop-k.row c.loop-k.k c.in-Some.number (λ k z. z ≡ number_at c.args.row.now k *ℤ to_z w64 (of_z w64 c.args.a)
+          +ℤ neg_ℤ (number_at c.args.by.now k *ℤ to_z w64 (of_z w64 c.args.b))) l c.loop-k.invariant.done
+          (s1 ∙ ap (λ z. z *ℤ to_z w64 (of_z w64 c.args.a) +ℤ neg_ℤ (number_at c.args.by.now c.loop-k.k *ℤ to_z w64 (of_z w64 c.args.b)))
+          (c.loop-k.invariant.rest c.loop-k.k (omega arith)));
+      small = set_done c.loop-k.row c.loop-k.k c.in-Some.number (λ k z. unsigned_abs z ≤ c.args.limit) l c.loop-k.invariant.small
+          (subst (λ (z : ℤ). unsigned_abs z ≤ c.args.limit) (sym s1) s0);
       rest = set_rest c.loop-k.row c.args.row.now c.loop-k.k c.in-Some.number c.loop-k.invariant.rest;
     }
   where

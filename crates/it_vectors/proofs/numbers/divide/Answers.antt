@@ -22,6 +22,7 @@ loop-k-preserved c =
     rw (to_z-of_z g) record {
       same_length = search rules;
       done = set_done c.loop-k.row c.loop-k.k c.quotient.result (λ k z. z *ℤ pos c.args.shared.now.value ≡ number_at c.args.row.now k) l c.loop-k.invariant.done
-          (whole_over c.read.result c.quotient.result c.args.shared.now.value (subst (λ (z : ℤ). c.args.shared.now.value ∣ unsigned_abs z) (sym x) (c.requires.divides.each c.loop-k.k m)) y ∙ x);
+          (whole_over c.read.result c.quotient.result c.args.shared.now.value
+          (subst (λ (z : ℤ). c.args.shared.now.value ∣ unsigned_abs z) (sym x) (c.requires.divides.each c.loop-k.k m)) y ∙ x);
       rest = set_rest c.loop-k.row c.args.row.now c.loop-k.k c.quotient.result c.loop-k.invariant.rest;
     }

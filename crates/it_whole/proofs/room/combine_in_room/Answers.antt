@@ -10,8 +10,10 @@ bound : (c : In_ok-bound) → IsBound c.args.row.now (unsigned_abs c.args.a) c.a
 bound c =
     let fa : FitsSigned w64 c.args.a = c.ranges.a in
     let fb : FitsSigned w64 c.args.b = c.ranges.b in
-    subst (λ (k : ℕ). IsBound c.args.row.now k c.args.most_by (unsigned_abs c.args.b) 9223372036854775807 c.in_ok-bound.field-0) (c.unsigned_abs.ensures.value ∙ ap unsigned_abs (to_z-of_z fa))
-    (subst (λ (k : ℕ). IsBound c.args.row.now c.unsigned_abs.result c.args.most_by k 9223372036854775807 c.in_ok-bound.field-0) (c.unsigned_abs-2.ensures.value ∙ ap unsigned_abs (to_z-of_z fb)) c.in_ok-bound.ensures)
+    subst (λ (k : ℕ). IsBound c.args.row.now k c.args.most_by (unsigned_abs c.args.b) 9223372036854775807 c.in_ok-bound.field-0)
+    (c.unsigned_abs.ensures.value ∙ ap unsigned_abs (to_z-of_z fa))
+    (subst (λ (k : ℕ). IsBound c.args.row.now c.unsigned_abs.result c.args.most_by k 9223372036854775807 c.in_ok-bound.field-0)
+    (c.unsigned_abs-2.ensures.value ∙ ap unsigned_abs (to_z-of_z fb)) c.in_ok-bound.ensures)
 
 -- the sum as a bound
 sum_is_bound : (c : In_ok-bound) → (bound c).most * unsigned_abs c.args.a + c.args.most_by * unsigned_abs c.args.b ≤ c.in_ok-bound.field-0
@@ -26,7 +28,8 @@ numbers_are_short c k l =
     let b = bound d in
     let e = simp to_z-of_z at c.fill.ensures.entries in
     subst (λ (z : ℤ). unsigned_abs z ≤ 9223372036854775807) (sym (e k l))
-    (let s = numbers_at_most c.args.row.now c.args.by.now c.args.a c.args.b b.most c.args.most_by c.in_ok-bound.field-0 b.at_most c.requires.most_by c.requires.even (sum_is_bound d) k l in omega (arith, s, b.within))
+    (let s = numbers_at_most c.args.row.now c.args.by.now c.args.a c.args.b b.most c.args.most_by c.in_ok-bound.field-0 b.at_most
+    c.requires.most_by c.requires.even (sum_is_bound d) k l in omega (arith, s, b.within))
 
 pub fill-requires-clause-bound : goal.fill-requires-clause-bound
 fill-requires-clause-bound c =
@@ -34,7 +37,8 @@ fill-requires-clause-bound c =
     let fb : FitsSigned w64 c.args.b = c.ranges.b in
     let d = (goal.at.fill-requires-clause-bound c).In_ok-bound in
     let b = bound d in
-    λ k l. let s = sizes c.args.row.now c.args.by.now c.args.a c.args.b b.most c.args.most_by c.in_ok-bound.field-0 b.at_most c.requires.most_by c.requires.even (sum_is_bound d) k l in
+    λ k l. let s = sizes c.args.row.now c.args.by.now c.args.a c.args.b b.most c.args.most_by c.in_ok-bound.field-0 b.at_most
+    c.requires.most_by c.requires.even (sum_is_bound d) k l in
     simp to_z-of_z (omega (arith, s, b.within))
 
 pub divide-requires-clause-row : goal.divide-requires-clause-row
@@ -54,7 +58,9 @@ returns-then-write_back-clause-combined c =
         shared = c.divisor-shared.result.value;
         some = c.divisor-shared.ensures.numbers.some;
         length_is = c.write_back.ensures.length ∙ c.requires.even ∙ sym c.requires.room ∙ sym c.fill.ensures.length;
-        entries = λ k l. ap (λ (z : ℤ). z *ℤ pos c.divisor-shared.result.value) (c.if-write_back.ensures.entries k (omega (arith, l, c.divide.ensures.length))) ∙ c.divide.ensures.entries k l;
-        bottom_is = ap (λ b. b * c.divisor-shared.result.value) c.size_quotient.ensures ∙ div-mul_cancel c.divisor-shared.result.value c.divisor-shared.ensures.bottom;
+        entries = λ k l. ap (λ (z : ℤ). z *ℤ pos c.divisor-shared.result.value)
+            (c.if-write_back.ensures.entries k (omega (arith, l, c.divide.ensures.length))) ∙ c.divide.ensures.entries k l;
+        bottom_is = ap (λ b. b * c.divisor-shared.result.value) c.size_quotient.ensures
+            ∙ div-mul_cancel c.divisor-shared.result.value c.divisor-shared.ensures.bottom;
       };
     }

@@ -11,5 +11,6 @@ loop-term-preserved c =
     let fits : FitsSigned w128 times = search (rules, c.multiplicity.ensures.small) in
     under_way-more (side_form n c.args.multiple c.args.negative) (λ p. times *ℤ atom_at n p c.term-item.result.atom) (2 ^ 98) (4 * unsigned_abs times)
     c.args.self.now c.loop-term.self c.add_atom.new.self c.args.terms.now c.loop-term.term-index c.term-item.result
-    (omega arith) c.term-item.is (side-splits n c.args.multiple c.args.negative c.term-item.result (drop (c.loop-term.term-index + 1) c.args.terms.now) times c.multiplicity.ensures.value)
+    (omega arith) c.term-item.is (side-splits n c.args.multiple c.args.negative c.term-item.result
+    (drop (c.loop-term.term-index + 1) c.args.terms.now) times c.multiplicity.ensures.value)
     (omega (arith, c.multiplicity.ensures.small)) (simp to_z-of_z at c.add_atom.ensures) c.loop-term.invariant

@@ -16,7 +16,8 @@ returns-then-are_one c =
     let ex : x.den ≡ 1 = sym (ap (λ q. q.den) c.self.view_is) ∙ c.if-are_one.ensures.yes.0 in
     let ey : y.den ≡ 1 = sym (ap (λ q. q.den) c.other.view_is) ∙ c.if-are_one.ensures.yes.1 in
     let tops : c.self.inside.top +ℤ c.other.inside.top ≡ x.num +ℤ y.num = ap₂ (λ (q r : Rational). q.num +ℤ r.num) c.self.view_is c.other.view_is in
-    OkIff-same _ _ _ _ _ (whole-sum-fits x y ex ey (subst IsNarrow c.self.view_is c.self.invariant) (subst IsNarrow c.other.view_is c.other.invariant)) (whole-sum x y ex ey)
+    OkIff-same _ _ _ _ _ (whole-sum-fits x y ex ey (subst IsNarrow c.self.view_is c.self.invariant)
+    (subst IsNarrow c.other.view_is c.other.invariant)) (whole-sum x y ex ey)
     (subst (λ (z : ℤ). OkIff c.whole_sum.result (IsWithin z) (integer z)) tops (simp to_z-of_z at c.whole_sum.ensures))
 
 pub parts_sum-requires-clause-left : goal.parts_sum-requires-clause-left

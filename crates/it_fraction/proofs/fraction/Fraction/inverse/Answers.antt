@@ -11,7 +11,8 @@ in_lowest_terms-requires-clause-lowest c =
     let b = simp to_z-of_z at c.unsigned_abs-bottom.ensures.value in
     let p = to_z_pos w128 c.self.inside.bottom c.self.invariant.1 in
     let g : FitsSigned w128 (pos 0 -ℤ pos c.self.inside.bottom) = omega (arith, ints, c.self.invariant.1) in
-    rw (p, to_z-of_z g, unsigned_abs-negated (pos c.self.inside.bottom), b) (IsGcd-swap (unsigned_abs c.self.inside.top) c.self.inside.bottom 1 c.self.inside.lowest)
+    rw (p, to_z-of_z g, unsigned_abs-negated (pos c.self.inside.bottom), b)
+    (IsGcd-swap (unsigned_abs c.self.inside.top) c.self.inside.bottom 1 c.self.inside.lowest)
 
 pub in_lowest_terms-requires-else-self-lt0-clause-lowest : goal.in_lowest_terms-requires-else-self-lt0-clause-lowest
 in_lowest_terms-requires-else-self-lt0-clause-lowest c =

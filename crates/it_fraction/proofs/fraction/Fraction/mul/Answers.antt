@@ -18,7 +18,8 @@ returns-then-are_one c =
     let ey : y.den ≡ 1 = sym (ap (λ q. q.den) c.other.view_is) ∙ c.if-are_one.ensures.yes.1 in
     let tops : c.self.inside.top *ℤ c.other.inside.top ≡ x.num *ℤ y.num = ap₂ (λ (q r : Rational). q.num *ℤ r.num) c.self.view_is c.other.view_is in
     subst (λ (q : Rational). OkIff c.whole_product.result (IsNarrow q) q) (whole-product x y ex ey)
-    (OkIff-same _ _ _ _ _ (whole-narrow (x.num *ℤ y.num)) refl (subst (λ (z : ℤ). OkIff c.whole_product.result (IsWithin z) (integer z)) tops (simp to_z-of_z at c.whole_product.ensures)))
+    (OkIff-same _ _ _ _ _ (whole-narrow (x.num *ℤ y.num)) refl (subst (λ (z : ℤ). OkIff c.whole_product.result (IsWithin z) (integer z))
+    tops (simp to_z-of_z at c.whole_product.ensures)))
 
 pub parts_product-requires-clause-left : goal.parts_product-requires-clause-left
 parts_product-requires-clause-left c = let f : FitsSigned w128 c.self-2.inside.top = search rules in simp to_z-of_z c.self-2.inside.lowest

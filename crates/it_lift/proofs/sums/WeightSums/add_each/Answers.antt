@@ -8,7 +8,8 @@ returns-in_err-add-clause-wide c =
     let k : ℕ = c.loop-index.index-index in
     let i : ℕ = get_or c.args.indexes.now k 0 in
     let below : k < length c.args.indexes.now = omega arith in
-    let stops = each-stops (pos c.args.amount) c.args.indexes.now k i c.args.self.now c.loop-index.self below (get_or_default c.args.indexes.now k 0 i below) c.loop-index.invariant c.in_err-add.ensures.wide in
+    let stops = each-stops (pos c.args.amount) c.args.indexes.now k i c.args.self.now c.loop-index.self below
+    (get_or_default c.args.indexes.now k 0 i below) c.loop-index.invariant c.in_err-add.ensures.wide in
     search (rules, stops)
 
 pub loop-index-preserved : goal.loop-index-preserved
@@ -16,4 +17,5 @@ loop-index-preserved c =
     let k : ℕ = c.loop-index.index-index in
     let i : ℕ = get_or c.args.indexes.now k 0 in
     let below : k < length c.args.indexes.now = omega arith in
-    each-more (pos c.args.amount) c.args.indexes.now k i c.args.self.now c.loop-index.self c.add.new.self below (get_or_default c.args.indexes.now k 0 i below) c.loop-index.invariant c.in_ok-add.ensures.added
+    each-more (pos c.args.amount) c.args.indexes.now k i c.args.self.now c.loop-index.self c.add.new.self below
+    (get_or_default c.args.indexes.now k 0 i below) c.loop-index.invariant c.in_ok-add.ensures.added

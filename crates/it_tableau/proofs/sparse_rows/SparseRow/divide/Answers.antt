@@ -17,9 +17,11 @@ returns-in_err-right-clause-wide c =
 
 pub returns-in_err-divide_terms-clause-wide : goal.returns-in_err-divide_terms-clause-wide
 returns-in_err-divide_terms-clause-wide c =
-    fault_is_handed_on c.from_residual-in_err-divide_terms.result c.in_err-divide_terms.field-0.0 Wide (¬ (RowQuotientsFit c.args.self.now c.args.pivot)) c.from_residual-in_err-divide_terms.ensures.1
+    fault_is_handed_on c.from_residual-in_err-divide_terms.result c.in_err-divide_terms.field-0.0 Wide
+    (¬ (RowQuotientsFit c.args.self.now c.args.pivot)) c.from_residual-in_err-divide_terms.ensures.1
     (λ e fits. c.in_err-divide_terms.ensures.wide e (subst (λ (ts : RowTerms). TermQuotientsFit ts c.args.pivot) (sym c.as_slice.ensures.value)
-    (term_quotients_fit c.self.inside.width c.self.inside.terms.items c.self.inside.right c.args.pivot c.self.invariant (subst (λ (row : List Rational). RowQuotientsFit row c.args.pivot) (sym c.self.view_is) fits))))
+    (term_quotients_fit c.self.inside.width c.self.inside.terms.items c.self.inside.right c.args.pivot c.self.invariant
+    (subst (λ (row : List Rational). RowQuotientsFit row c.args.pivot) (sym c.self.view_is) fits))))
 
 pub returns-clause-ok : goal.returns-clause-ok
 returns-clause-ok c =
@@ -32,4 +34,5 @@ returns-clause-value c =
     subst (λ (row : List Rational). IsDivided row c.args.pivot (dense_row c.self.inside.width c.swap.new.x.items c.in_ok-right.right)) c.self.view_is
     (row_divided c.self.inside.width c.self.inside.terms.items c.self.inside.right c.args.pivot c.swap.new.x.items c.in_ok-right.right
     (subst (λ (ts : RowTerms). AreDivided ts c.args.pivot c.self.inside.width c.swap.new.x.items) c.as_slice.ensures.value
-    (subst (AreDivided c.as_slice.result.now c.args.pivot c.self.inside.width) (ap (λ v. v.items) (sym c.swap.ensures.x_after)) c.in_ok-divide_terms.ensures.value)) c.in_ok-right.ensures.1)
+    (subst (AreDivided c.as_slice.result.now c.args.pivot c.self.inside.width)
+    (ap (λ v. v.items) (sym c.swap.ensures.x_after)) c.in_ok-divide_terms.ensures.value)) c.in_ok-right.ensures.1)

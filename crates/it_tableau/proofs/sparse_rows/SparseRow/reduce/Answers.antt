@@ -13,7 +13,8 @@ use Rattle.it_tableau.proofs.sparse_rows.SparseRow.reduce.Goals as goal
 use Rattle.it_tableau.proofs.sparse_rows.SparseRow.reduce.Goals.{After-narrow_number-right, After-reduced_entry}
 
 -- the row's own list, in which the entry is 0
-no_entry : (c : After-narrow_number-right) → entry_at (dense_row c.self.inside.width c.self.inside.terms.items c.self.inside.right) c.args.column ≡ integer (pos 0)
+no_entry : (c : After-narrow_number-right) → entry_at (dense_row c.self.inside.width c.self.inside.terms.items c.self.inside.right)
+    c.args.column ≡ integer (pos 0)
 no_entry c = ap (λ (row : List Rational). entry_at row c.args.column) c.self.view_is ∙ sym c.entry-entry.ensures ∙ c.if-is_zero.ensures.yes
 
 right_narrow : (c : After-narrow_number-right) → IsNarrow c.self.inside.right
@@ -22,15 +23,18 @@ right_narrow c = subst IsNarrow c.narrow_number-right.ensures.value c.narrow_num
 pub returns-then-is_zero-clause-ok : goal.returns-then-is_zero-clause-ok
 returns-then-is_zero-clause-ok c =
     subst (λ (row : List Rational). RowStepFits row c.args.by.now c.args.column c.args.pivot) c.self.view_is
-    (row_without_entry_fits c.self.inside.width c.self.inside.terms.items c.self.inside.right c.self.invariant (right_narrow c) c.args.by.now c.args.column c.args.pivot (no_entry c))
+    (row_without_entry_fits c.self.inside.width c.self.inside.terms.items c.self.inside.right c.self.invariant
+    (right_narrow c) c.args.by.now c.args.column c.args.pivot (no_entry c))
 
 pub returns-then-is_zero-clause-value : goal.returns-then-is_zero-clause-value
 returns-then-is_zero-clause-value c =
     subst (λ (row : List Rational). IsReduced row c.args.by.now (times (entry_at row c.args.column) (inverse c.args.pivot)) row) c.self.view_is
-    (row_without_entry_stays c.self.inside.width c.self.inside.terms.items c.self.inside.right c.self.invariant (right_narrow c) c.args.by.now c.args.column c.args.pivot (no_entry c))
+    (row_without_entry_stays c.self.inside.width c.self.inside.terms.items c.self.inside.right c.self.invariant
+    (right_narrow c) c.args.by.now c.args.column c.args.pivot (no_entry c))
 
 width_is : (c : After-reduced_entry) → c.by.inside.width ≡ c.self.inside.width
-width_is c = same_width c.self.inside.width c.by.inside.width c.self.inside.terms.items c.by.inside.terms.items c.self.inside.right c.by.inside.right c.args.self.now c.args.by.now
+width_is c = same_width c.self.inside.width c.by.inside.width c.self.inside.terms.items c.by.inside.terms.items c.self.inside.right
+    c.by.inside.right c.args.self.now c.args.by.now
     c.self.view_is c.by.view_is c.requires.even
 
 by_seen : (c : After-reduced_entry) → dense_row c.self.inside.width c.by.inside.terms.items c.by.inside.right ≡ c.args.by.now
@@ -46,7 +50,8 @@ pub returns-in_err-right-clause-wide : goal.returns-in_err-right-clause-wide
 returns-in_err-right-clause-wide c =
     let d = (goal.at.returns-in_err-right-clause-wide c).After-reduced_entry in
     any_err c.from_residual-in_err-right.result Wide (¬ (RowStepFits c.args.self.now c.args.by.now c.args.column c.args.pivot))
-    (λ fits. c.in_err-right.ensures.err (step_right c.self.inside.width c.self.inside.terms.items c.by.inside.terms.items c.self.inside.right c.by.inside.right c.args.self.now c.args.by.now
+    (λ fits. c.in_err-right.ensures.err (step_right c.self.inside.width c.self.inside.terms.items c.by.inside.terms.items
+    c.self.inside.right c.by.inside.right c.args.self.now c.args.by.now
     c.self.view_is (by_seen d) c.args.column c.args.pivot c.in_ok-q.q (factor d) fits))
 
 pub merge-requires-clause-by : goal.merge-requires-clause-by
@@ -57,7 +62,8 @@ merge-requires-clause-by c =
 pub returns-in_err-merge-clause-wide : goal.returns-in_err-merge-clause-wide
 returns-in_err-merge-clause-wide c =
     let d = (goal.at.returns-in_err-merge-clause-wide c).After-reduced_entry in
-    fault_is_handed_on c.from_residual-in_err-merge.result c.in_err-merge.field-0.0 Wide (¬ (RowStepFits c.args.self.now c.args.by.now c.args.column c.args.pivot)) c.from_residual-in_err-merge.ensures.1
+    fault_is_handed_on c.from_residual-in_err-merge.result c.in_err-merge.field-0.0 Wide
+    (¬ (RowStepFits c.args.self.now c.args.by.now c.args.column c.args.pivot)) c.from_residual-in_err-merge.ensures.1
     (λ e fits. c.in_err-merge.ensures.wide e
     (subst (λ (ts : RowTerms). MergeFits ts c.as_slice-2.result.now c.in_ok-q.q) (sym c.as_slice.ensures.value)
     (subst (λ (ts : RowTerms). MergeFits c.self.inside.terms.items ts c.in_ok-q.q) (sym c.as_slice-2.ensures.value)
@@ -81,5 +87,6 @@ returns-clause-value c =
     c.self.view_is (by_seen d) c.args.column c.args.pivot c.in_ok-q.q (factor d) c.swap.new.x.items c.in_ok-right.right
     (subst (λ (ts : RowTerms). AreMerged ts c.by.inside.terms.items c.in_ok-q.q c.self.inside.width c.swap.new.x.items) c.as_slice.ensures.value
     (subst (λ (ts : RowTerms). AreMerged c.as_slice.result.now ts c.in_ok-q.q c.self.inside.width c.swap.new.x.items) c.as_slice-2.ensures.value
-    (subst (AreMerged c.as_slice.result.now c.as_slice-2.result.now c.in_ok-q.q c.self.inside.width) (ap (λ v. v.items) (sym c.swap.ensures.x_after)) c.in_ok-merge.ensures.value)))
+    (subst (AreMerged c.as_slice.result.now c.as_slice-2.result.now c.in_ok-q.q c.self.inside.width)
+    (ap (λ v. v.items) (sym c.swap.ensures.x_after)) c.in_ok-merge.ensures.value)))
     c.in_ok-right.ensures.value

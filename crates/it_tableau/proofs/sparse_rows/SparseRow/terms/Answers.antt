@@ -10,4 +10,5 @@ pub returns : goal.returns
 returns c =
     let row : List Rational = dense_row c.self.inside.width c.self.inside.terms.items c.self.inside.right in
     subst (λ (r : List Rational). ListsEntries (entry_at r) (length r - 1) c.as_slice.result.now) c.self.view_is
-    (subst (ListsEntries (entry_at row) (length row - 1)) (sym c.as_slice.ensures.value) (row_lists c.self.inside.width c.self.inside.terms.items c.self.inside.right c.self.invariant))
+    (subst (ListsEntries (entry_at row) (length row - 1)) (sym c.as_slice.ensures.value)
+    (row_lists c.self.inside.width c.self.inside.terms.items c.self.inside.right c.self.invariant))

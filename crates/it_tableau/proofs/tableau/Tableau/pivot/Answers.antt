@@ -26,7 +26,8 @@ seen_rows c = ap (λ (s : TableauView). s.rows) c.self.view_is
 table_is_usable : (c : After-as_mut_slice) → c.self.inside.spent ≡ false
 table_is_usable c = ap (λ (s : TableauView). s.spent) c.self.view_is ∙ c.requires.usable
 
-rows_are_sound : (c : After-as_mut_slice) → IsSound c.self.inside.generator_columns c.self.inside.width c.self.inside.rows.items c.self.inside.basis.items c.self.inside.negated.items
+rows_are_sound : (c : After-as_mut_slice) → IsSound c.self.inside.generator_columns c.self.inside.width c.self.inside.rows.items
+    c.self.inside.basis.items c.self.inside.negated.items
 rows_are_sound c = c.self.invariant (table_is_usable c)
 
 row_within : (c : After-as_mut_slice) → c.args.row < length c.self.inside.basis.items
@@ -47,26 +48,32 @@ written_rows c p = with_items_is c.self.inside.rows c.pivot_rows.new.rows
 rows_are_pivoted : (c : After-pivot_rows) → ArePivoted c.as_mut_slice.result.now c.args.row c.args.column c.pivot_rows.new.rows
     → ArePivoted c.self.inside.rows.items c.args.row c.args.column (with_items c.self.inside.rows c.pivot_rows.new.rows).items
 rows_are_pivoted c p =
-    subst (λ (old : List (List Rational)). ArePivoted old c.args.row c.args.column (with_items c.self.inside.rows c.pivot_rows.new.rows).items) c.as_mut_slice.ensures.value
+    subst (λ (old : List (List Rational)). ArePivoted old c.args.row c.args.column
+    (with_items c.self.inside.rows c.pivot_rows.new.rows).items) c.as_mut_slice.ensures.value
     (subst (ArePivoted c.as_mut_slice.result.now c.args.row c.args.column) (sym (written_rows c p)) p)
 
 pub invariant_of-self : goal.invariant_of-self
 invariant_of-self c spent = let d = (goal.at.invariant_of-self c).After-as_mut_slice in
     let e = (goal.at.invariant_of-self c).After-pivot_rows in
-    pivot_sound c.self.inside.generator_columns c.self.inside.width c.self.inside.rows.items (with_items c.self.inside.rows c.pivot_rows.new.rows).items c.self.inside.basis.items c.self.inside.negated.items
+    pivot_sound c.self.inside.generator_columns c.self.inside.width c.self.inside.rows.items
+    (with_items c.self.inside.rows c.pivot_rows.new.rows).items c.self.inside.basis.items c.self.inside.negated.items
     c.args.row c.args.column (row_within d) (rows_are_sound d) (rows_are_pivoted e c.in-Ok.ensures.value)
 
 pub returns-in-Ok-clause-value : goal.returns-in-Ok-clause-value
 returns-in-Ok-clause-value c = let d = (goal.at.returns-in-Ok-clause-value c).After-as_mut_slice in
     let e = (goal.at.returns-in-Ok-clause-value c).After-pivot_rows in
     let m = length c.self.inside.basis.items in
-    let columns : c.args.column < c.self.inside.generator_columns + m = (let w = ap (λ (s : TableauView). s.generator_columns + length s.basis) c.self.view_is in omega (arith, w, c.requires.column)) in
-    pivot_is_shown m c.self.inside.generator_columns c.self.inside.rows.items (with_items c.self.inside.rows c.pivot_rows.new.rows).items c.self.inside.basis.items
+    let columns : c.args.column < c.self.inside.generator_columns
+    + m = (let w = ap (λ (s : TableauView). s.generator_columns + length s.basis) c.self.view_is in omega (arith, w, c.requires.column))
+    in
+    pivot_is_shown m c.self.inside.generator_columns c.self.inside.rows.items
+    (with_items c.self.inside.rows c.pivot_rows.new.rows).items c.self.inside.basis.items
     c.args.row c.args.column (row_within d) columns (rows_are_sound d).shape (rows_are_pivoted e c.in-Ok.ensures.value)
     ∙ ap (λ (s : TableauView). pivot rationals (table s) c.args.row c.args.column) c.self.view_is
 
 pub returns-in-Ok-clause-ok : goal.returns-in-Ok-clause-ok
 returns-in-Ok-clause-ok c = let d = (goal.at.returns-in-Ok-clause-ok c).After-as_mut_slice in
     subst (λ (s : TableauView). PivotFits (height s) s.generator_columns (table s) c.args.row c.args.column) c.self.view_is
-    (pivot_numbers_fit (length c.self.inside.basis.items) c.self.inside.generator_columns c.self.inside.rows.items c.self.inside.basis.items c.args.row c.args.column (row_within d) (rows_are_sound d).shape
+    (pivot_numbers_fit (length c.self.inside.basis.items) c.self.inside.generator_columns c.self.inside.rows.items c.self.inside.basis.items
+    c.args.row c.args.column (row_within d) (rows_are_sound d).shape
     (subst (λ (old : List (List Rational)). RowsPivotFits old c.args.row c.args.column) (lent_rows d) c.in-Ok.ensures.ok))

@@ -8,7 +8,16 @@ difference_of_sums-requires c =
     let f1 : FitsSigned w64 c.number-2.result = search rules in
     let f2 : FitsSigned w64 c.number-3.result = search rules in
     let f3 : FitsSigned w64 c.number-4.result = search rules in
-    simp to_z-of_z (rw (c.number.ensures, c.number-2.ensures, c.number-3.ensures, c.number-4.ensures, c.place.ensures, c.place-2.ensures, c.place-3.ensures, c.place-4.ensures)
+    simp to_z-of_z (rw (
+      c.number.ensures,
+      c.number-2.ensures,
+      c.number-3.ensures,
+      c.number-4.ensures,
+      c.place.ensures,
+      c.place-2.ensures,
+      c.place-3.ensures,
+      c.place-4.ensures,
+    )
     (submodular_small c.args.self.now c.args.row.now.numbers c.requires.four c.requires.suits))
 
 pub returns : goal.returns
@@ -18,5 +27,15 @@ returns c =
     let f2 : FitsSigned w64 c.number-3.result = search rules in
     let f3 : FitsSigned w64 c.number-4.result = search rules in
     let f4 : FitsSigned w64 c.difference_of_sums.result = search rules in
-    simp to_z-of_z (rw c.difference_of_sums.ensures (simp to_z-of_z (rw (c.number.ensures, c.number-2.ensures, c.number-3.ensures, c.number-4.ensures, c.place.ensures, c.place-2.ensures, c.place-3.ensures, c.place-4.ensures)
+    simp to_z-of_z (rw c.difference_of_sums.ensures (simp to_z-of_z
+    (rw (
+      c.number.ensures,
+      c.number-2.ensures,
+      c.number-3.ensures,
+      c.number-4.ensures,
+      c.place.ensures,
+      c.place-2.ensures,
+      c.place-3.ensures,
+      c.place-4.ensures,
+    )
     (submodular_value c.args.self.now c.args.row.now.numbers c.requires.four))))

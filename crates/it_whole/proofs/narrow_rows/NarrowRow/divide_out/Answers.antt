@@ -15,10 +15,12 @@ returns-clause-shortened c =
     with_items_is c.self.inside.numbers c.divide_at_once.new.row (c.divide_at_once.ensures.length ∙ ap length lent ∙ sym c.self.inside.numbers.ok.0) in
     subst (λ (new : List ℤ). IsShortened c.args.self.now record { numbers = new; bottom = 1 }) (sym written)
     (subst (λ (v : WholeRowView). IsShortened v record { numbers = c.divide_at_once.new.row; bottom = 1 }) c.self.view_is
-    (subst (λ (old : List ℤ). IsShortened record { numbers = old; bottom = c.self.inside.bottom } record { numbers = c.divide_at_once.new.row; bottom = 1 }) lent record {
+    (subst (λ (old : List ℤ). IsShortened record { numbers = old; bottom = c.self.inside.bottom }
+    record { numbers = c.divide_at_once.new.row; bottom = 1 }) lent record {
       shared = c.self.inside.bottom;
       some = subst (λ (b : ℕ). 0 < b) (sym bottom) c.requires.some;
       length_is = c.divide_at_once.ensures.length;
-      entries = λ k l. subst (λ (b : ℤ). number_at c.divide_at_once.new.row k *ℤ b ≡ number_at c.as_mut_slice.result.now k) e (c.if-not-divide_at_once.ensures.entries k l);
+      entries = λ k l. subst (λ (b : ℤ). number_at c.divide_at_once.new.row k *ℤ b ≡ number_at c.as_mut_slice.result.now k) e
+          (c.if-not-divide_at_once.ensures.entries k l);
       bottom_is = omega arith;
     }))

@@ -12,7 +12,8 @@ loop-k-preserved c =
     let f : FitsSigned w32 c.in-Some.number = number_fits c.in-Some.number c.args.limit (ap unsigned_abs number) small c.requires.limit in
     let l : c.loop-k.k < length c.args.numbers.now = search rules in record {
       same = c.in_ok-push.ensures.items ∙ ap (λ (z : ℤ). c.loop-k.short.items ++ z ∷ []) (to_z-of_z f ∙ number)
-          ∙ ap (λ (xs : List ℤ). xs ++ number_at c.args.numbers.now c.loop-k.k ∷ []) c.loop-k.invariant.same ∙ sym (take_more c.args.numbers.now c.loop-k.k (pos 0) l);
+          ∙ ap (λ (xs : List ℤ). xs ++ number_at c.args.numbers.now c.loop-k.k ∷ []) c.loop-k.invariant.same
+          ∙ sym (take_more c.args.numbers.now c.loop-k.k (pos 0) l);
       small = below_more (λ j. unsigned_abs (number_at c.args.numbers.now j) ≤ c.args.limit) c.loop-k.k c.loop-k.invariant.small small;
     }
   where
@@ -20,7 +21,8 @@ loop-k-preserved c =
     number_fits z l e h k = let m : unsigned_abs z < 2 ^ 31 = omega (arith, e, h, k) in search (rules, m)
 
 pub returns-clause-row : goal.returns-clause-row
-returns-clause-row c = ap (λ (xs : List ℤ). row xs c.args.bottom) (c.loop-k.invariant.same ∙ take_all c.loop-k.k c.args.numbers.now (omega (arith, c.loop-k-test.false, c.loop-k.auto.k-end)))
+returns-clause-row c = ap (λ (xs : List ℤ). row xs c.args.bottom) (c.loop-k.invariant.same
+    ∙ take_all c.loop-k.k c.args.numbers.now (omega (arith, c.loop-k-test.false, c.loop-k.auto.k-end)))
   where
     row : List ℤ → ℕ → WholeRowView
     row numbers bottom = record { numbers = numbers; bottom = bottom }

@@ -29,7 +29,8 @@ own_factor_is c =
 product_is : (c : In-Some) → c.bottom.result * c.unsigned_abs.result ≡ c.args.self.now.bottom * unsigned_abs c.lowest_terms-a.result.0
 product_is c =
     let fa : FitsSigned w64 c.lowest_terms-a.result.0 = search rules in
-    ap₂ (λ x y. x * y) (c.bottom.ensures ∙ ap (λ (r : WholeRowView). r.bottom) c.if-subtract_multiple.ensures.kept) (c.unsigned_abs.ensures.value ∙ ap unsigned_abs (to_z-of_z fa))
+    ap₂ (λ x y. x * y) (c.bottom.ensures ∙ ap (λ (r : WholeRowView). r.bottom) c.if-subtract_multiple.ensures.kept)
+    (c.unsigned_abs.ensures.value ∙ ap unsigned_abs (to_z-of_z fa))
 
 bottom_is : (c : In-Some) → c.in-Some.bottom ≡ c.args.self.now.bottom * unsigned_abs c.lowest_terms-a.result.0
 bottom_is c = c.in-Some.ensures.1 ∙ product_is c
@@ -47,7 +48,8 @@ returns-then-subtract_multiple-clause-less c =
     let fb : FitsSigned w64 c.lowest_terms-a.result.1 = search rules in
     let combined = simp to_z-of_z at c.if-subtract_multiple.ensures.combined in
     let one = simp to_z-of_z at c.if-subtract_multiple.ensures.one in
-    multiple_reduced (length c.args.own.now.numbers) c.args.limit c.args.self.now c.args.own.now c.subtract_multiple.new.self c.args.entry c.args.pivot c.lowest_terms-a.result.0 c.lowest_terms-a.result.1 c.requires.pivot
+    multiple_reduced (length c.args.own.now.numbers) c.args.limit c.args.self.now c.args.own.now c.subtract_multiple.new.self c.args.entry
+    c.args.pivot c.lowest_terms-a.result.0 c.lowest_terms-a.result.1 c.requires.pivot
     a one combined c.if-subtract_multiple.ensures.bottom b
 
 pub returns-then-subtract_multiple-clause-usable : goal.returns-then-subtract_multiple-clause-usable
@@ -59,7 +61,8 @@ returns-then-subtract_multiple-clause-usable c =
     let fb : FitsSigned w64 c.lowest_terms-a.result.1 = search rules in
     let combined = simp to_z-of_z at c.if-subtract_multiple.ensures.combined in
     let one = simp to_z-of_z at c.if-subtract_multiple.ensures.one in
-    multiple_usable (length c.args.own.now.numbers) c.args.limit c.args.self.now c.args.own.now c.subtract_multiple.new.self c.args.entry c.args.pivot c.lowest_terms-a.result.0 c.lowest_terms-a.result.1 c.requires.pivot
+    multiple_usable (length c.args.own.now.numbers) c.args.limit c.args.self.now c.args.own.now c.subtract_multiple.new.self c.args.entry
+    c.args.pivot c.lowest_terms-a.result.0 c.lowest_terms-a.result.1 c.requires.pivot
     a one combined c.if-subtract_multiple.ensures.bottom c.requires.row
 
 pub returns-then-combine-clause-less : goal.returns-then-combine-clause-less
@@ -67,9 +70,11 @@ returns-then-combine-clause-less c =
     let d = (goal.at.returns-then-combine-clause-less c).In-Some in
     let fa : FitsSigned w64 c.lowest_terms-a.result.0 = search rules in
     let fb : FitsSigned w64 c.lowest_terms-a.result.1 = search rules in
-    let combined = subst (λ (row : WholeRowView). IsCombined (length c.args.own.now.numbers) c.args.limit row.numbers c.args.own.now.numbers c.lowest_terms-a.result.0 c.lowest_terms-a.result.1 c.combine.new.self.numbers)
+    let combined = subst (λ (row : WholeRowView). IsCombined (length c.args.own.now.numbers) c.args.limit row.numbers c.args.own.now.numbers
+    c.lowest_terms-a.result.0 c.lowest_terms-a.result.1 c.combine.new.self.numbers)
     c.if-subtract_multiple.ensures.kept (simp to_z-of_z at c.if-combine.ensures.combined) in
-    less_row (length c.args.own.now.numbers) c.args.limit c.args.self.now c.args.own.now c.combine.new.self c.args.entry c.args.pivot c.lowest_terms-a.result.0 c.lowest_terms-a.result.1 c.requires.pivot
+    less_row (length c.args.own.now.numbers) c.args.limit c.args.self.now c.args.own.now c.combine.new.self c.args.entry c.args.pivot
+    c.lowest_terms-a.result.0 c.lowest_terms-a.result.1 c.requires.pivot
     (factor_is d) (own_factor_is d) combined (c.if-combine.ensures.bottom ∙ bottom_is d) (bottom_is_low d)
 
 pub returns-then-combine-clause-usable : goal.returns-then-combine-clause-usable
@@ -77,15 +82,18 @@ returns-then-combine-clause-usable c =
     let d = (goal.at.returns-then-combine-clause-usable c).In-Some in
     let fa : FitsSigned w64 c.lowest_terms-a.result.0 = search rules in
     let fb : FitsSigned w64 c.lowest_terms-a.result.1 = search rules in
-    let combined = subst (λ (row : WholeRowView). IsCombined (length c.args.own.now.numbers) c.args.limit row.numbers c.args.own.now.numbers c.lowest_terms-a.result.0 c.lowest_terms-a.result.1 c.combine.new.self.numbers)
+    let combined = subst (λ (row : WholeRowView). IsCombined (length c.args.own.now.numbers) c.args.limit row.numbers c.args.own.now.numbers
+    c.lowest_terms-a.result.0 c.lowest_terms-a.result.1 c.combine.new.self.numbers)
     c.if-subtract_multiple.ensures.kept (simp to_z-of_z at c.if-combine.ensures.combined) in
-    combined_usable (length c.args.own.now.numbers) c.args.limit c.args.self.now c.args.own.now c.combine.new.self c.args.entry c.args.pivot c.lowest_terms-a.result.0 c.lowest_terms-a.result.1 c.requires.pivot
+    combined_usable (length c.args.own.now.numbers) c.args.limit c.args.self.now c.args.own.now c.combine.new.self c.args.entry c.args.pivot
+    c.lowest_terms-a.result.0 c.lowest_terms-a.result.1 c.requires.pivot
     (factor_is d) c.requires.row combined (c.if-combine.ensures.bottom ∙ bottom_is d)
 
 pub combine_in_room-requires-clause-some : goal.combine_in_room-requires-clause-some
 combine_in_room-requires-clause-some c =
     let d = (goal.at.combine_in_room-requires-clause-some c).In-Some in
-    subst (λ (k : ℕ). 0 < k) (sym (bottom_is d)) (mul-pos c.requires.row.some (factor_some c.args.pivot c.args.entry c.lowest_terms-a.result.0 c.requires.pivot (factor_is d)))
+    subst (λ (k : ℕ). 0 < k) (sym (bottom_is d)) (mul-pos c.requires.row.some
+    (factor_some c.args.pivot c.args.entry c.lowest_terms-a.result.0 c.requires.pivot (factor_is d)))
 
 by_test : (b : Bool) {P Q R : Type 0} → OnTrue b P → OnTrue b Q → (P → Q → R) → OnTrue b R
 by_test true p q f = f p q
@@ -98,9 +106,12 @@ returns-clause-less c =
     let fb : FitsSigned w64 c.lowest_terms-a.result.1 = search rules in
     let combined = simp to_z-of_z at c.combine_in_room.ensures.combined in
     by_test c.combine_in_room.result combined c.combine_in_room.ensures.small
-    (λ k s. shortened_reduced (length c.args.own.now.numbers) c.args.limit c.args.self.now c.args.own.now c.combine_in_room.new.self c.args.entry c.args.pivot c.lowest_terms-a.result.0 c.lowest_terms-a.result.1 c.requires.pivot
+    (λ k s. shortened_reduced (length c.args.own.now.numbers) c.args.limit c.args.self.now c.args.own.now c.combine_in_room.new.self
+    c.args.entry c.args.pivot c.lowest_terms-a.result.0 c.lowest_terms-a.result.1 c.requires.pivot
     (factor_is d) c.in-Some.bottom c.requires.limit (bottom_is d)
-    (subst (λ (row : WholeRowView). IsCombinedAndShortened (length c.args.own.now.numbers) row.numbers c.args.own.now.numbers c.lowest_terms-a.result.0 c.lowest_terms-a.result.1 c.in-Some.bottom c.combine_in_room.new.self) (c.if-combine.ensures.kept ∙ c.if-subtract_multiple.ensures.kept) k)
+    (subst (λ (row : WholeRowView). IsCombinedAndShortened (length c.args.own.now.numbers) row.numbers c.args.own.now.numbers
+    c.lowest_terms-a.result.0 c.lowest_terms-a.result.1 c.in-Some.bottom c.combine_in_room.new.self)
+    (c.if-combine.ensures.kept ∙ c.if-subtract_multiple.ensures.kept) k)
     s (own_factor_is d) (bottom_is_low d))
 
 pub returns-clause-usable : goal.returns-clause-usable
@@ -110,7 +121,10 @@ returns-clause-usable c =
     let fb : FitsSigned w64 c.lowest_terms-a.result.1 = search rules in
     let combined = simp to_z-of_z at c.combine_in_room.ensures.combined in
     by_test c.combine_in_room.result combined c.combine_in_room.ensures.small
-    (λ k s. room_usable (length c.args.own.now.numbers) c.args.limit c.args.self.now c.args.own.now c.combine_in_room.new.self c.args.entry c.args.pivot c.lowest_terms-a.result.0 c.lowest_terms-a.result.1 c.requires.pivot
+    (λ k s. room_usable (length c.args.own.now.numbers) c.args.limit c.args.self.now c.args.own.now c.combine_in_room.new.self c.args.entry
+    c.args.pivot c.lowest_terms-a.result.0 c.lowest_terms-a.result.1 c.requires.pivot
     (factor_is d) c.in-Some.bottom c.requires.limit (bottom_is d)
-    (subst (λ (row : WholeRowView). IsCombinedAndShortened (length c.args.own.now.numbers) row.numbers c.args.own.now.numbers c.lowest_terms-a.result.0 c.lowest_terms-a.result.1 c.in-Some.bottom c.combine_in_room.new.self) (c.if-combine.ensures.kept ∙ c.if-subtract_multiple.ensures.kept) k)
+    (subst (λ (row : WholeRowView). IsCombinedAndShortened (length c.args.own.now.numbers) row.numbers c.args.own.now.numbers
+    c.lowest_terms-a.result.0 c.lowest_terms-a.result.1 c.in-Some.bottom c.combine_in_room.new.self)
+    (c.if-combine.ensures.kept ∙ c.if-subtract_multiple.ensures.kept) k)
     s c.requires.row)
