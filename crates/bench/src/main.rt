@@ -16,7 +16,6 @@
 
 ghost use Rattle.std.specs.Prelude.{◌≤◌, All, length};
 ghost use Rattle.it_question.specs.Limits.{IsQuestion};
-ghost use Rattle.it_question.specs.Questions.{question_body};
 
 mod fractions;
 mod output;
@@ -77,7 +76,7 @@ fn write_all(
     questions: &[Question],
     task: &Task<'_>,
 ) -> Result<(), AllocError>
-    requires { All (λ q. IsQuestion (question_body q)) questions.now }
+    requires { All (λ q. IsQuestion q.body) questions.now }
 {
     for question in questions {
         if kernel == "targets" {
@@ -96,9 +95,7 @@ fn asking(
     kernel: &str,
     question: &Question,
     task: &Task<'_>,
-) -> Result<(), AllocError>
-    requires { IsQuestion (question_body question.now) }
-{
+) -> Result<(), AllocError> {
     match kernel {
         "simplex" => runs::time(alloc, out, question, task),
         "reduce" => reductions::time(alloc, out, question, task),

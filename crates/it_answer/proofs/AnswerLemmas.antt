@@ -11,8 +11,7 @@ use Rattle.it_space.specs.Spaces.{size_of}
 use Rattle.it_polymatroid.specs.Certificates.{Form}
 use Rattle.it_polymatroid.specs.Polymatroid.{IsPolymatroid}
 use Rattle.it_syntax.specs.Meaning.{RelationView}
-use Rattle.it_question.specs.declared.types.Question.{Question}
-use Rattle.it_question.specs.Questions.{BodyView, VerbView, Prove, Eliminate, question_body}
+use Rattle.it_question.specs.Questions.{QuestionView, BodyView, VerbView, Prove, Eliminate}
 use Rattle.it_demand.specs.Canonical.{IsRowOf}
 use Rattle.it_demand.specs.Origins.{AreStated}
 use Rattle.it_demand.specs.Targets.{negation, targets}
@@ -117,8 +116,8 @@ right_by_verb budgets plans q verb reply is x d = record {
 
 -- where nothing was found, the boxes keep their plans
 
-pub nothing_found : (budgets : Budgets) (plans : List Plan) (question : Question) (answer : Answer)
-    → IsRightAnswer budgets plans (question_body question) (record { answer = answer_view answer; found = [] })
+pub nothing_found : (budgets : Budgets) (plans : List Plan) (question : QuestionView) (answer : Answer)
+    → IsRightAnswer budgets plans question.body (record { answer = answer_view answer; found = [] })
     → IsAnswered budgets plans question answer plans
 nothing_found budgets plans question answer x = record { found = []; right = x; learned = sym (after_none plans) }
 

@@ -1,8 +1,7 @@
 //! The answer to a containment question.
 ghost use Rattle.std.specs.Prelude.{◌≡◌, map, take, IfOk};
 ghost use Rattle.it_space.specs.Answers.{answer_view};
-ghost use Rattle.it_question.specs.Limits.{IsQuestion};
-ghost use Rattle.it_question.specs.Questions.{Contain, question_body, region_view};
+ghost use Rattle.it_question.specs.Questions.{Contain};
 ghost use Rattle.it_answer.specs.RightAnswers.{IsAnswered};
 ghost use Rattle.it_answer.specs.DueContainments.{tried_of};
 ghost use Rattle.it_answer.specs.SearchAnswers.{answer_of_search};
@@ -21,12 +20,12 @@ fn tried_of(
     second: &Region,
     tries: &[[VarSet; 4]],
 ) -> Result<Vec<Candidate>, AllocError>
-    ensures { IfOk result (λ v. v.items ≡ tried_of (region_view second.now) tries.now) }
+    ensures { IfOk result (λ v. v.items ≡ tried_of second.now tries.now) }
 {
     let mut candidates = Vec::new(alloc);
     for parts in tries {
         candidates.push(Candidate {
-            count: second.auxiliaries,
+            count: second.auxiliaries(),
             parts: *parts,
         })?;
     }
@@ -65,10 +64,10 @@ pub fn containment(
     budgets: Budgets,
     boxes: &mut Vec<Box<dyn Proposer>>,
 ) -> Result<Answer, AllocError>
-    requires question { IsQuestion (question_body question.now) }
-    requires contains { (question_body question.now).verb ≡ Contain (region_view first.now) (region_view second.now) tries.now }
+    requires contains { question.now.body.verb ≡ Contain first.now second.now tries.now }
     ensures { IfOk result (λ a. IsAnswered budgets (map plan boxes.old.items) question.now a (map plan boxes.new.items)) }
 {
+    question.facts();
     let pair = pair(alloc, question)?;
     let tried = tried_of(alloc, second, tries)?;
     let end = contain(

@@ -3,8 +3,6 @@ ghost use Rattle.std.specs.Prelude.{◌≡◌, ◌≤◌, ◌++◌, All, IfOk, O
 ghost use Rattle.it_space.specs.Spaces.{size_of, most_variables, most_rates};
 ghost use Rattle.it_demand.specs.QuestionSpaces.{space_of};
 ghost use Rattle.it_syntax.specs.NamesViews.{NamesView};
-ghost use Rattle.it_question.specs.Limits.{IsQuestion};
-ghost use Rattle.it_question.specs.Questions.{question_body};
 ghost use Rattle.it_question.specs.ProblemLines.{problem_names};
 ghost use Rattle.it_canon.specs.TrueLines.{variable_count};
 ghost use Rattle.it_print.specs.Lines.{AreListed, IsRowOver, cause_text, origins_of};
@@ -38,9 +36,8 @@ pub fn reply_lines(
     constraints: &[Constraint],
     reply: &Reply,
 ) -> Result<Vec<u8>, AllocError>
-    requires question { IsQuestion (question_body question.now) }
-    requires printable { IsPrintable (question_body question.now) (length constraints.now) reply.now }
-    ensures { IfOk result (λ t. t.items ≡ reply_lines limits k (question_body question.now) (origins_of constraints.now) (reply_view reply.now)) }
+    requires printable { IsPrintable question.now.body (length constraints.now) reply.now }
+    ensures { IfOk result (λ t. t.items ≡ reply_lines limits k question.now.body (origins_of constraints.now) (reply_view reply.now)) }
 {
     match reply {
         Reply::Bounded { rows, proofs, rays } => bounds_lines(
@@ -79,12 +76,11 @@ fn bounds_lines(
     proofs: &[Certificate],
     rays: &[Point],
 ) -> Result<Vec<u8>, AllocError>
-    requires question { IsQuestion (question_body question.now) }
     requires as_many { length rows.now ≡ length proofs.now }
-    requires rows { All (λ row. IsRowOver (problem_names (question_body question.now)) row.1) rows.now }
-    requires there { AreListed (variable_count (question_body question.now)) (length constraints.now) proofs.now }
-    requires rays { AreOfNames (problem_names (question_body question.now)) rays.now }
-    ensures { IfOk result (λ t. t.items ≡ count_line k (length rows.now) (length rays.now) ++ row_lines (question_body question.now) constraints.now k rows.now proofs.now ++ flat_map (ray_line k (problem_names (question_body question.now)) (told_rates (question_body question.now))) rays.now) }
+    requires rows { All (λ row. IsRowOver (problem_names question.now.body) row.1) rows.now }
+    requires there { AreListed (variable_count question.now.body) (length constraints.now) proofs.now }
+    requires rays { AreOfNames (problem_names question.now.body) rays.now }
+    ensures { IfOk result (λ t. t.items ≡ count_line k (length rows.now) (length rays.now) ++ row_lines question.now.body constraints.now k rows.now proofs.now ++ flat_map (ray_line k (problem_names question.now.body) (told_rates question.now.body)) rays.now) }
 {
     let mut out = Vec::new(alloc);
     write_count(&mut out, k, rows.len(), rays.len())?;
@@ -115,11 +111,10 @@ fn write_rows(
     rows: &[(Mark, Row)],
     proofs: &[Certificate],
 ) -> Result<(), AllocError>
-    requires some { 1 ≤ variable_count (question_body question.now) }
     requires as_many { length rows.now ≡ length proofs.now }
-    requires rows { All (λ row. IsRowOver (problem_names (question_body question.now)) row.1) rows.now }
-    requires there { AreListed (variable_count (question_body question.now)) (length constraints.now) proofs.now }
-    ensures { OnOk result (out.new.items ≡ out.old.items ++ row_lines (question_body question.now) constraints.now k rows.now proofs.now) }
+    requires rows { All (λ row. IsRowOver (problem_names question.now.body) row.1) rows.now }
+    requires there { AreListed (variable_count question.now.body) (length constraints.now) proofs.now }
+    ensures { OnOk result (out.new.items ≡ out.old.items ++ row_lines question.now.body constraints.now k rows.now proofs.now) }
 {
     for i in 0..rows.len() {
         write_row(alloc, out, k, question, constraints, &rows[i], &proofs[i])?;
@@ -138,10 +133,9 @@ fn write_row(
     row: &(Mark, Row),
     proof: &Certificate,
 ) -> Result<(), AllocError>
-    requires some { 1 ≤ variable_count (question_body question.now) }
-    requires row { IsRowOver (problem_names (question_body question.now)) row.now.1 }
-    requires there { IsThere (variable_count (question_body question.now)) (length constraints.now) proof.now }
-    ensures { OnOk result (out.new.items ≡ out.old.items ++ row_line (question_body question.now) constraints.now k row.now proof.now) }
+    requires row { IsRowOver (problem_names question.now.body) row.now.1 }
+    requires there { IsThere (variable_count question.now.body) (length constraints.now) proof.now }
+    ensures { OnOk result (out.new.items ≡ out.old.items ++ row_line question.now.body constraints.now k row.now proof.now) }
 {
     write_number(out, k)?;
     out.extend_from_slice(b" row ")?;
@@ -163,9 +157,8 @@ fn write_proof(
     constraints: &[Constraint],
     proof: &Certificate,
 ) -> Result<(), AllocError>
-    requires some { 1 ≤ variable_count (question_body question.now) }
-    requires there { IsThere (variable_count (question_body question.now)) (length constraints.now) proof.now }
-    ensures { OnOk result (out.new.items ≡ out.old.items ++ proof_text (question_body question.now) constraints.now proof.now) }
+    requires there { IsThere (variable_count question.now.body) (length constraints.now) proof.now }
+    ensures { OnOk result (out.new.items ≡ out.old.items ++ proof_text question.now.body constraints.now proof.now) }
 {
     write_signed(out, proof.scale)?;
     out.extend_from_slice(b" : ")?;
@@ -181,12 +174,11 @@ fn write_rays(
     question: &Question,
     rays: &[Point],
 ) -> Result<(), AllocError>
-    requires question { IsQuestion (question_body question.now) }
-    requires rays { AreOfNames (problem_names (question_body question.now)) rays.now }
-    ensures { OnOk result (out.new.items ≡ out.old.items ++ flat_map (ray_line k (problem_names (question_body question.now)) (told_rates (question_body question.now))) rays.now) }
+    requires rays { AreOfNames (problem_names question.now.body) rays.now }
+    ensures { OnOk result (out.new.items ≡ out.old.items ++ flat_map (ray_line k (problem_names question.now.body) (told_rates question.now.body)) rays.now) }
 {
     let names = problem_names(question);
-    let kept = kept_coordinates(alloc, names.space(), gone_rates(&question.verb))?;
+    let kept = kept_coordinates(alloc, names.space(), gone_rates(question.verb()))?;
     for ray in rays {
         write_ray(alloc, out, k, names, kept.as_slice(), ray)?;
     }

@@ -2,8 +2,6 @@
 ghost use Rattle.std.specs.Prelude.{◌≡◌, ◌≤◌, map, option_and_then, option_map};
 ghost use Rattle.serde_json.specs.View.{items_view, view};
 ghost use Rattle.it_codes.specs.Codes.{functions_of, size};
-ghost use Rattle.it_question.specs.Limits.{IsQuestion};
-ghost use Rattle.it_question.specs.Questions.{question_body};
 ghost use Rattle.it_certificate.specs.CodeReading.{code_in, coefficient_at, field_at, field_of, function_at, most_symbols, names_code, reported_code_view, some_of, symbols_at, tells_code, times_at, variable_at, variables_at};
 ghost use Rattle.it_certificate.specs.Numerals.{below};
 ghost use Rattle.it_certificate.specs.Parts.{all_of};
@@ -261,10 +259,9 @@ pub fn question_code(
     value: &Value,
     question: &Question,
 ) -> Result<ReportedCode, ReportFault>
-    requires { IsQuestion (question_body question.now) }
-    ensures { GivesKeyed reported_code_view result (names_code question.now.names (view value.now)) }
+    ensures { GivesKeyed reported_code_view result (names_code question.now.body.names (view value.now)) }
 {
-    let count = question.names.space().variables as usize;
+    let count = question.space().variables as usize;
     match code_of_member(alloc, count, value.get("code")) {
         Ok(code) => Ok(code),
         Err(refusal) => Err(fault(refusal, Key::Code)),

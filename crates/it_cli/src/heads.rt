@@ -1,7 +1,6 @@
 //! Modes `copy` and `best`: replies to the questions of a file whose head may ask for copies.
 ghost use Rattle.std.specs.Prelude.{[], ◌≤◌, All, IfOk, length, map};
 ghost use Rattle.it_question.specs.Limits.{IsQuestion};
-ghost use Rattle.it_question.specs.Questions.{question_body, question_view};
 ghost use Rattle.it_copy.specs.CopyLines.{AreNamed, copy_view};
 ghost use Rattle.it_cli.specs.Copies.{with_copies};
 ghost use Rattle.it_cli.specs.InnerEnds.{EndsForBytes, EndsForItems, IsTextOf, head_mode, questions_with};
@@ -64,7 +63,7 @@ fn reply_all<K: Sink>(
     questions: &[Question],
     sink: &mut K,
 ) -> Status
-    requires limits { All (λ q. IsQuestion (question_body q)) questions.now }
+    requires limits { All (λ q. IsQuestion q.body) questions.now }
     requires names { AreNamed copies.now }
     requires few { length copies.now ≤ 4 }
     ensures { EndsForItems K.taken K.faults (head_mode wanted report effort) sink.old sink.new (questions_with copies.now questions.now) result }
@@ -90,10 +89,9 @@ fn text(
     k: usize,
     question: &Question,
 ) -> Result<Vec<u8>, AllocError>
-    requires limits { IsQuestion (question_body question.now) }
     requires names { AreNamed copies.now }
     requires few { length copies.now ≤ 4 }
-    ensures { IfOk result (λ text. IsTextOf (head_mode wanted report effort) [] k (with_copies (map copy_view copies.now) (question_view question.now)) text.items) }
+    ensures { IfOk result (λ text. IsTextOf (head_mode wanted report effort) [] k (with_copies (map copy_view copies.now) question.now) text.items) }
 {
     match wanted {
         Wanted::Answers => answer_text(alloc, report, effort, copies, k, question),

@@ -2,7 +2,6 @@
 ghost use Rattle.std.specs.Prelude.{◌≡◌, ◌+◌, ◌<◌, ◌≤◌, ◌∷◌, ◌++◌, [], codes, length, IfOk, true, false};
 ghost use Rattle.it_question.specs.Limits.{IsQuestion};
 ghost use Rattle.it_question.specs.QuestionLimits.{most_lines, most_file_bytes};
-ghost use Rattle.it_question.specs.Questions.{question_body, question_view};
 ghost use Rattle.it_sharing.specs.Sharings.{IsSharing, made_question, sharing_view, maximal_count, minimal_count};
 ghost use Rattle.it_cli.specs.InnerEnds.{EndsForBytes, EndsForItems, IsTextOf};
 ghost use Rattle.it_cli.specs.Outputs.{sharing_mode};
@@ -132,8 +131,8 @@ fn made_report(
     sharing: &Sharing,
     made: &Made,
 ) -> Result<Vec<u8>, AllocError>
-    requires question { question_view made.now.question ≡ made_question (sharing_view sharing.now) }
-    requires limits { IsQuestion (question_body made.now.question) }
+    requires question { made.now.question ≡ made_question (sharing_view sharing.now) }
+    requires limits { IsQuestion made.now.question.body }
     requires minimal { made.now.minimal ≡ minimal_count (sharing_view sharing.now) }
     requires maximal { made.now.maximal ≡ maximal_count (sharing_view sharing.now) }
     requires few { made.now.minimal + made.now.maximal ≤ most_lines }
@@ -165,8 +164,8 @@ fn made_lines(
     sharing: &Sharing,
     made: &Made,
 ) -> Result<Vec<u8>, AllocError>
-    requires question { question_view made.now.question ≡ made_question (sharing_view sharing.now) }
-    requires limits { IsQuestion (question_body made.now.question) }
+    requires question { made.now.question ≡ made_question (sharing_view sharing.now) }
+    requires limits { IsQuestion made.now.question.body }
     requires minimal { made.now.minimal ≡ minimal_count (sharing_view sharing.now) }
     requires maximal { made.now.maximal ≡ maximal_count (sharing_view sharing.now) }
     requires few { made.now.minimal + made.now.maximal ≤ most_lines }

@@ -1,7 +1,6 @@
 //! The lines of mode `best`.
 ghost use Rattle.std.specs.Prelude.{◌≡◌, ◌≤◌, ◌++◌, length, codes, decimal, IfOk, OnOk};
 ghost use Rattle.std.specs.Fmt.{signed_decimal};
-ghost use Rattle.it_question.specs.Questions.{question_body};
 ghost use Rattle.it_question.specs.ProblemLines.{problem_names};
 ghost use Rattle.it_canon.specs.TrueLines.{variable_count};
 ghost use Rattle.it_print.specs.Lines.{origins_of, values_text};
@@ -28,9 +27,8 @@ fn write_proof(
     constraints: &[Constraint],
     proof: &Certificate,
 ) -> Result<(), AllocError>
-    requires some { 1 ≤ variable_count (question_body question.now) }
-    requires there { IsThere (variable_count (question_body question.now)) (length constraints.now) proof.now }
-    ensures { OnOk result (out.new.items ≡ out.old.items ++ proof_text (question_body question.now) constraints.now proof.now) }
+    requires there { IsThere (variable_count question.now.body) (length constraints.now) proof.now }
+    ensures { OnOk result (out.new.items ≡ out.old.items ++ proof_text question.now.body constraints.now proof.now) }
 {
     write_signed(out, proof.scale)?;
     out.extend_from_slice(b" : ")?;
@@ -58,9 +56,8 @@ fn write_factor(
     den: i128,
     proof: &Certificate,
 ) -> Result<(), AllocError>
-    requires some { 1 ≤ variable_count (question_body question.now) }
-    requires there { IsThere (variable_count (question_body question.now)) (length constraints.now) proof.now }
-    ensures { OnOk result (out.new.items ≡ out.old.items ++ proven_factor_text (question_body question.now) constraints.now num den proof.now) }
+    requires there { IsThere (variable_count question.now.body) (length constraints.now) proof.now }
+    ensures { OnOk result (out.new.items ≡ out.old.items ++ proven_factor_text question.now.body constraints.now num den proof.now) }
 {
     write_ratio(out, num, den)?;
     out.extend_from_slice(b" ")?;
@@ -78,10 +75,9 @@ fn least_line(
     proof: &Certificate,
     point: &Point,
 ) -> Result<Vec<u8>, AllocError>
-    requires some { 1 ≤ variable_count (question_body question.now) }
-    requires there { IsThere (variable_count (question_body question.now)) (length constraints.now) proof.now }
-    requires point { AreValuesOf (problem_names (question_body question.now)) point.now }
-    ensures { IfOk result (λ t. t.items ≡ least_line (question_body question.now) constraints.now k num den proof.now point.now) }
+    requires there { IsThere (variable_count question.now.body) (length constraints.now) proof.now }
+    requires point { AreValuesOf (problem_names question.now.body) point.now }
+    ensures { IfOk result (λ t. t.items ≡ least_line question.now.body constraints.now k num den proof.now point.now) }
 {
     let mut out = Vec::new(alloc);
     write_number(&mut out, k)?;
@@ -101,8 +97,8 @@ fn never_line(
     question: &Question,
     point: &Point,
 ) -> Result<Vec<u8>, AllocError>
-    requires { AreValuesOf (problem_names (question_body question.now)) point.now }
-    ensures { IfOk result (λ t. t.items ≡ decimal k ++ codes " none " ++ values_text (problem_names (question_body question.now)) point.now ++ codes "\n") }
+    requires { AreValuesOf (problem_names question.now.body) point.now }
+    ensures { IfOk result (λ t. t.items ≡ decimal k ++ codes " none " ++ values_text (problem_names question.now.body) point.now ++ codes "\n") }
 {
     let mut out = Vec::new(alloc);
     write_number(&mut out, k)?;
@@ -124,10 +120,9 @@ fn unbounded_line(
     proof: &Certificate,
     below: &Certificate,
 ) -> Result<Vec<u8>, AllocError>
-    requires some { 1 ≤ variable_count (question_body question.now) }
-    requires there { IsThere (variable_count (question_body question.now)) (length constraints.now) proof.now }
-    requires below { IsThere (variable_count (question_body question.now)) (length constraints.now) below.now }
-    ensures { IfOk result (λ t. t.items ≡ unbounded_line (question_body question.now) constraints.now k num den proof.now below.now) }
+    requires there { IsThere (variable_count question.now.body) (length constraints.now) proof.now }
+    requires below { IsThere (variable_count question.now.body) (length constraints.now) below.now }
+    ensures { IfOk result (λ t. t.items ≡ unbounded_line question.now.body constraints.now k num den proof.now below.now) }
 {
     let mut out = Vec::new(alloc);
     write_number(&mut out, k)?;
@@ -197,9 +192,8 @@ fn best_line(
     constraints: &[Constraint],
     found: &Best,
 ) -> Result<Vec<u8>, AllocError>
-    requires some { 1 ≤ variable_count (question_body question.now) }
-    requires printable { IsBestPrintable (problem_names (question_body question.now)) (length constraints.now) found.now }
-    ensures { IfOk result (λ t. t.items ≡ best_line k (problem_names (question_body question.now)) (origins_of constraints.now) (best_view found.now)) }
+    requires printable { IsBestPrintable (problem_names question.now.body) (length constraints.now) found.now }
+    ensures { IfOk result (λ t. t.items ≡ best_line k (problem_names question.now.body) (origins_of constraints.now) (best_view found.now)) }
 {
     match found {
         Best::Least {
@@ -228,9 +222,8 @@ pub fn reply_line(
     constraints: &[Constraint],
     reply: &Reply,
 ) -> Result<Vec<u8>, AllocError>
-    requires some { 1 ≤ variable_count (question_body question.now) }
-    requires printable { IsPrintable (question_body question.now) (length constraints.now) reply.now }
-    ensures { IfOk result (λ t. t.items ≡ reply_line k (question_body question.now) (origins_of constraints.now) (reply_view reply.now)) }
+    requires printable { IsPrintable question.now.body (length constraints.now) reply.now }
+    ensures { IfOk result (λ t. t.items ≡ reply_line k question.now.body (origins_of constraints.now) (reply_view reply.now)) }
 {
     match reply {
         Reply::Found(best) => best_line(alloc, k, question, constraints, best),

@@ -2,7 +2,6 @@
 ghost use Rattle.std.specs.Prelude.{◌≡◌, ◌≤◌, ◌<◌, ◌+◌, ◌++◌, length, filter, flat_map, OnOk, IfOk, All};
 ghost use Rattle.it_space.specs.Answers.{answer_view, is_nonzero_weight};
 ghost use Rattle.it_polymatroid.specs.Elementals.{elementals};
-ghost use Rattle.it_question.specs.Questions.{question_body};
 ghost use Rattle.it_question.specs.ProblemLines.{problem_names};
 ghost use Rattle.it_canon.specs.TrueLines.{variable_count};
 ghost use Rattle.it_print.specs.Lines.{AreListed, IsPrintable, IsRowOver, answer_line, row_text};
@@ -32,11 +31,10 @@ pub fn proof_text(
     targets: &[Row],
     answer: &Answer,
 ) -> Result<Vec<u8>, AllocError>
-    requires some { 1 ≤ variable_count (question_body question.now) }
-    requires printable { IsPrintable (question_body question.now) (length constraints.now) answer.now }
-    requires rows { All (λ c. IsRowOver (problem_names (question_body question.now)) c.row) constraints.now }
-    requires targets { All (IsRowOver (problem_names (question_body question.now))) targets.now }
-    ensures { IfOk result (λ t. t.items ≡ proof_text_by k (question_body question.now) constraints.now targets.now (answer_view answer.now)) }
+    requires printable { IsPrintable question.now.body (length constraints.now) answer.now }
+    requires rows { All (λ c. IsRowOver (problem_names question.now.body) c.row) constraints.now }
+    requires targets { All (IsRowOver (problem_names question.now.body)) targets.now }
+    ensures { IfOk result (λ t. t.items ≡ proof_text_by k question.now.body constraints.now targets.now (answer_view answer.now)) }
 {
     let mut out = answer_line(alloc, k, question, constraints, answer)?;
     let names = problem_names(question);

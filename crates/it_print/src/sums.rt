@@ -1,7 +1,6 @@
 //! Certificates: each weight before its generator, over the scale.
 ghost use Rattle.std.specs.Prelude.{◌≡◌, ◌≤◌, ◌<◌, ◌+◌, ◌++◌, length, OnOk, IfOk, All};
 ghost use Rattle.it_polymatroid.specs.Elementals.{elementals};
-ghost use Rattle.it_question.specs.Questions.{question_body};
 ghost use Rattle.it_canon.specs.TrueLines.{variable_count};
 ghost use Rattle.it_print.specs.Lines.{AreListed, weight_text, origins_of, sum_text, variable_names};
 ghost use Rattle.it_print.specs.ByConstraints.{certificate_text_by, proofs_text_by};
@@ -131,9 +130,8 @@ pub fn sum_text(
     constraints: &[Constraint],
     certificate: &Certificate,
 ) -> Result<Vec<u8>, AllocError>
-    requires some { 1 ≤ variable_count (question_body question.now) }
-    requires there { All (λ w. w.0 < length (elementals (variable_count (question_body question.now))) + length constraints.now) certificate.now.weights.items }
-    ensures { IfOk result (λ t. t.items ≡ sum_text (variable_names (question_body question.now)) (origins_of constraints.now) certificate.now.weights.items) }
+    requires there { All (λ w. w.0 < length (elementals (variable_count question.now.body)) + length constraints.now) certificate.now.weights.items }
+    ensures { IfOk result (λ t. t.items ≡ sum_text (variable_names question.now.body) (origins_of constraints.now) certificate.now.weights.items) }
 {
     let mut out = Vec::new(alloc);
     write_sum(

@@ -6,7 +6,6 @@ ghost use Rattle.it_question.specs.WholeFiles.{place_of};
 ghost use Rattle.it_question.specs.Stops.{IsLeft, IfFault, IsFaultAt, IsStopAt};
 ghost use Rattle.it_question.specs.Limits.{IsQuestion};
 ghost use Rattle.it_question.specs.Lines.{letters_of_lines};
-ghost use Rattle.it_question.specs.Questions.{question_view, question_body};
 
 use crate::asking::bodies;
 use crate::cursor::{Cursor, Line};
@@ -53,8 +52,8 @@ pub fn stop_fault(lines: &[Line], cursor: Cursor<'_>, stop: Stop) -> FileFault
 /// token, and the file's end the line after the last one and column 1.
 pub fn questions(alloc: Global, bytes: &[u8]) -> Result<Vec<Question>, FileFault>
     requires { length bytes.now ≤ 1048577 }
-    ensures read { IfOk result (λ qs. IsFile bytes.now (map question_view qs.items)) }
-    ensures limits { IfOk result (λ qs. All (λ q. IsQuestion (question_body q)) qs.items) }
+    ensures read { IfOk result (λ qs. IsFile bytes.now qs.items) }
+    ensures limits { IfOk result (λ qs. All (λ q. IsQuestion q.body) qs.items) }
     ensures fault { IfErr result (IsFirstFileFault bytes.now) }
 {
     let lines = file_lines(alloc, bytes)?;

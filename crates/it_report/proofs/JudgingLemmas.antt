@@ -17,7 +17,8 @@ use Rattle.it_syntax.specs.NamesViews.{NamesView}
 use Rattle.it_syntax.specs.declared.types.Sign.{Sign}
 use Rattle.it_syntax.specs.declared.types.Sign.TheVariants.{AtLeast, AtMost, Equal}
 use Rattle.it_question.specs.Limits.{IsQuestion}
-use Rattle.it_question.specs.Questions.{BodyView, QuestionView, RegionView, VerbView, Prove, Eliminate, Contain, question_body}
+use Rattle.it_question.specs.OwnLines.{RegionView}
+use Rattle.it_question.specs.Questions.{BodyView, QuestionView, VerbView, Prove, Eliminate, Contain}
 use Rattle.it_demand.specs.Canonical.{IsRowOf, form_of}
 use Rattle.it_elemental.specs.Generators.{is_equation}
 use Rattle.it_demand.specs.Demands.{kind_of}
@@ -212,10 +213,10 @@ module _ {L E : Type 0} (text : L → List ℕ) (invalid : L → Bool) (k : ℕ)
       by_reading (Factored source b) (variants.Coded question answer code) same h judged = absurd same
       by_reading (Factored source b) (variants.Derived question answer origins) same h judged = absurd same
       by_reading (Factored source b) (variants.Factored question best) same h judged =
-          let v = factor_line_verdict (question_body question) (best_view best) in
+          let v = factor_line_verdict question.body (best_view best) in
           let told : v ≡ factor_line_verdict (asked source).body b = ap₂ (λ (q : QuestionView) (x : BestView). factor_line_verdict q.body x)
           (sym same.0) (sym same.1) in
-          record { verdict = factor_line_verdict (question_body question) (best_view best); is = read_verdict line (Factored source b) v h told; told = judged }
+          record { verdict = factor_line_verdict question.body (best_view best); is = read_verdict line (Factored source b) v h told; told = judged }
       by_reading (Factored source b) (variants.Bounded question bounds) same h judged = absurd same
       by_reading (Factored source b) variants.Misfit same h judged = absurd same
       by_reading (Bounded source b) (variants.Answered question answer) same h judged = absurd same

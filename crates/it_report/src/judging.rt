@@ -3,8 +3,7 @@ ghost use Rattle.std.specs.Prelude.{◌≡◌, map, IfOk};
 ghost use Rattle.it_space.specs.Answers.{answer_view, certificate_view};
 ghost use Rattle.it_space.specs.Answers.AnswerView.{Yes, No, Region, Contained};
 ghost use Rattle.it_syntax.specs.Meaning.{relation_view};
-ghost use Rattle.it_question.specs.Limits.{IsQuestion};
-ghost use Rattle.it_question.specs.Questions.{Prove, question_body};
+ghost use Rattle.it_question.specs.Questions.{Prove};
 ghost use Rattle.it_certificate.specs.AnswerShapes.{HasQuestionShape};
 ghost use Rattle.it_ratio.specs.BestViews.{best_view};
 ghost use Rattle.it_certificate.specs.FactorShapes.{HasFactorShape};
@@ -94,9 +93,8 @@ fn answer_line(
     question: &Question,
     answer: &Answer,
 ) -> Result<JudgedLine, AllocError>
-    requires limits { IsQuestion (question_body question.now) }
-    requires fits { HasQuestionShape (question_body question.now) (answer_view answer.now) }
-    ensures { IfOk result (λ j. IsJudgedAnswer k (question_body question.now) (answer_view answer.now) j.text.items j.invalid) }
+    requires fits { HasQuestionShape question.now.body (answer_view answer.now) }
+    ensures { IfOk result (λ j. IsJudgedAnswer k question.now.body (answer_view answer.now) j.text.items j.invalid) }
 {
     match answer {
         Answer::Yes(proofs) => yes_line(alloc, k, question, proofs.as_slice()),
@@ -112,10 +110,10 @@ fn answer_line(
 
 /// The relation of a question that is about one.
 fn relation_of(question: &Question) -> &Relation
-    requires { IsAboutRelation (question_body question.now).verb }
-    ensures { (question_body question.now).verb ≡ Prove (relation_view result.now) }
+    requires { IsAboutRelation question.now.body.verb }
+    ensures { question.now.body.verb ≡ Prove (relation_view result.now) }
 {
-    let Verb::Prove(relation) = &question.verb else {
+    let Verb::Prove(relation) = question.verb() else {
         unreachable!()
     };
     relation
@@ -128,9 +126,8 @@ fn yes_line(
     question: &Question,
     proofs: &[Certificate],
 ) -> Result<JudgedLine, AllocError>
-    requires limits { IsQuestion (question_body question.now) }
-    requires fits { HasQuestionShape (question_body question.now) (Yes (map certificate_view proofs.now)) }
-    ensures { IfOk result (λ j. IsJudgedAnswer k (question_body question.now) (Yes (map certificate_view proofs.now)) j.text.items j.invalid) }
+    requires fits { HasQuestionShape question.now.body (Yes (map certificate_view proofs.now)) }
+    ensures { IfOk result (λ j. IsJudgedAnswer k question.now.body (Yes (map certificate_view proofs.now)) j.text.items j.invalid) }
 {
     let problem = problem(alloc, question)?;
     let rows = target_rows(alloc, relation_of(question), problem.space())?;
@@ -146,9 +143,8 @@ fn no_line(
     back: bool,
     point: &Point,
 ) -> Result<JudgedLine, AllocError>
-    requires limits { IsQuestion (question_body question.now) }
-    requires fits { HasQuestionShape (question_body question.now) (No back point.now) }
-    ensures { IfOk result (λ j. IsJudgedAnswer k (question_body question.now) (No back point.now) j.text.items j.invalid) }
+    requires fits { HasQuestionShape question.now.body (No back point.now) }
+    ensures { IfOk result (λ j. IsJudgedAnswer k question.now.body (No back point.now) j.text.items j.invalid) }
 {
     let problem = problem(alloc, question)?;
     let rows = target_rows(alloc, relation_of(question), problem.space())?;
@@ -175,10 +171,10 @@ fn coded_line(
     answer: &Answer,
     code: &ReportedCode,
 ) -> Result<JudgedLine, AllocError>
-    requires limits { IsQuestion (question_body question.now) }
-    requires fits { HasCodedShape (question_body question.now) (answer_view answer.now) (reported_code_view code.now) }
-    ensures { IfOk result (λ j. IsJudgedCoded k (question_body question.now) (answer_view answer.now) (reported_code_view code.now) j.text.items j.invalid) }
+    requires fits { HasCodedShape question.now.body (answer_view answer.now) (reported_code_view code.now) }
+    ensures { IfOk result (λ j. IsJudgedCoded k question.now.body (answer_view answer.now) (reported_code_view code.now) j.text.items j.invalid) }
 {
+    question.facts();
     let judged = answer_line(alloc, k, question, answer)?;
     if judged.invalid {
         return Ok(judged);
@@ -211,14 +207,13 @@ fn derived_line(
     answer: &Answer,
     origins: &[Certificate],
 ) -> Result<JudgedLine, AllocError>
-    requires limits { IsQuestion (question_body question.now) }
-    requires fits { HasDerivedShape (question_body question.now) (answer_view answer.now) (map certificate_view origins.now) }
-    ensures { IfOk result (λ j. IsJudgedDerived k (question_body question.now) (answer_view answer.now) (map certificate_view origins.now) j.text.items j.invalid) }
+    requires fits { HasDerivedShape question.now.body (answer_view answer.now) (map certificate_view origins.now) }
+    ensures { IfOk result (λ j. IsJudgedDerived k question.now.body (answer_view answer.now) (map certificate_view origins.now) j.text.items j.invalid) }
 {
     let problem = problem_of_lines(alloc, question)?;
     let rows = unmarked(alloc, rows_of(answer))?;
     let verdict = proofs_verdict(&problem, rows.as_slice(), origins);
-    verdict_line(alloc, k, &question.names, &verdict)
+    verdict_line(alloc, k, question.names(), &verdict)
 }
 
 /// The line about a containment: its certificates against the obligations of its parts, under the first region's problem.
@@ -229,9 +224,8 @@ fn contained_line(
     parts: &[VarSet],
     proofs: &[Certificate],
 ) -> Result<JudgedLine, AllocError>
-    requires limits { IsQuestion (question_body question.now) }
-    requires fits { HasQuestionShape (question_body question.now) (Contained parts.now (map certificate_view proofs.now)) }
-    ensures { IfOk result (λ j. IsJudgedAnswer k (question_body question.now) (Contained parts.now (map certificate_view proofs.now)) j.text.items j.invalid) }
+    requires fits { HasQuestionShape question.now.body (Contained parts.now (map certificate_view proofs.now)) }
+    ensures { IfOk result (λ j. IsJudgedAnswer k question.now.body (Contained parts.now (map certificate_view proofs.now)) j.text.items j.invalid) }
 {
     let pair = pair(alloc, question)?;
     let rows = obligations(alloc, &pair, &candidate(parts))?;
@@ -246,9 +240,8 @@ fn best_line(
     question: &Question,
     best: &Best,
 ) -> Result<JudgedLine, AllocError>
-    requires limits { IsQuestion (question_body question.now) }
-    requires fits { HasFactorShape (question_body question.now) (best_view best.now) }
-    ensures { IfOk result (λ j. IsLineOf k (factor_line_verdict (question_body question.now) (best_view best.now)) j.text.items j.invalid) }
+    requires fits { HasFactorShape question.now.body (best_view best.now) }
+    ensures { IfOk result (λ j. IsLineOf k (factor_line_verdict question.now.body (best_view best.now)) j.text.items j.invalid) }
 {
     let problem = problem(alloc, question)?;
     let (left, right) = sides(alloc, relation_of(question), problem.space())?;

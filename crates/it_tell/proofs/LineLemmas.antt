@@ -3,7 +3,7 @@ use Rattle.std.proofs.Common.{◌≡◌, ℕ, List, Bool, true, false, Some, Non
 use Rattle.std.proofs.lemmas.Bool.{true≢false}
 use Rattle.serde_json.specs.Read.{read}
 use Rattle.it_space.specs.Answers.{AnswerView, answer_view}
-use Rattle.it_question.specs.Questions.{QuestionView, question_body}
+use Rattle.it_question.specs.Questions.{QuestionView}
 use Rattle.it_question.proofs.NumberLemmas.{QuestionHasSmallNumbers}
 use Rattle.it_certificate.specs.declared.keys.Key.{Key}
 use Rattle.it_certificate.specs.CodeReading.{ReportedCodeView, reported_code_view}
@@ -110,10 +110,10 @@ can_be_printed line r read limits h = by_reading read.0 r read.1 read.2 limits
     by_reading : (x : Reading) (r : Reported) → IsReported x r → ReadsReport line (Ok x) → KeepsLimits r → CanBePrinted r
     by_reading (reports.Answered source a) (variants.Answered q answer) same reads limits =
         let small = subst (λ (x : QuestionView). QuestionHasSmallNumbers x.body) same.0 (small_numbers line source a reads) in
-        let verdict : IsAnswerVerdict (question_body q) (answer_view answer) h.verdict =
-        subst (λ b. IsAnswerVerdict (question_body q) b h.verdict) same.1 (subst
+        let verdict : IsAnswerVerdict q.body (answer_view answer) h.verdict =
+        subst (λ b. IsAnswerVerdict q.body b h.verdict) same.1 (subst
         (λ (x : QuestionView). IsAnswerVerdict x.body a h.verdict) same.0 (on_answer line source a reads h)) in
-        printable (question_body q) limits.0 (question_poses (question_body q) limits.0 small) h.verdict h.accepted answer limits.1 verdict
+        printable q.body limits.0 (question_poses q.body limits.0 small) h.verdict h.accepted answer limits.1 verdict
     by_reading (reports.Answered source a) (variants.Coded q answer code) same reads limits = absurd same
     by_reading (reports.Answered source a) (variants.Derived q answer origins) same reads limits = absurd same
     by_reading (reports.Answered source a) (variants.Factored q best) same reads limits = absurd same
@@ -122,10 +122,10 @@ can_be_printed line r read limits h = by_reading read.0 r read.1 read.2 limits
     by_reading (reports.Coded source a c) (variants.Answered q answer) same reads limits = absurd same
     by_reading (reports.Coded source a c) (variants.Coded q answer code) same reads limits =
         let small = subst (λ (x : QuestionView). QuestionHasSmallNumbers x.body) same.0 (coded_numbers line source a c reads) in
-        let verdict : IsAnswerVerdict (question_body q) (answer_view answer) h.verdict =
-        subst (λ b. IsAnswerVerdict (question_body q) b h.verdict) same.1 (subst
+        let verdict : IsAnswerVerdict q.body (answer_view answer) h.verdict =
+        subst (λ b. IsAnswerVerdict q.body b h.verdict) same.1 (subst
         (λ (x : QuestionView). IsAnswerVerdict x.body a h.verdict) same.0 (on_coded line source a c reads h)) in
-        printable (question_body q) limits.0 (question_poses (question_body q) limits.0 small) h.verdict h.accepted answer limits.1.answered verdict
+        printable q.body limits.0 (question_poses q.body limits.0 small) h.verdict h.accepted answer limits.1.answered verdict
     by_reading (reports.Coded source a c) (variants.Derived q answer origins) same reads limits = absurd same
     by_reading (reports.Coded source a c) (variants.Factored q best) same reads limits = absurd same
     by_reading (reports.Coded source a c) (variants.Bounded q bounds) same reads limits = absurd same
@@ -134,8 +134,8 @@ can_be_printed line r read limits h = by_reading read.0 r read.1 read.2 limits
     by_reading (reports.Derived source a ws) (variants.Coded q answer code) same reads limits = absurd same
     by_reading (reports.Derived source a ws) (variants.Derived q answer origins) same reads limits =
         let small = subst (λ (x : QuestionView). QuestionHasSmallNumbers x.body) same.0 (derived_numbers line source a ws reads) in
-        printable (question_body q) limits.0 (question_poses (question_body q) limits.0 small) Skipped refl answer limits.1.answered
-        (region_skipped (question_body q) (answer_view answer) limits.1.region)
+        printable q.body limits.0 (question_poses q.body limits.0 small) Skipped refl answer limits.1.answered
+        (region_skipped q.body (answer_view answer) limits.1.region)
     by_reading (reports.Derived source a ws) (variants.Factored q best) same reads limits = absurd same
     by_reading (reports.Derived source a ws) (variants.Bounded q bounds) same reads limits = absurd same
     by_reading (reports.Derived source a ws) variants.Misfit same reads limits = absurd same

@@ -21,7 +21,7 @@ use Rattle.it_tell.specs.OwnLines.{own_line, own_lines_by}
 use Rattle.it_space.specs.Answers.{AnswerView, CertificateView, answer_view, certificate_view}
 use Rattle.it_polymatroid.specs.Certificates.{Form}
 use Rattle.it_syntax.specs.NamesViews.{NamesView}
-use Rattle.it_question.specs.Questions.{BodyView, VerbView, Contain, question_body}
+use Rattle.it_question.specs.Questions.{BodyView, VerbView, Contain}
 use Rattle.it_canon.specs.QuestionDemands.{question_demands}
 use Rattle.it_certificate.specs.declared.types.Reported.{Reported}
 use Rattle.it_certificate.specs.declared.types.Reported.TheVariants as variants
@@ -62,18 +62,18 @@ IsCodedText options k q answer code text =
 
 -- the lines about what was read
 abbrev pub IsReportedText : Options → ℕ → Reported → List ℕ → Type 0
-IsReportedText options k (variants.Answered question answer) text = IsAnsweredText options k (question_body question) (answer_view answer) text
-IsReportedText options k (variants.Coded question answer code) text = IsCodedText options k (question_body question) (answer_view answer) (reported_code_view code) text
-IsReportedText options k (variants.Derived question answer origins) text = IsAnsweredText options k (question_body question) (answer_view answer) text
+IsReportedText options k (variants.Answered question answer) text = IsAnsweredText options k question.body (answer_view answer) text
+IsReportedText options k (variants.Coded question answer code) text = IsCodedText options k question.body (answer_view answer) (reported_code_view code) text
+IsReportedText options k (variants.Derived question answer origins) text = IsAnsweredText options k question.body (answer_view answer) text
 IsReportedText options k (variants.Factored question best) text = text ≡ numbered_line k (best_words (best_view best))
 IsReportedText options k (variants.Bounded question bounds) text = text ≡ numbered_line k (bounds_words (bounds_view bounds))
 IsReportedText options k variants.Misfit text = text ≡ numbered_line k (codes "misfit")
 
 -- the answer that was read can be printed
 abbrev pub CanBePrinted : Reported → Type 0
-CanBePrinted (variants.Answered question answer) = IsPrintable (question_body question) (length (question_demands (question_body question))) answer
-CanBePrinted (variants.Coded question answer code) = IsPrintable (question_body question) (length (question_demands (question_body question))) answer
-CanBePrinted (variants.Derived question answer origins) = IsPrintable (question_body question) (length (question_demands (question_body question))) answer
+CanBePrinted (variants.Answered question answer) = IsPrintable question.body (length (question_demands question.body)) answer
+CanBePrinted (variants.Coded question answer code) = IsPrintable question.body (length (question_demands question.body)) answer
+CanBePrinted (variants.Derived question answer origins) = IsPrintable question.body (length (question_demands question.body)) answer
 CanBePrinted (variants.Factored question best) = Unit {0}
 CanBePrinted (variants.Bounded question bounds) = Unit {0}
 CanBePrinted variants.Misfit = Unit {0}

@@ -5,8 +5,6 @@ ghost use Rattle.it_space.specs.Answers.{certificate_view};
 ghost use Rattle.it_space.specs.Rows.{IsOver, value};
 ghost use Rattle.it_space.specs.Spaces.{size_of};
 ghost use Rattle.it_polymatroid.specs.Elementals.{elementals};
-ghost use Rattle.it_question.specs.Limits.{IsQuestion};
-ghost use Rattle.it_question.specs.Questions.{question_body};
 ghost use Rattle.it_question.specs.ProblemLines.{problem_names};
 ghost use Rattle.it_canon.specs.TrueLines.{variable_count};
 ghost use Rattle.it_canon.specs.QuestionDemands.{question_origins};
@@ -17,7 +15,7 @@ ghost use Rattle.it_tell.specs.OwnLines.{own_line_comment, relation_part, sets_w
 ghost use Rattle.it_tell.specs.Steps.{AppendsDetails, AppendsEachOwnLine, AppendsObligation, AppendsOwnLine, AppendsOwnProofs, AreObligations, AreOwnConstraints, HasObligations, IsFreeProblem, SaysOrNothing, contained_by, form_with_proof, obliged};
 ghost use Rattle.it_tell.specs.Tellings.{IsByShannon};
 
-use crate::details::{write_indented, write_proof, write_proofs};
+use crate::details::{Asked, write_indented, write_proof, write_proofs};
 use crate::settings::{Options, is_plain};
 use it_canon::{problem_names, region_lines};
 use it_check::{Verdict, check_yes};
@@ -27,7 +25,7 @@ use it_question::types::{Question, Verb};
 use it_region::{candidate, obligations, pair};
 use it_space::{Certificate, Row, VarSet};
 use it_syntax::Names;
-use it_terms::told_line;
+use it_terms::{Proven, told_line};
 use std::alloc::{AllocError, Global};
 
 /// A containment question, the options of its telling, the constraints of its problem, and the sets for the second region's
@@ -42,14 +40,13 @@ pub struct Containment<'a> {
 
 /// The constraints of the second region's own lines; these alone are counted.
 fn own_constraints(alloc: Global, question: &Question) -> Result<Vec<Constraint>, AllocError>
-    requires question { IsQuestion (question_body question.now) }
-    requires contains { IsContainment (question_body question.now).verb }
-    ensures { IfOk result (λ cs. AreOwnConstraints (question_body question.now) cs.items) }
+    requires contains { IsContainment question.now.body.verb }
+    ensures { IfOk result (λ cs. AreOwnConstraints question.now.body cs.items) }
 {
-    let Verb::Contain { second, .. } = &question.verb else {
+    let Verb::Contain { second, .. } = question.verb() else {
         unreachable!()
     };
-    let space = second.names.space();
+    let space = second.space();
     let own = region_lines(alloc, second, 1, 1, space)?;
     Ok(own)
 }
@@ -60,9 +57,8 @@ fn obligation_rows(
     asked: &Containment<'_>,
     proofs: &[Certificate],
 ) -> Result<Vec<Row>, AllocError>
-    requires question { IsQuestion (question_body asked.now.question.now) }
-    requires fits { HasQuestionShape (question_body asked.now.question.now) (contained_by asked.now.parts.now proofs.now) }
-    ensures { IfOk result (λ rows. AreObligations (question_body asked.now.question.now) (contained_by asked.now.parts.now proofs.now) rows.items) }
+    requires fits { HasQuestionShape asked.now.question.now.body (contained_by asked.now.parts.now proofs.now) }
+    ensures { IfOk result (λ rows. AreObligations asked.now.question.now.body (contained_by asked.now.parts.now proofs.now) rows.items) }
 {
     // the proofs are named in the clauses alone
     let _proofs = proofs;
@@ -139,16 +135,16 @@ fn write_choices(
 
 /// Writes the sets for the auxiliary variables of the second region.
 fn write_parts(out: &mut Vec<u8>, asked: &Containment<'_>) -> Result<(), AllocError>
-    requires contains { IsContainment (question_body asked.now.question.now).verb }
-    requires counted { length asked.now.parts.now ≡ length (auxiliary_names (question_body asked.now.question.now).names (question_body asked.now.question.now).verb) }
-    ensures { OnOk result (out.new.items ≡ out.old.items ++ with_text (question_body asked.now.question.now) asked.now.parts.now) }
+    requires contains { IsContainment asked.now.question.now.body.verb }
+    requires counted { length asked.now.parts.now ≡ length (auxiliary_names asked.now.question.now.body.names asked.now.question.now.body.verb) }
+    ensures { OnOk result (out.new.items ≡ out.old.items ++ with_text asked.now.question.now.body asked.now.parts.now) }
 {
-    let Verb::Contain { second, .. } = &asked.question.verb else {
+    let Verb::Contain { second, .. } = asked.question.verb() else {
         unreachable!()
     };
-    let common = asked.question.names.space().variables;
+    let common = asked.question.space().variables;
     let names = problem_names(asked.question);
-    write_choices(out, names, &second.names, common, asked.parts)
+    write_choices(out, names, second.names(), common, asked.parts)
 }
 
 /// Writes a relation after a colon; nothing if there is none.
@@ -183,9 +179,9 @@ fn own_line_comment(
     relation: &[u8],
     is_by_shannon: bool,
 ) -> Result<Vec<u8>, AllocError>
-    requires contains { IsContainment (question_body asked.now.question.now).verb }
-    requires counted { length asked.now.parts.now ≡ length (auxiliary_names (question_body asked.now.question.now).names (question_body asked.now.question.now).verb) }
-    ensures { IfOk result (λ t. t.items ≡ own_line_comment (question_body asked.now.question.now) asked.now.parts.now origin relation.now is_by_shannon) }
+    requires contains { IsContainment asked.now.question.now.body.verb }
+    requires counted { length asked.now.parts.now ≡ length (auxiliary_names asked.now.question.now.body.names asked.now.question.now.body.verb) }
+    ensures { IfOk result (λ t. t.items ≡ own_line_comment asked.now.question.now.body asked.now.parts.now origin relation.now is_by_shannon) }
 {
     let mut out = Vec::new(alloc);
     out.extend_from_slice(b"# ")?;
@@ -200,9 +196,9 @@ fn own_line_comment(
 
 /// The problem of a question without its constraints.
 fn free_problem(alloc: Global, question: &Question) -> Problem
-    requires { IsQuestion (question_body question.now) }
-    ensures { IsFreeProblem (question_body question.now) result }
+    ensures { IsFreeProblem question.now.body result }
 {
+    question.facts();
     let space = problem_names(question).space();
     let constraints = Vec::new(alloc);
     Problem { space, constraints }
@@ -227,8 +223,7 @@ fn line_text(
     origin: Origin,
     rows: &[Row],
 ) -> Result<Vec<u8>, AllocError>
-    requires { IsQuestion (question_body asked.now.question.now) }
-    ensures { IfOk result (λ t. SaysOrNothing (problem_names (question_body asked.now.question.now)) (map value rows.now) t.items) }
+    ensures { IfOk result (λ t. SaysOrNothing (problem_names asked.now.question.now.body) (map value rows.now) t.items) }
 {
     match told_line(alloc, asked.question, asked.parts, origin, rows)? {
         Some(text) => Ok(text),
@@ -248,27 +243,26 @@ fn write_obligation(
     row: &Row,
     proof: &Certificate,
 ) -> Result<(), AllocError>
-    requires question { IsQuestion (question_body asked.now.question.now) }
-    requires some { 1 ≤ variable_count (question_body asked.now.question.now) }
-    requires origins { origins_of asked.now.constraints.now ≡ question_origins (question_body asked.now.question.now) }
-    requires there { All (λ w. w.0 < length (elementals (variable_count (question_body asked.now.question.now))) + length asked.now.constraints.now) proof.now.weights.items }
-    requires free { IsFreeProblem (question_body asked.now.question.now) free.now }
+    requires origins { origins_of asked.now.constraints.now ≡ question_origins asked.now.question.now.body }
+    requires there { All (λ w. w.0 < length (elementals (variable_count asked.now.question.now.body)) + length asked.now.constraints.now) proof.now.weights.items }
+    requires free { IsFreeProblem asked.now.question.now.body free.now }
     requires over { IsOver (size_of free.now.space) row.now }
-    ensures { OnOk result (AppendsObligation (question_body asked.now.question.now) asked.now.options (form_with_proof row.now proof.now) out.old.items out.new.items) }
+    ensures { OnOk result (AppendsObligation asked.now.question.now.body asked.now.options (form_with_proof row.now proof.now) out.old.items out.new.items) }
 {
     if is_by_shannon(free, row, proof) {
         return Ok(());
     }
-    write_proof(
-        alloc,
-        out,
-        asked.question,
-        asked.options,
-        asked.constraints,
+    let told = Asked {
+        question: asked.question,
+        options: asked.options,
+        constraints: asked.constraints,
+    };
+    let proven = Proven {
         row,
-        proof,
-        Some(relation),
-    )?;
+        certificate: proof,
+        line: Some(relation),
+    };
+    write_proof(alloc, out, &told, &proven)?;
     Ok(())
 }
 
@@ -282,14 +276,12 @@ fn own_proofs(
     rows: &[Row],
     proofs: &[Certificate],
 ) -> Result<Vec<u8>, AllocError>
-    requires question { IsQuestion (question_body asked.now.question.now) }
-    requires some { 1 ≤ variable_count (question_body asked.now.question.now) }
-    requires origins { origins_of asked.now.constraints.now ≡ question_origins (question_body asked.now.question.now) }
-    requires there { AreListed (variable_count (question_body asked.now.question.now)) (length asked.now.constraints.now) proofs.now }
-    requires free { IsFreeProblem (question_body asked.now.question.now) free.now }
+    requires origins { origins_of asked.now.constraints.now ≡ question_origins asked.now.question.now.body }
+    requires there { AreListed (variable_count asked.now.question.now.body) (length asked.now.constraints.now) proofs.now }
+    requires free { IsFreeProblem asked.now.question.now.body free.now }
     requires over { All (IsOver (size_of free.now.space)) rows.now }
     requires as_many { length rows.now ≡ length proofs.now }
-    ensures { IfOk result (λ v. AppendsOwnProofs (question_body asked.now.question.now) asked.now.options rows.now (map certificate_view proofs.now) [] v.items) }
+    ensures { IfOk result (λ v. AppendsOwnProofs asked.now.question.now.body asked.now.options rows.now (map certificate_view proofs.now) [] v.items) }
 {
     let mut out = Vec::new(alloc);
     for (i, row) in rows.iter().enumerate() {
@@ -308,16 +300,14 @@ fn write_own_line(
     rows: &[Row],
     proofs: &[Certificate],
 ) -> Result<(), AllocError>
-    requires question { IsQuestion (question_body asked.now.question.now) }
-    requires some { 1 ≤ variable_count (question_body asked.now.question.now) }
-    requires origins { origins_of asked.now.constraints.now ≡ question_origins (question_body asked.now.question.now) }
-    requires contains { IsContainment (question_body asked.now.question.now).verb }
-    requires counted { length asked.now.parts.now ≡ length (auxiliary_names (question_body asked.now.question.now).names (question_body asked.now.question.now).verb) }
-    requires there { AreListed (variable_count (question_body asked.now.question.now)) (length asked.now.constraints.now) proofs.now }
-    requires free { IsFreeProblem (question_body asked.now.question.now) free.now }
+    requires origins { origins_of asked.now.constraints.now ≡ question_origins asked.now.question.now.body }
+    requires contains { IsContainment asked.now.question.now.body.verb }
+    requires counted { length asked.now.parts.now ≡ length (auxiliary_names asked.now.question.now.body.names asked.now.question.now.body.verb) }
+    requires there { AreListed (variable_count asked.now.question.now.body) (length asked.now.constraints.now) proofs.now }
+    requires free { IsFreeProblem asked.now.question.now.body free.now }
     requires over { All (IsOver (size_of free.now.space)) rows.now }
     requires as_many { length rows.now ≡ length proofs.now }
-    ensures { OnOk result (AppendsOwnLine (question_body asked.now.question.now) asked.now.options asked.now.parts.now origin rows.now (map certificate_view proofs.now) out.old.items out.new.items) }
+    ensures { OnOk result (AppendsOwnLine asked.now.question.now.body asked.now.options asked.now.parts.now origin rows.now (map certificate_view proofs.now) out.old.items out.new.items) }
 {
     let relation = line_text(alloc, asked, origin, rows)?;
     let relation = relation.as_slice();
@@ -350,17 +340,15 @@ fn write_own_lines(
     rows: &[Row],
     proofs: &[Certificate],
 ) -> Result<(), AllocError>
-    requires question { IsQuestion (question_body asked.now.question.now) }
-    requires some { 1 ≤ variable_count (question_body asked.now.question.now) }
-    requires contains { IsContainment (question_body asked.now.question.now).verb }
-    requires counted { length asked.now.parts.now ≡ length (auxiliary_names (question_body asked.now.question.now).names (question_body asked.now.question.now).verb) }
-    requires origins { origins_of asked.now.constraints.now ≡ question_origins (question_body asked.now.question.now) }
-    requires there { AreListed (variable_count (question_body asked.now.question.now)) (length asked.now.constraints.now) proofs.now }
-    requires free { IsFreeProblem (question_body asked.now.question.now) free.now }
+    requires contains { IsContainment asked.now.question.now.body.verb }
+    requires counted { length asked.now.parts.now ≡ length (auxiliary_names asked.now.question.now.body.names asked.now.question.now.body.verb) }
+    requires origins { origins_of asked.now.constraints.now ≡ question_origins asked.now.question.now.body }
+    requires there { AreListed (variable_count asked.now.question.now.body) (length asked.now.constraints.now) proofs.now }
+    requires free { IsFreeProblem asked.now.question.now.body free.now }
     requires over { All (IsOver (size_of free.now.space)) rows.now }
     requires as_many { length rows.now ≡ length proofs.now }
     requires all { HasObligations own.now (length rows.now) }
-    ensures { OnOk result (AppendsEachOwnLine (question_body asked.now.question.now) asked.now.options asked.now.parts.now own.now rows.now (map certificate_view proofs.now) out.old.items out.new.items) }
+    ensures { OnOk result (AppendsEachOwnLine asked.now.question.now.body asked.now.options asked.now.parts.now own.now rows.now (map certificate_view proofs.now) out.old.items out.new.items) }
 {
     let mut rows_left = rows;
     let mut proofs_left = proofs;
@@ -385,26 +373,21 @@ pub fn write_contained(
     asked: &Containment<'_>,
     proofs: &[Certificate],
 ) -> Result<(), AllocError>
-    requires question { IsQuestion (question_body asked.now.question.now) }
-    requires some { 1 ≤ variable_count (question_body asked.now.question.now) }
-    requires origins { origins_of asked.now.constraints.now ≡ question_origins (question_body asked.now.question.now) }
-    requires there { AreListed (variable_count (question_body asked.now.question.now)) (length asked.now.constraints.now) proofs.now }
-    requires counted { length asked.now.parts.now ≡ length (auxiliary_names (question_body asked.now.question.now).names (question_body asked.now.question.now).verb) }
-    requires fits { HasQuestionShape (question_body asked.now.question.now) (contained_by asked.now.parts.now proofs.now) }
-    ensures { OnOk result (AppendsDetails (question_body asked.now.question.now) asked.now.options (contained_by asked.now.parts.now proofs.now) out.old.items out.new.items) }
+    requires origins { origins_of asked.now.constraints.now ≡ question_origins asked.now.question.now.body }
+    requires there { AreListed (variable_count asked.now.question.now.body) (length asked.now.constraints.now) proofs.now }
+    requires counted { length asked.now.parts.now ≡ length (auxiliary_names asked.now.question.now.body.names asked.now.question.now.body.verb) }
+    requires fits { HasQuestionShape asked.now.question.now.body (contained_by asked.now.parts.now proofs.now) }
+    ensures { OnOk result (AppendsDetails asked.now.question.now.body asked.now.options (contained_by asked.now.parts.now proofs.now) out.old.items out.new.items) }
 {
     let rows = obligation_rows(alloc, asked, proofs)?;
     let rows = rows.as_slice();
     if is_plain(asked.options.style) {
-        return write_proofs(
-            alloc,
-            out,
-            asked.question,
-            asked.options,
-            asked.constraints,
-            rows,
-            proofs,
-        );
+        let told = Asked {
+            question: asked.question,
+            options: asked.options,
+            constraints: asked.constraints,
+        };
+        return write_proofs(alloc, out, &told, rows, proofs);
     }
     let free = free_problem(alloc, asked.question);
     let own = own_constraints(alloc, asked.question)?;

@@ -1,8 +1,6 @@
 //! What is told of a line of a report.
 ghost use Rattle.std.specs.Prelude.{◌≡◌, length, IfOk};
 ghost use Rattle.it_space.specs.Answers.{answer_view};
-ghost use Rattle.it_question.specs.Limits.{IsQuestion};
-ghost use Rattle.it_question.specs.Questions.{question_body};
 ghost use Rattle.it_canon.specs.QuestionDemands.{question_demands};
 ghost use Rattle.it_certificate.specs.AnswerShapes.{HasQuestionShape};
 ghost use Rattle.it_print.specs.Lines.{IsPrintable};
@@ -42,10 +40,9 @@ fn answered_text(
     question: &Question,
     answer: &Answer,
 ) -> Result<Vec<u8>, AllocError>
-    requires question { IsQuestion (question_body question.now) }
-    requires fits { HasQuestionShape (question_body question.now) (answer_view answer.now) }
-    requires printable { IsPrintable (question_body question.now) (length (question_demands (question_body question.now))) answer.now }
-    ensures { IfOk result (λ t. IsAnsweredText options k (question_body question.now) (answer_view answer.now) t.items) }
+    requires fits { HasQuestionShape question.now.body (answer_view answer.now) }
+    requires printable { IsPrintable question.now.body (length (question_demands question.now.body)) answer.now }
+    ensures { IfOk result (λ t. IsAnsweredText options k question.now.body (answer_view answer.now) t.items) }
 {
     let problem = problem(alloc, question)?;
     let constraints = problem.constraints();
@@ -64,13 +61,12 @@ fn coded_text(
     answer: &Answer,
     code: &ReportedCode,
 ) -> Result<Vec<u8>, AllocError>
-    requires question { IsQuestion (question_body question.now) }
-    requires fits { HasCodedShape (question_body question.now) (answer_view answer.now) (reported_code_view code.now) }
-    requires printable { IsPrintable (question_body question.now) (length (question_demands (question_body question.now))) answer.now }
-    ensures { IfOk result (λ t. IsCodedText options k (question_body question.now) (answer_view answer.now) (reported_code_view code.now) t.items) }
+    requires fits { HasCodedShape question.now.body (answer_view answer.now) (reported_code_view code.now) }
+    requires printable { IsPrintable question.now.body (length (question_demands question.now.body)) answer.now }
+    ensures { IfOk result (λ t. IsCodedText options k question.now.body (answer_view answer.now) (reported_code_view code.now) t.items) }
 {
     let mut text = answered_text(alloc, options, k, question, answer)?;
-    let code_line = code_text(alloc, &question.names, code)?;
+    let code_line = code_text(alloc, question.names(), code)?;
     write_indented(&mut text, code_line.as_slice())?;
     Ok(text)
 }

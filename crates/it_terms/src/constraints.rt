@@ -156,16 +156,16 @@ pub fn item_of<'a, T>(own: &'a [T], more: &'a [T], number: u16) -> Result<&'a T,
 
 /// The `given` lines of the first region of a question, if it has one.
 fn region_givens(question: &Question) -> &[Given] {
-    match &question.verb {
-        Verb::Contain { first, .. } => first.lines.givens.as_slice(),
+    match question.verb() {
+        Verb::Contain { first, .. } => first.lines().givens(),
         _ => &[],
     }
 }
 
 /// The `row` lines of the first region of a question, if it has one.
 fn region_rows(question: &Question) -> &[Relation] {
-    match &question.verb {
-        Verb::Contain { first, .. } => first.lines.rows.as_slice(),
+    match question.verb() {
+        Verb::Contain { first, .. } => first.lines().rows(),
         _ => &[],
     }
 }
@@ -180,7 +180,7 @@ pub fn put_constraint(
 ) -> Result<(), Untold> {
     match origin {
         Origin::Given { line, part, .. } => {
-            let own = question.lines.givens.as_slice();
+            let own = question.lines().givens();
             put_given(
                 out,
                 item_of(own, region_givens(question), line)?,
@@ -189,7 +189,7 @@ pub fn put_constraint(
             )
         }
         Origin::Rate { line } => {
-            let own = question.lines.rows.as_slice();
+            let own = question.lines().rows();
             put_relation(out, item_of(own, region_rows(question), line)?, times)
         }
     }

@@ -6,8 +6,6 @@ ghost use Rattle.it_space.specs.Spaces.{IsSpace};
 ghost use Rattle.it_space.specs.Rows.{value};
 ghost use Rattle.it_syntax.specs.Givens.{IsRelationOf};
 ghost use Rattle.it_syntax.specs.Meaning.{relation_view};
-ghost use Rattle.it_question.specs.Limits.{IsQuestion};
-ghost use Rattle.it_question.specs.Questions.{question_body};
 ghost use Rattle.it_question.specs.ProblemLines.{problem_names};
 ghost use Rattle.it_terms.specs.Signs.{AreLeastTogether};
 ghost use Rattle.it_terms.specs.Tells.{SaysForms, TellsForms};
@@ -91,7 +89,7 @@ fn line_text(
     requires { 1 ≤ length names.now.variables }
 {
     let relation = substituted(alloc, question, parts, origin)?;
-    let measures = measures(alloc, question.source.as_slice(), names)?;
+    let measures = measures(alloc, question.source(), names)?;
     Ok(sums_text(
         alloc,
         measures.as_slice(),
@@ -112,8 +110,7 @@ pub fn told_line(
     origin: Origin,
     rows: &[Row],
 ) -> Result<Option<Vec<u8>>, AllocError>
-    requires { IsQuestion (question_body question.now) }
-    ensures { IfOk result (λ o. IfSome o (λ text. TellsForms (problem_names (question_body question.now)) (map value rows.now) text.items)) }
+    ensures { IfOk result (λ o. IfSome o (λ text. TellsForms (problem_names question.now.body) (map value rows.now) text.items)) }
 {
     let names = names_of(question);
     let text = match line_text(alloc, question, names, parts, origin) {

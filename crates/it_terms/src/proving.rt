@@ -2,8 +2,6 @@
 ghost use Rattle.std.specs.Prelude.{◌≤◌, ◌<◌, IfOk, IfSome, length};
 ghost use Rattle.it_space.specs.Rows.{value};
 ghost use Rattle.it_polymatroid.specs.Elementals.{elementals};
-ghost use Rattle.it_question.specs.Limits.{IsQuestion};
-ghost use Rattle.it_question.specs.Questions.{question_body};
 ghost use Rattle.it_terms.specs.Proposals.{MayProve};
 ghost use Rattle.it_terms.specs.Proofs.{TellsForm};
 ghost use Rattle.it_space.specs.Spaces.{most_variables};
@@ -16,6 +14,7 @@ use crate::joining::{add_term, joined_terms};
 use crate::judging::is_same;
 use crate::measures::{Measure, measures};
 use crate::proof_judging::{Proposal, Split, tells_proof};
+use crate::proven::Proven;
 use crate::reading::relation_text;
 use crate::shortest::{LeastSum, shortest, shortest_closed};
 use crate::telling::names_of;
@@ -371,11 +370,10 @@ pub fn goal_of(
     row: &Row,
     line: Option<&[u8]>,
 ) -> Result<Goal, Untold>
-    requires question { IsQuestion (question_body question.now) }
     requires some { 1 ≤ length names.now.variables }
 {
-    if let Verb::Prove(relation) = &question.verb {
-        let targets = target_rows(alloc, relation, question.names.space())?;
+    if let Verb::Prove(relation) = question.verb() {
+        let targets = target_rows(alloc, relation, question.space())?;
         if let Some(place) = place_of(targets.as_slice(), row) {
             return relation_goal(alloc, relation, place);
         }
@@ -393,27 +391,31 @@ fn any_proof(
     alloc: Global,
     question: &Question,
     names: &Names,
-    target: &Row,
     constraints: &[Constraint],
-    certificate: &Certificate,
-    line: Option<&[u8]>,
+    proven: &Proven<'_>,
     short: bool,
 ) -> Result<Option<Vec<u8>>, Untold>
-    requires question { IsQuestion (question_body question.now) }
     requires some { 1 ≤ length names.now.variables }
-    ensures { IfOk result (MayProve names.now target.now constraints.now) }
+    ensures { IfOk result (MayProve names.now proven.now.row.now constraints.now) }
 {
-    let measures = measures(alloc, question.source.as_slice(), names)?;
-    let goal = goal_of(alloc, question, measures.as_slice(), names, target, line)?;
+    let measures = measures(alloc, question.source(), names)?;
+    let goal = goal_of(
+        alloc,
+        question,
+        measures.as_slice(),
+        names,
+        proven.row,
+        proven.line,
+    )?;
     let asked = Asked {
         question,
         measures: measures.as_slice(),
         names,
-        target,
+        target: proven.row,
         goal: &goal,
         constraints,
     };
-    let summands = summed_up(alloc, &asked, certificate)?;
+    let summands = summed_up(alloc, &asked, proven.certificate)?;
     if short {
         match least_proof(alloc, &asked, &summands) {
             Ok(None) | Err(Untold::NotFound) => {}
@@ -423,34 +425,22 @@ fn any_proof(
     proof_by(alloc, &asked, &summands)
 }
 
-/// The text of the proof of `target` from the lines of a question, by a certificate: an equation between a multiple of the
-/// target and a sum of terms over sets and of multiples of the question's constraints; None where none was found. On its left
-/// are the terms of the question's relation or of `line`, where the target is one of theirs. With `short`, one with the least
+/// The text of the proof of a row from the lines of a question, by its certificate: an equation between a multiple of the
+/// row and a sum of terms over sets and of multiples of the question's constraints; None where none was found. On its left
+/// are the terms of the question's relation or of the row's line, where the row is that of one of their targets. With `short`, one with the least
 /// sum of terms over sets is looked for first, which may take long.
 pub fn told_form(
     alloc: Global,
     question: &Question,
-    target: &Row,
-    certificate: &Certificate,
-    line: Option<&[u8]>,
+    proven: &Proven<'_>,
     short: bool,
 ) -> Result<Option<Vec<u8>>, AllocError>
-    requires { IsQuestion (question_body question.now) }
-    ensures { IfOk result (λ o. IfSome o (λ text. TellsForm (question_body question.now) (value target.now) text.items)) }
+    ensures { IfOk result (λ o. IfSome o (λ text. TellsForm question.now.body (value proven.now.row.now) text.items)) }
 {
     let names = names_of(question);
     let posed = problem(alloc, question)?;
     let constraints = posed.constraints();
-    match any_proof(
-        alloc,
-        question,
-        names,
-        target,
-        constraints,
-        certificate,
-        line,
-        short,
-    ) {
+    match any_proof(alloc, question, names, constraints, proven, short) {
         Ok(text) => Ok(text),
         Err(Untold::NotFound) => Ok(None),
         Err(Untold::Memory) => Err(AllocError),

@@ -1,8 +1,6 @@
 //! Rows as papers print them: in few terms that are equal to them where the question's functions hold.
 ghost use Rattle.std.specs.Prelude.{◌≡◌, ◌≤◌, IfOk, IfSome, length};
 ghost use Rattle.it_demand.specs.QuestionSpaces.{space_of};
-ghost use Rattle.it_question.specs.Limits.{IsQuestion};
-ghost use Rattle.it_question.specs.Questions.{question_body};
 ghost use Rattle.it_question.specs.ProblemLines.{problem_names};
 ghost use Rattle.it_terms.specs.RowsUnder.{IsPrintedRow};
 ghost use Rattle.it_terms.specs.Signs.{IsPrintedRowFrom};
@@ -94,7 +92,7 @@ fn shorter_text(
     requires { 1 ≤ length names.now.variables }
 {
     let space = names.space();
-    let measures = measures(alloc, question.source.as_slice(), names)?;
+    let measures = measures(alloc, question.source(), names)?;
     let measures = measures.as_slice();
     let closures = closures_of(alloc, functions, space.variables)?;
     let terms = few_terms(alloc, &closures, space.variables)?;
@@ -184,9 +182,8 @@ fn any_printed(
     problem: &Problem,
     row: &Row,
 ) -> Result<Option<PrintedRow>, Untold>
-    requires question { IsQuestion (question_body question.now) }
-    requires space { problem.now.space ≡ space_of (problem_names (question_body question.now)) }
-    ensures { IfOk result (λ o. IfSome o (λ t. IsPrintedRowFrom (problem_names (question_body question.now)) row.now problem.now.constraints t.lines.items t.text.items)) }
+    requires space { problem.now.space ≡ space_of (problem_names question.now.body) }
+    ensures { IfOk result (λ o. IfSome o (λ t. IsPrintedRowFrom (problem_names question.now.body) row.now problem.now.constraints t.lines.items t.text.items)) }
 {
     let names = names_of(question);
     let lines = given_functions(alloc, problem)?;
@@ -210,8 +207,7 @@ pub fn printed_row(
     question: &Question,
     row: &Row,
 ) -> Result<Option<PrintedRow>, AllocError>
-    requires { IsQuestion (question_body question.now) }
-    ensures { IfOk result (λ o. IfSome o (λ t. IsPrintedRow (question_body question.now) row.now t.lines.items t.text.items)) }
+    ensures { IfOk result (λ o. IfSome o (λ t. IsPrintedRow question.now.body row.now t.lines.items t.text.items)) }
 {
     let posed = problem(alloc, question)?;
     match any_printed(alloc, question, &posed, row) {

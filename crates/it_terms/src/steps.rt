@@ -2,8 +2,6 @@
 ghost use Rattle.std.specs.Prelude.{◌≡◌, ◌≤◌, ◌++◌, ◌∷◌, [], length, map, IfOk, IfSome};
 ghost use Rattle.std.specs.Bool.{OnTrue};
 ghost use Rattle.it_syntax.specs.Meaning.{relation_view};
-ghost use Rattle.it_question.specs.Limits.{IsQuestion};
-ghost use Rattle.it_question.specs.Questions.{question_body};
 ghost use Rattle.it_question.specs.ProblemLines.{problem_names};
 ghost use Rattle.it_terms.specs.ProofSteps.{AreStepTexts, TellsSteps, AreEquationSteps};
 ghost use Rattle.it_space.specs.Spaces.{most_variables};
@@ -232,13 +230,12 @@ pub fn told_steps(
     question: &Question,
     proof: &[u8],
 ) -> Result<Option<Vec<Vec<u8>>>, AllocError>
-    requires { IsQuestion (question_body question.now) }
-    ensures { IfOk result (λ o. IfSome o (λ lines. TellsSteps (problem_names (question_body question.now)) proof.now (map (λ line. line.items) lines.items))) }
+    ensures { IfOk result (λ o. IfSome o (λ lines. TellsSteps (problem_names question.now.body) proof.now (map (λ line. line.items) lines.items))) }
 {
     let names = names_of(question);
     let Some(equation) = equation(alloc, proof, names)? else {
         return Ok(None);
     };
-    let measures = measures(alloc, question.source.as_slice(), names)?;
+    let measures = measures(alloc, question.source(), names)?;
     equation_steps(alloc, measures.as_slice(), names, &equation)
 }

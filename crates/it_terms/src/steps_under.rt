@@ -4,8 +4,6 @@ ghost use Rattle.std.specs.Bool.{OnTrue};
 ghost use Rattle.it_demand.specs.QuestionSpaces.{space_of};
 ghost use Rattle.it_elemental.specs.Generators.{forms_of, of_constraint};
 ghost use Rattle.it_print.specs.Lines.{origins_of};
-ghost use Rattle.it_question.specs.Limits.{IsQuestion};
-ghost use Rattle.it_question.specs.Questions.{question_body};
 ghost use Rattle.it_question.specs.ProblemLines.{problem_names};
 ghost use Rattle.it_syntax.specs.Givens.{IsRelationOf};
 ghost use Rattle.it_syntax.specs.Meaning.{relation_view};
@@ -346,15 +344,14 @@ fn steps_from(
     lines: &[u32],
     named: &[(u32, i128)],
 ) -> Result<Option<Vec<Vec<u8>>>, AllocError>
-    requires question { IsQuestion (question_body question.now) }
-    requires space { problem.now.space ≡ space_of (problem_names (question_body question.now)) }
-    ensures { IfOk result (λ o. IfSome o (λ steps. TellsPieceSteps (problem_names (question_body question.now)) (origins_of problem.now.constraints) (forms_of (map of_constraint problem.now.constraints)) lines.now named.now proof.now (map (λ step. step.items) steps.items))) }
+    requires space { problem.now.space ≡ space_of (problem_names question.now.body) }
+    ensures { IfOk result (λ o. IfSome o (λ steps. TellsPieceSteps (problem_names question.now.body) (origins_of problem.now.constraints) (forms_of (map of_constraint problem.now.constraints)) lines.now named.now proof.now (map (λ step. step.items) steps.items))) }
 {
     let names = names_of(question);
     let Some(functions) = functions_of(alloc, problem, lines)? else {
         return Ok(None);
     };
-    let measures = measures(alloc, question.source.as_slice(), names)?;
+    let measures = measures(alloc, question.source(), names)?;
     let closures = closures_of(alloc, &functions, names.space().variables)?;
     let under = Under {
         names,
@@ -378,8 +375,7 @@ pub fn printed_steps(
     lines: &[u32],
     named: &[(u32, i128)],
 ) -> Result<Option<Vec<Vec<u8>>>, AllocError>
-    requires { IsQuestion (question_body question.now) }
-    ensures { IfOk result (λ o. IfSome o (λ steps. TellsStepsUnder (question_body question.now) lines.now named.now proof.now (map (λ step. step.items) steps.items))) }
+    ensures { IfOk result (λ o. IfSome o (λ steps. TellsStepsUnder question.now.body lines.now named.now proof.now (map (λ step. step.items) steps.items))) }
 {
     let posed = problem(alloc, question)?;
     let steps = steps_from(alloc, question, &posed, proof, lines, named)?;

@@ -161,11 +161,11 @@ impl Substitution<'_> {
     fn demanded(&self, alloc: Global, region: &Region, origin: Origin) -> Result<Relation, Untold> {
         match origin {
             Origin::Given { line, part, .. } => {
-                let given = item_of(region.lines.givens.as_slice(), &[], line)?;
+                let given = item_of(region.lines().givens(), &[], line)?;
                 self.given(alloc, given, part)
             }
             Origin::Rate { line } => {
-                let relation = item_of(region.lines.rows.as_slice(), &[], line)?;
+                let relation = item_of(region.lines().rows(), &[], line)?;
                 Ok(self.relation(alloc, relation)?)
             }
         }
@@ -180,11 +180,11 @@ pub fn substituted(
     parts: &[VarSet],
     origin: Origin,
 ) -> Result<Relation, Untold> {
-    let Verb::Contain { second, .. } = &question.verb else {
+    let Verb::Contain { second, .. } = question.verb() else {
         return Err(Untold::NotFound);
     };
     let substitution = Substitution {
-        common: question.names.space().variables,
+        common: question.space().variables,
         parts,
     };
     substitution.demanded(alloc, second, origin)

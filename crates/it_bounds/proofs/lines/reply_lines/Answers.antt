@@ -1,6 +1,5 @@
 use Rattle.std.proofs.Common.{◌≡◌, ◌++◌, ◌∙◌, ap, flat_map, length, sym}
 use Rattle.it_question.specs.ProblemLines.{problem_names}
-use Rattle.it_question.specs.Questions.{question_body}
 use Rattle.it_print.specs.Lines.{origins_of}
 use Rattle.it_bounds.specs.declared.types.Reply.{Reply}
 use Rattle.it_bounds.specs.Lines.{told_rates, ray_line, reply_lines}
@@ -12,7 +11,7 @@ use Rattle.it_bounds.proofs.lines.reply_lines.Goals as goal
 
 pub returns-in-Bounded : goal.returns-in-Bounded
 returns-in-Bounded c =
-    let q = question_body c.args.question.now in
+    let q = c.args.question.now.body in
     let rows = c.as_slice.result.now in
     let proofs = c.as_slice-in-Bounded.result.now in
     let rays = c.as_slice-in-Bounded-2.result.now in

@@ -1,6 +1,5 @@
 use Rattle.std.proofs.Common.{[], ◌∷◌, ◌++◌, map, inr, ap, refl, arith, ◌∙◌}
 use Rattle.it_outside.specs.Causes.{next_count}
-use Rattle.it_question.specs.Questions.{question_view}
 use Rattle.it_copy.specs.CopyLines.{copy_view}
 use Rattle.it_cli.specs.Copies.{with_copies}
 use Rattle.it_cli.specs.InnerEnds.{head_mode}
@@ -23,8 +22,8 @@ returns-in_default-write_all g c bytes asked =
     let cs = map copy_view c.args.copies.now in (
       c.in_default-write_all.ensures.counted ∙ ap next_count c.loop-i.invariant.1,
       inr (replies_stop (head_mode c.args.wanted c.args.report c.args.effort) _ _ _ bytes
-          (map (with_copies cs) (map question_view c.args.questions.now)) c.loop-i.i c.loop-i.invariant.0.0
-          (with_copies cs (question_view c.index-questions-i.result)) c.in-Ok.ensures.reply c.in-Ok.text.items c.as_slice.result.now asked
+          (map (with_copies cs) c.args.questions.now) c.loop-i.i c.loop-i.invariant.0.0
+          (with_copies cs c.index-questions-i.result) c.in-Ok.ensures.reply c.in-Ok.text.items c.as_slice.result.now asked
           c.loop-i.invariant.0.1
           (omega (arith, items_long cs c.args.questions.now)) (item_at cs c.args.questions.now c.loop-i.i c.index-questions-i.result
           (omega arith) c.index-questions-i.is) c.in-Ok.ensures.right c.in-Ok.ensures.is c.as_slice.ensures.value
@@ -37,8 +36,8 @@ loop-i-preserved g c =
       (
         c.loop-i.invariant.0.0 ++ c.in-Ok.ensures.reply ∷ [],
         replies_more (head_mode c.args.wanted c.args.report c.args.effort) _ _ _
-            (map (with_copies cs) (map question_view c.args.questions.now)) c.loop-i.i c.loop-i.invariant.0.0
-            (with_copies cs (question_view c.index-questions-i.result)) c.in-Ok.ensures.reply c.in-Ok.text.items c.as_slice.result.now
+            (map (with_copies cs) c.args.questions.now) c.loop-i.i c.loop-i.invariant.0.0
+            (with_copies cs c.index-questions-i.result) c.in-Ok.ensures.reply c.in-Ok.text.items c.as_slice.result.now
             c.loop-i.invariant.0.1
             (omega (arith, items_long cs c.args.questions.now)) (item_at cs c.args.questions.now c.loop-i.i c.index-questions-i.result
             (omega arith) c.index-questions-i.is) c.in-Ok.ensures.right c.in-Ok.ensures.is c.as_slice.ensures.value

@@ -3,7 +3,6 @@ use Rattle.it_space.specs.declared.spaces.Space.{Space}
 use Rattle.it_space.specs.Spaces.{size_of}
 use Rattle.it_check.specs.declared.verdicts.Verdict.TheVariants.{Valid}
 use Rattle.it_spans.specs.Spans.{StepView, step_views}
-use Rattle.it_question.specs.Questions.{question_body}
 use Rattle.it_canon.proofs.PosesLemmas.{one_problem}
 use Rattle.it_rates.specs.Asked.{under_all_lines}
 use Rattle.it_certificate.specs.Bounds.{bounds_view}
@@ -23,7 +22,7 @@ parts_verdict-verdict-requires-clause-rays c =
 
 pub returns-then-not-is_valid : goal.returns-then-not-is_valid
 returns-then-not-is_valid c =
-    let q = question_body c.args.question.now in
+    let q = c.args.question.now.body in
     let b = bounds_view c.args.bounds.now in
     let p = c.in_ok-problem.problem in
     let v = c.parts_verdict-verdict.result in
@@ -34,7 +33,7 @@ returns-then-not-is_valid c =
 
 pub returns : goal.returns
 returns c =
-    let q = question_body c.args.question.now in
+    let q = c.args.question.now.body in
     let b = bounds_view c.args.bounds.now in
     let p = c.in_ok-problem.problem in
     let v = c.parts_verdict-verdict.result in
