@@ -53,7 +53,7 @@ use Rattle.it_report.specs.LineVerdicts.{LineVerdict, NotJson, Shape, Skipped, J
 use Rattle.it_ratio.specs.BestViews.{BestView, best_view}
 use Rattle.it_ratio.specs.Truth.{asked_by, at_least}
 use Rattle.it_report.specs.declared.factors.FactorVerdict.{FactorVerdict}
-use Rattle.it_report.specs.Judging.{answer_verdict, factor_line_verdict, factor_verdict_of, values_of, verdict_of, weighed_by, IsAnswerVerdict, IsBoundsVerdict, IsCodedVerdict, IsDerivedVerdict, IsReadingVerdict, IsVerdict, IsJudgedLine}
+use Rattle.it_report.specs.Judging.{answer_verdict, factor_line_verdict, factor_verdict_of, values_of, verdict_of, weighed_by, IsAnswerVerdict, IsBoundsVerdict, IsCodedVerdict, IsDerivedVerdict, IsReadingVerdict, IsVerdict, IsJudgedLine, IsJudgedWhereRead}
 use Rattle.it_report.specs.FactorVerdicts.{best_verdict}
 use Rattle.it_report.specs.Steps.{IsAboutRelation, IsFaultLine, IsJudgedAnswer, IsJudgedBounds, IsJudgedCoded, IsJudgedDerived, IsJudgedReport}
 use Rattle.it_demand.specs.RowsOfForms.{terms_of_form}
@@ -163,16 +163,17 @@ valid_coded k q a c t i is_no valid judged all = by_verdict judged.verdict judge
     by_verdict (Hulled v) is told = absurd is
 
 module _ {L E : Type 0} (text : L → List ℕ) (invalid : L → Bool) (k : ℕ) where
-  pub fault_is_judged : (line : List ℕ) (fault : ReportFault) (r : Result L E) → Reports line (Err fault)
-      → IfOk r (λ j. IsFaultLine k fault (text j) (invalid j)) → IfOk r (λ j. IsJudgedLine k line (text j) (invalid j))
-  fault_is_judged line faults.Memory (Ok j) h told = absurd told
-  fault_is_judged line faults.NotJson (Ok j) h told = record { verdict = NotJson; is = h; told = told }
-  fault_is_judged line (faults.Shape key) (Ok j) h told = record { verdict = Shape key; is = h; told = told }
-  fault_is_judged line fault (Err e) h told = tt
+  -- the line about a fault is that of each line that has it
+  pub fault_is_judged : (fault : ReportFault) (r : Result L E) → IfOk r (λ j. IsFaultLine k fault (text j) (invalid j))
+      → IfOk r (λ j. IsJudgedWhereRead k (Err fault) (text j) (invalid j))
+  fault_is_judged faults.Memory (Ok j) told = absurd told
+  fault_is_judged faults.NotJson (Ok j) told = λ line h. record { verdict = NotJson; is = h; told = told }
+  fault_is_judged (faults.Shape key) (Ok j) told = λ line h. record { verdict = Shape key; is = h; told = told }
+  fault_is_judged fault (Err e) told = tt
 
-  pub report_is_judged : (line : List ℕ) (reported : Reported) (r : Result L E) → Reports line (Ok reported)
-      → IfOk r (λ j. IsJudgedReport k reported (text j) (invalid j)) → IfOk r (λ j. IsJudgedLine k line (text j) (invalid j))
-  report_is_judged line reported (Ok j) h judged = by_reading h.0 reported h.1 h.2 judged
+  line_is_judged : (line : List ℕ) (reported : Reported) (j : L) → Reports line (Ok reported)
+      → IsJudgedReport k reported (text j) (invalid j) → IsJudgedLine k line (text j) (invalid j)
+  line_is_judged line reported j h judged = by_reading h.0 reported h.1 h.2 judged
     where
       by_reading : (reading : Reading) (reported : Reported) → IsReported reading reported → ReadsReport line (Ok reading)
           → IsJudgedReport k reported (text j) (invalid j) → IsJudgedLine k line (text j) (invalid j)
@@ -235,7 +236,18 @@ module _ {L E : Type 0} (text : L → List ℕ) (invalid : L → Bool) (k : ℕ)
       by_reading Misfit (variants.Factored question best) same h judged = absurd same
       by_reading Misfit (variants.Bounded question bounds) same h judged = absurd same
       by_reading Misfit variants.Misfit same h judged = record { verdict = Skipped; is = read_verdict line Misfit Skipped h refl; told = judged }
-  report_is_judged line reported (Err e) h judged = tt
+
+  -- the line about what was read is that of each line that reads so
+  pub report_is_judged : (reported : Reported) (r : Result L E) → IfOk r (λ j. IsJudgedReport k reported (text j) (invalid j))
+      → IfOk r (λ j. IsJudgedWhereRead k (Ok reported) (text j) (invalid j))
+  report_is_judged reported (Ok j) judged = λ line h. line_is_judged line reported j h judged
+  report_is_judged reported (Err e) judged = tt
+
+  -- that of a line which reads so
+  pub judged_as_read : (line : List ℕ) (read : Result Reported ReportFault) (r : Result L E) → Reports line read
+      → IfOk r (λ j. IsJudgedWhereRead k read (text j) (invalid j)) → IfOk r (λ j. IsJudgedLine k line (text j) (invalid j))
+  judged_as_read line read (Ok j) h judged = judged line h
+  judged_as_read line read (Err e) h judged = tt
 
   pub verdict_is_told : (q : BodyView) (a : AnswerView) (names : NamesView) (v : Verdict) (r : Result L E)
       → IsAnswerVerdict q a (Judged names v) → IfOk r (λ j. IsLineOf k (Judged names v) (text j) (invalid j))

@@ -1,5 +1,5 @@
 //! The verdict on a line of a report.
-ghost use Rattle.std.specs.Prelude.{◌≡◌, map, IfOk};
+ghost use Rattle.std.specs.Prelude.{◌≡◌, map, IfOk, Ok, Err};
 ghost use Rattle.it_space.specs.Answers.{answer_view, certificate_view};
 ghost use Rattle.it_space.specs.Answers.AnswerView.{Yes, No, Region, Contained};
 ghost use Rattle.it_syntax.specs.Meaning.{relation_view};
@@ -9,7 +9,7 @@ ghost use Rattle.it_ratio.specs.BestViews.{best_view};
 ghost use Rattle.it_certificate.specs.FactorShapes.{HasFactorShape};
 ghost use Rattle.it_certificate.specs.CodeReading.{HasCodedShape, IsNo, reported_code_view};
 ghost use Rattle.it_certificate.specs.OriginReading.{HasDerivedShape, IsRegion, rows_of};
-ghost use Rattle.it_report.specs.Judging.{IsJudgedLine, factor_line_verdict, values_of};
+ghost use Rattle.it_report.specs.Judging.{IsJudgedLine, IsJudgedWhereRead, factor_line_verdict, values_of};
 ghost use Rattle.it_report.specs.LineVerdicts.{IsLineOf};
 ghost use Rattle.it_certificate.specs.Reports.{KeepsLimits};
 ghost use Rattle.it_report.specs.Steps.{IsAboutRelation, IsFaultLine, IsJudgedAnswer, IsJudgedCoded, IsJudgedDerived, IsJudgedReport};
@@ -47,9 +47,28 @@ pub fn judge(alloc: Global, k: usize, line: &[u8]) -> Result<JudgedLine, AllocEr
     ensures { IfOk result (λ j. IsJudgedLine k line.now j.text.items j.invalid) }
 {
     match answer_from_json(alloc, line) {
-        Ok(reported) => report_line(alloc, k, &reported),
-        Err(fault) => fault_line(alloc, k, fault),
+        Ok(reported) => judge_reported(alloc, k, &reported),
+        Err(fault) => judge_fault(alloc, k, fault),
     }
+}
+
+/// The line about line `k` of a report, where `answer_from_json` read this of it; what `judge` says of it.
+pub fn judge_reported(
+    alloc: Global,
+    k: usize,
+    reported: &Reported,
+) -> Result<JudgedLine, AllocError>
+    requires { KeepsLimits reported.now }
+    ensures { IfOk result (λ j. IsJudgedWhereRead k (Ok reported.now) j.text.items j.invalid) }
+{
+    report_line(alloc, k, reported)
+}
+
+/// The line about line `k` of a report, where `answer_from_json` refused it with this fault; what `judge` says of it.
+pub fn judge_fault(alloc: Global, k: usize, fault: ReportFault) -> Result<JudgedLine, AllocError>
+    ensures { IfOk result (λ j. IsJudgedWhereRead k (Err fault) j.text.items j.invalid) }
+{
+    fault_line(alloc, k, fault)
 }
 
 /// The line about a line that has no reading.
