@@ -171,6 +171,13 @@ module _ {L E : Type 0} (text : L → List ℕ) (invalid : L → Bool) (k : ℕ)
   fault_is_judged (faults.Shape key) (Ok j) told = λ line h. record { verdict = Shape key; is = h; told = told }
   fault_is_judged fault (Err e) told = tt
 
+  pub fault_is_invalid : (fault : ReportFault) (r : Result L E) → IfOk r (λ j. IsFaultLine k fault (text j) (invalid j))
+      → IfOk r (λ j. invalid j ≡ true)
+  fault_is_invalid faults.Memory (Ok j) told = absurd told
+  fault_is_invalid faults.NotJson (Ok j) told = told.1
+  fault_is_invalid (faults.Shape key) (Ok j) told = told.1
+  fault_is_invalid fault (Err e) told = tt
+
   line_is_judged : (line : List ℕ) (reported : Reported) (j : L) → Reports line (Ok reported)
       → IsJudgedReport k reported (text j) (invalid j) → IsJudgedLine k line (text j) (invalid j)
   line_is_judged line reported j h judged = by_reading h.0 reported h.1 h.2 judged

@@ -1,5 +1,5 @@
 //! The verdict on a line of a report.
-ghost use Rattle.std.specs.Prelude.{◌≡◌, map, IfOk, Ok, Err};
+ghost use Rattle.std.specs.Prelude.{◌≡◌, true, map, IfOk, Ok, Err};
 ghost use Rattle.it_space.specs.Answers.{answer_view, certificate_view};
 ghost use Rattle.it_space.specs.Answers.AnswerView.{Yes, No, Region, Contained};
 ghost use Rattle.it_syntax.specs.Meaning.{relation_view};
@@ -66,7 +66,8 @@ pub fn judge_reported(
 
 /// The line about line `k` of a report, where `answer_from_json` refused it with this fault; what `judge` says of it.
 pub fn judge_fault(alloc: Global, k: usize, fault: ReportFault) -> Result<JudgedLine, AllocError>
-    ensures { IfOk result (λ j. IsJudgedWhereRead k (Err fault) j.text.items j.invalid) }
+    ensures line { IfOk result (λ j. IsJudgedWhereRead k (Err fault) j.text.items j.invalid) }
+    ensures invalid { IfOk result (λ j. j.invalid ≡ true) }
 {
     fault_line(alloc, k, fault)
 }

@@ -1,11 +1,10 @@
 -- What is told of a line of a report, step by step as the code forms it.
-use Rattle.std.proofs.Common.{◌≡◌, ℕ, List, Bool, true, false, Some, None, Ok, Err, IsUtf8, refl, sym, ap, subst, ◌∙◌}
+use Rattle.std.proofs.Common.{◌≡◌, ℕ, List, Bool, true, false, Result, Ok, Err, IfOk, refl, sym, ap, subst, ◌∙◌}
 use Rattle.std.proofs.lemmas.Bool.{true≢false}
-use Rattle.serde_json.specs.Read.{read}
 use Rattle.it_space.specs.Answers.{AnswerView, answer_view}
 use Rattle.it_question.specs.Questions.{QuestionView}
 use Rattle.it_question.proofs.NumberLemmas.{QuestionHasSmallNumbers}
-use Rattle.it_certificate.specs.declared.keys.Key.{Key}
+use Rattle.it_certificate.specs.declared.keys.ReportFault.{ReportFault}
 use Rattle.it_certificate.specs.CodeReading.{ReportedCodeView, reported_code_view}
 use Rattle.it_certificate.specs.Reports as reports
 use Rattle.it_certificate.specs.Reports.{IsReported, KeepsLimits, ReadsReport, Reading, Reports}
@@ -13,7 +12,7 @@ use Rattle.it_certificate.specs.Sources.{Source, asked}
 use Rattle.it_certificate.specs.declared.types.Reported.{Reported}
 use Rattle.it_certificate.specs.declared.types.Reported.TheVariants as variants
 use Rattle.it_certificate.proofs.OneLemmas.{one_reading}
-use Rattle.it_report.specs.Judging.{HasReading, IsAnswerVerdict, IsCodedVerdict, IsJudgedLine, IsReadingVerdict, IsVerdict}
+use Rattle.it_report.specs.Judging.{HasReading, IsAnswerVerdict, IsCodedVerdict, IsJudgedLine, IsJudgedWhereRead, IsReadingVerdict, IsVerdict}
 use Rattle.it_report.specs.LineVerdicts.{LineVerdict, NotJson, Shape, Skipped, Judged, Weighed, OtherCode, Hulled, is_invalid, numbered_line}
 use Rattle.it_report.proofs.OneLemmas.{as_read, same_read}
 use Rattle.it_canon.proofs.ExistenceLemmas.{question_poses}
@@ -29,13 +28,20 @@ use Rattle.it_tell.specs.declared.settings.Options.{Options}
 -- ---- an invalid line
 
 pub invalid_line : (options : Options) (k : ℕ) (line text : List ℕ) (invalid : Bool) → IsJudgedLine k line text invalid → invalid ≡ true
-    → IsToldLine options k line text true
+    → IsToldLine options k line text invalid
 invalid_line options k line text invalid judged is = record {
-  telling = Invalid judged.verdict;
-  is = (judged.is, sym judged.told.1 ∙ is);
+  reply = Invalid judged.verdict;
+  right = (judged.is, sym judged.told.1 ∙ is);
   text_is = judged.told.0;
-  invalid_is = refl;
+  invalid_is = is;
 }
+
+-- a line that wasn't read
+pub fault_line : {L E : Type 0} (text : L → List ℕ) (invalid : L → Bool) (options : Options) (k : ℕ) (line : List ℕ) (fault : ReportFault)
+    (r : Result L E) → Reports line (Err fault) → IfOk r (λ j. IsJudgedWhereRead k (Err fault) (text j) (invalid j))
+    → IfOk r (λ j. invalid j ≡ true) → IfOk r (λ j. IsToldLine options k line (text j) (invalid j))
+fault_line text invalid options k line fault (Ok j) h judged is = invalid_line options k line (text j) (invalid j) (judged line h) is
+fault_line text invalid options k line fault (Err e) h judged is = tt
 
 -- ---- any other line
 
@@ -57,20 +63,6 @@ has_verdict k line text invalid judged e = by_verdict judged.verdict judged.is (
     by_verdict (Weighed names v) is accepted = record { verdict = Weighed names v; is = is; accepted = accepted; said = is }
     by_verdict (OtherCode names s) is accepted = absurd (true≢false accepted)
     by_verdict (Hulled v) is accepted = record { verdict = Hulled v; is = is; accepted = accepted; said = is }
-
--- a line with a verdict on what it says is JSON
-pub is_json : (line : List ℕ) → HasVerdict line → (IsUtf8 line → read line ≡ None) → ⊥
-is_json line h none = some_is_none (sym h.said.reads.is_json ∙ none h.said.reads.utf8)
-  where
-    some_is_none : Some h.said.reads.value ≡ None → ⊥
-    some_is_none e = cc
-
--- no key of such a line is at fault
-pub has_no_fault : (line : List ℕ) (key : Key) → HasVerdict line → ReadsReport line (Err key) → ⊥
-has_no_fault line key h reads = fault_is_reading h.said.reading (one_reading line (Err key) (Ok h.said.reading) reads h.said.reads)
-  where
-    fault_is_reading : (x : Reading) → Err key ≡ as_read x → ⊥
-    fault_is_reading x e = cc
 
 module _ (line : List ℕ) (source : Source) (a : AnswerView) (reads : ReadsReport line (Ok (reports.Answered source a))) where
   pub accepts : HasVerdict line → IsAccepted line source a
@@ -169,7 +161,7 @@ reported_line options k line text r read h told = by_reading read.0 r read.1 rea
         let back : IsAnsweredText options k (asked source).body a text =
         subst (λ b. IsAnsweredText options k (asked source).body b text) (sym same.1)
         (subst (λ (x : QuestionView). IsAnsweredText options k x.body (answer_view answer) text) (sym same.0) told) in
-        record { telling = tellings.Answered source a back.0; is = (accepts line source a reads h, back.1.0); text_is = back.1.1; invalid_is = refl }
+        record { reply = tellings.Answered source a back.0; right = (accepts line source a reads h, back.1.0); text_is = back.1.1; invalid_is = refl }
     by_reading (reports.Answered source a) (variants.Coded q answer code) same reads told = absurd same
     by_reading (reports.Answered source a) (variants.Derived q answer origins) same reads told = absurd same
     by_reading (reports.Answered source a) (variants.Factored q best) same reads told = absurd same
@@ -234,4 +226,4 @@ reported_line options k line text r read h told = by_reading read.0 r read.1 rea
     by_reading reports.Misfit (variants.Derived q answer origins) same reads told = absurd same
     by_reading reports.Misfit (variants.Factored q best) same reads told = absurd same
     by_reading reports.Misfit (variants.Bounded q bounds) same reads told = absurd same
-    by_reading reports.Misfit variants.Misfit same reads told = record { telling = tellings.Misfit; is = reads; text_is = told; invalid_is = refl }
+    by_reading reports.Misfit variants.Misfit same reads told = record { reply = tellings.Misfit; is = reads; text_is = told; invalid_is = refl }

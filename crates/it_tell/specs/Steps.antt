@@ -36,6 +36,7 @@ use Rattle.it_tell.specs.CodeTexts.{code_text}
 use Rattle.it_space.specs.Answers.AnswerView.{Contained}
 use Rattle.it_space.specs.declared.answers.Certificate.{Certificate}
 use Rattle.it_cli.specs.Ends.{call_of}
+use Rattle.it_cli.specs.LineModes.{IsReplied, LineMode}
 use Rattle.it_cli.specs.declared.status.Status.{Status}
 use Rattle.it_tell.specs.declared.settings.Options.{Options}
 use Rattle.it_tell.specs.declared.settings.Settings.TheVariants.{Tell}
@@ -44,12 +45,13 @@ use Rattle.it_tell.specs.declared.settings.Style.TheVariants.{Plain, Named, Whol
 use Rattle.it_tell.specs.Settings.{settings_of}
 use Rattle.it_tell.specs.Ends.{Ends}
 
+-- what is told of the lines of a report
+abbrev pub tellings : Options → LineMode
+tellings options = record { Reply = Telling; IsRight = IsTelling options; text = telling_text; is_invalid = tells_invalid }
+
 -- the text has the lines about line `k`, and `invalid` says whether they say so
-pub record IsToldLine (options : Options) (k : ℕ) (line text : List ℕ) (invalid : Bool) : Type 0 where
-  pub telling : Telling
-  pub is : IsTelling options line telling
-  pub text_is : text ≡ telling_text k telling
-  pub invalid_is : invalid ≡ tells_invalid telling
+abbrev pub IsToldLine : Options → ℕ → List ℕ → List ℕ → Bool → Type 0
+IsToldLine options = IsReplied (tellings options)
 
 -- the lines about an answer to a question
 unfoldable pub IsAnsweredText : Options → ℕ → BodyView → AnswerView → List ℕ → Type 0

@@ -17,19 +17,12 @@ use crate::factors::best_line;
 use crate::heads::{head_line, numbered_line};
 use crate::settings::Options;
 use it_canon::problem;
-use it_certificate::{ReportFault, Reported, ReportedBounds, ReportedCode, answer_from_json};
+use it_certificate::{Reported, ReportedBounds, ReportedCode, answer_from_json};
 use it_print::write_number;
 use it_question::types::Question;
-use it_report::judge;
+use it_report::{JudgedLine, judge_fault, judge_reported};
 use it_space::Answer;
 use std::alloc::{AllocError, Global};
-
-/// The lines about a line of a report, and whether they say `invalid`.
-#[derive(Debug, Drop)]
-pub struct ToldLine {
-    pub text: Vec<u8>,
-    pub invalid: bool,
-}
 
 /// The lines about an answer to question k.
 #[tactic(auto, unfolding(crate::specs::Steps::IsAnsweredText, crate::specs::Steps::AppendsDetails))]
@@ -118,31 +111,26 @@ fn reported_text(
     }
 }
 
-/// What is told of line `k` of a report; lines are counted from 1, and `line` comes without its end. It is read twice, first to
-/// be judged and then to be told.
+/// What is told of line `k` of a report; lines are counted from 1, and `line` comes without its end. A line that is judged invalid
+/// is told as mode `check` tells it.
 pub fn tell_line(
     alloc: Global,
     options: Options,
     k: usize,
     line: &[u8],
-) -> Result<ToldLine, AllocError>
+) -> Result<JudgedLine, AllocError>
     ensures { IfOk result (λ t. IsToldLine options k line.now t.text.items t.invalid) }
 {
-    let judged = judge(alloc, k, line)?;
-    if judged.invalid {
-        return Ok(ToldLine {
-            text: judged.text,
-            invalid: true,
-        });
-    }
     let reported = match answer_from_json(alloc, line) {
         Ok(reported) => reported,
-        Err(ReportFault::Memory) => return Err(AllocError),
-        Err(ReportFault::NotJson) => unreachable!(),
-        Err(ReportFault::Shape { .. }) => unreachable!(),
+        Err(fault) => return judge_fault(alloc, k, fault),
     };
+    let judged = judge_reported(alloc, k, &reported)?;
+    if judged.invalid {
+        return Ok(judged);
+    }
     let text = reported_text(alloc, options, k, &reported)?;
-    Ok(ToldLine {
+    Ok(JudgedLine {
         text,
         invalid: false,
     })

@@ -8,4 +8,4 @@ returns-in-Ok c = judged_as_read (λ j. j.text.items) (λ j. j.invalid) c.args.k
 
 pub returns-in-Err : goal.returns-in-Err
 returns-in-Err c = judged_as_read (λ j. j.text.items) (λ j. j.invalid) c.args.k c.args.line.now (Err c.in-Err.fault) c.judge_fault.result
-    c.in-Err.ensures.reading c.judge_fault.ensures
+    c.in-Err.ensures.reading c.judge_fault.ensures.line
