@@ -174,8 +174,8 @@ reported_line options k line text r read h told = by_reading read.0 r read.1 rea
         (subst (λ b. IsCodedText options k (asked source).body b (reported_code_view code) text) (sym same.1)
         (subst (λ (x : QuestionView). IsCodedText options k x.body (answer_view answer) (reported_code_view code) text) (sym same.0) told)) in
         record {
-          telling = tellings.Coded source a c back.0;
-          is = (record { verdict = h.verdict; is = h.is; accepted = h.accepted; reads = reads }, back.1.0);
+          reply = tellings.Coded source a c back.0;
+          right = (record { verdict = h.verdict; is = h.is; accepted = h.accepted; reads = reads }, back.1.0);
           text_is = back.1.1;
           invalid_is = refl;
         }
@@ -190,8 +190,8 @@ reported_line options k line text r read h told = by_reading read.0 r read.1 rea
         subst (λ b. IsAnsweredText options k (asked source).body b text) (sym same.1)
         (subst (λ (x : QuestionView). IsAnsweredText options k x.body (answer_view answer) text) (sym same.0) told) in
         record {
-          telling = tellings.Derived source a ws back.0;
-          is = (record { verdict = h.verdict; is = h.is; accepted = h.accepted; reads = reads }, back.1.0);
+          reply = tellings.Derived source a ws back.0;
+          right = (record { verdict = h.verdict; is = h.is; accepted = h.accepted; reads = reads }, back.1.0);
           text_is = back.1.1;
           invalid_is = refl;
         }
@@ -202,8 +202,8 @@ reported_line options k line text r read h told = by_reading read.0 r read.1 rea
     by_reading (reports.Factored source b) (variants.Coded q answer code) same reads told = absurd same
     by_reading (reports.Factored source b) (variants.Derived q answer origins) same reads told = absurd same
     by_reading (reports.Factored source b) (variants.Factored q best) same reads told = record {
-      telling = tellings.Factored source b;
-      is = accepts_best line source b reads h;
+      reply = tellings.Factored source b;
+      right = accepts_best line source b reads h;
       text_is = told
           ∙ ap (λ x. numbered_line k (best_words x)) (sym same.1);
       invalid_is = refl;
@@ -215,8 +215,8 @@ reported_line options k line text r read h told = by_reading read.0 r read.1 rea
     by_reading (reports.Bounded source b) (variants.Derived q answer origins) same reads told = absurd same
     by_reading (reports.Bounded source b) (variants.Factored q best) same reads told = absurd same
     by_reading (reports.Bounded source b) (variants.Bounded q bounds) same reads told = record {
-      telling = tellings.Bounded source b;
-      is = record { verdict = h.verdict; is = h.is; accepted = h.accepted; reads = reads };
+      reply = tellings.Bounded source b;
+      right = record { verdict = h.verdict; is = h.is; accepted = h.accepted; reads = reads };
       text_is = told ∙ ap (λ x. numbered_line k (bounds_words x)) (sym same.1);
       invalid_is = refl;
     }
@@ -226,4 +226,4 @@ reported_line options k line text r read h told = by_reading read.0 r read.1 rea
     by_reading reports.Misfit (variants.Derived q answer origins) same reads told = absurd same
     by_reading reports.Misfit (variants.Factored q best) same reads told = absurd same
     by_reading reports.Misfit (variants.Bounded q bounds) same reads told = absurd same
-    by_reading reports.Misfit variants.Misfit same reads told = record { reply = tellings.Misfit; is = reads; text_is = told; invalid_is = refl }
+    by_reading reports.Misfit variants.Misfit same reads told = record { reply = tellings.Misfit; right = reads; text_is = told; invalid_is = refl }
