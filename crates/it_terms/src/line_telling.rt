@@ -17,7 +17,7 @@ use crate::substituting::substituted;
 use crate::telling::names_of;
 use crate::untold::Untold;
 use crate::writing::sums_text;
-use it_canon::target_rows;
+use it_canon::{problem_names, target_rows};
 use it_problems::Origin;
 use it_question::types::Question;
 use it_space::{Row, Space, VarSet, normal};
