@@ -6,7 +6,6 @@ use Rattle.it_space.specs.declared.answers.Mark.{Mark}
 use Rattle.it_space.specs.Rows.{Terms}
 use Rattle.it_print.specs.declared.posed.PosedQuestion.{PosedQuestion}
 use Rattle.it_print.specs.PosedQuestions.{names_of, posed_origins}
-use Rattle.it_print.specs.Lines.{certificate_text}
 use Rattle.it_bounds.specs.Lines.{proven_row_line, ray_line, told_rates}
 
 -- the line with the numbers of rows and of rays, for question k
@@ -14,10 +13,6 @@ abbrev pub count_line : ℕ → ℕ → ℕ → List ℕ
 count_line k rows rays = decimal k ++ codes " outer " ++ decimal rows ++ codes " " ++ decimal rays ++ codes "\n"
 
 module _ (p : PosedQuestion) where
-  -- the text of a certificate
-  abbrev pub proof_text : Certificate → List ℕ
-  proof_text proof = certificate_text (names_of p).variables (posed_origins p) (certificate_view proof)
-
   -- the line of a row with its certificate
   abbrev pub row_line : Mark × Terms → Certificate → List ℕ
   row_line row proof = proven_row_line p.number (names_of p) (posed_origins p) (row, certificate_view proof)

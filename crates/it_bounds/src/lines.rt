@@ -1,16 +1,14 @@
 //! The lines of mode `outer`.
-ghost use Rattle.std.specs.Prelude.{◌≡◌, ◌≤◌, ◌++◌, All, IfOk, OnOk, codes, decimal, flat_map, length};
+ghost use Rattle.std.specs.Prelude.{◌≡◌, ◌≤◌, ◌++◌, All, IfOk, OnOk, codes, decimal, length};
 ghost use Rattle.it_space.specs.Spaces.{size_of, most_variables, most_rates};
 ghost use Rattle.it_demand.specs.QuestionSpaces.{space_of};
 ghost use Rattle.it_syntax.specs.NamesViews.{NamesView};
-ghost use Rattle.it_question.specs.ProblemLines.{problem_names};
-ghost use Rattle.it_canon.specs.TrueLines.{variable_count};
 ghost use Rattle.it_print.specs.Lines.{IsRowOver, cause_text, origins_of};
 ghost use Rattle.it_print.specs.PosedQuestions.{IsCertificateOf, names_of};
 ghost use Rattle.it_outer.specs.Outer.{cause_view};
 ghost use Rattle.it_outer.specs.Rounds.{ArePlaces};
-ghost use Rattle.it_bounds.specs.Lines.{AreOfNames, IsCausePrintable, IsOfRun, IsPrintable, bounds_cause_text, told_rates, ray_line, reply_lines};
-ghost use Rattle.it_bounds.specs.LineSteps.{bound_lines, count_line, proof_text, ray_lines, row_line, row_lines};
+ghost use Rattle.it_bounds.specs.Lines.{AreOfNames, IsCausePrintable, IsOfRun, IsPrintable, bounds_cause_text, ray_line, reply_lines};
+ghost use Rattle.it_bounds.specs.LineSteps.{bound_lines, count_line, ray_lines, row_line, row_lines};
 ghost use Rattle.it_bounds.specs.Replies.{reply_view};
 
 use crate::rays::write_rates;
@@ -18,7 +16,7 @@ use crate::types::Reply;
 use it_canon::problem_names;
 use it_hull::kept_coordinates;
 use it_outer::{Limits, OuterCause};
-use it_print::{PosedQuestion, row_text, sum_text, values_text, write_number, write_signed};
+use it_print::{PosedQuestion, row_text, values_text, write_number, write_proof};
 use it_problems::{Constraint, Kind};
 use it_question::types::Question;
 use it_rates::gone_rates;
@@ -140,23 +138,6 @@ fn write_row(
     out.extend_from_slice(b" by ")?;
     write_proof(alloc, out, posed, proof)?;
     out.extend_from_slice(b"\n")
-}
-
-/// Appends a certificate: its scale and its sum.
-#[tactic(auto, unfolding(it_print::specs::Lines::certificate_text))]
-fn write_proof(
-    alloc: Global,
-    out: &mut Vec<u8>,
-    posed: &PosedQuestion<'_>,
-    proof: &Certificate,
-) -> Result<(), AllocError>
-    requires there { IsCertificateOf posed.now proof.now }
-    ensures { OnOk result (out.new.items ≡ out.old.items ++ proof_text posed.now proof.now) }
-{
-    write_signed(out, proof.scale)?;
-    out.extend_from_slice(b" : ")?;
-    let sum = sum_text(alloc, posed.question, posed.constraints, proof)?;
-    out.extend_from_slice(sum.as_slice())
 }
 
 /// Appends the lines of rays.

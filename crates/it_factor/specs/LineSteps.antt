@@ -4,15 +4,10 @@ use Rattle.it_space.specs.Answers.{certificate_view}
 use Rattle.it_space.specs.declared.answers.Certificate.{Certificate}
 use Rattle.it_print.specs.declared.posed.PosedQuestion.{PosedQuestion}
 use Rattle.it_print.specs.PosedQuestions.{names_of, posed_origins}
-use Rattle.it_print.specs.Lines.{certificate_text}
 use Rattle.it_ratio.specs.BestViews.{Least, Unbounded}
 use Rattle.it_factor.specs.Lines.{best_line, factor_text}
 
 module _ (p : PosedQuestion) where
-  -- the text of a certificate
-  abbrev pub proof_text : Certificate → List ℕ
-  proof_text proof = certificate_text (names_of p).variables (posed_origins p) (certificate_view proof)
-
   -- the text of a factor and its certificate
   abbrev pub proven_factor_text : ℤ → ℤ → Certificate → List ℕ
   proven_factor_text num den proof = factor_text (names_of p).variables (posed_origins p) num den (certificate_view proof)

@@ -1,40 +1,21 @@
 //! The lines of mode `best`.
 ghost use Rattle.std.specs.Prelude.{◌≡◌, ◌≤◌, ◌++◌, length, codes, decimal, IfOk, OnOk};
 ghost use Rattle.std.specs.Fmt.{signed_decimal};
-ghost use Rattle.it_question.specs.ProblemLines.{problem_names};
-ghost use Rattle.it_canon.specs.TrueLines.{variable_count};
 ghost use Rattle.it_print.specs.Lines.{origins_of, values_text};
 ghost use Rattle.it_print.specs.PosedQuestions.{IsCertificateOf, names_of, posed_origins};
 ghost use Rattle.it_ratio.specs.BestViews.{best_view};
 ghost use Rattle.it_factor.specs.Lines.{AreValuesOf, IsBestPrintable, IsPrintable, best_cause_text, best_line, reply_line};
-ghost use Rattle.it_factor.specs.LineSteps.{least_line, proof_text, proven_factor_text, unbounded_line};
+ghost use Rattle.it_factor.specs.LineSteps.{least_line, proven_factor_text, unbounded_line};
 ghost use Rattle.it_factor.specs.Replies.{reply_view};
 
 use crate::types::Reply;
 use it_canon::problem_names;
-use it_print::{PosedQuestion, sum_text, values_text, write_number, write_signed};
+use it_print::{PosedQuestion, values_text, write_number, write_proof, write_signed};
 use it_problems::Constraint;
 use it_question::types::Question;
 use it_ratio::types::{Best, BestCause};
 use it_space::{Certificate, Point};
 use std::alloc::{AllocError, Global};
-
-/// Appends a certificate: its scale and its sum.
-#[tactic(auto, unfolding(it_print::specs::Lines::certificate_text))]
-fn write_proof(
-    alloc: Global,
-    out: &mut Vec<u8>,
-    posed: &PosedQuestion<'_>,
-    proof: &Certificate,
-) -> Result<(), AllocError>
-    requires there { IsCertificateOf posed.now proof.now }
-    ensures { OnOk result (out.new.items ≡ out.old.items ++ proof_text posed.now proof.now) }
-{
-    write_signed(out, proof.scale)?;
-    out.extend_from_slice(b" : ")?;
-    let sum = sum_text(alloc, posed.question, posed.constraints, proof)?;
-    out.extend_from_slice(sum.as_slice())
-}
 
 /// Appends a factor, `num`/`den`.
 fn write_ratio(out: &mut Vec<u8>, num: i128, den: i128) -> Result<(), AllocError>

@@ -19,5 +19,5 @@ pub use posed::PosedQuestion;
 pub use proof_lines::proof_text;
 pub use rows::row_text;
 pub use sets::write_set;
-pub use sums::sum_text;
+pub use sums::{sum_text, write_proof};
 pub use values::{values_text, write_coordinate};

@@ -3,8 +3,7 @@ ghost use Rattle.std.specs.Prelude.{◌≡◌, ◌≤◌, ◌<◌, ◌+◌, ◌+
 ghost use Rattle.it_space.specs.Answers.{answer_view, is_nonzero_weight};
 ghost use Rattle.it_polymatroid.specs.Elementals.{elementals};
 ghost use Rattle.it_question.specs.ProblemLines.{problem_names};
-ghost use Rattle.it_canon.specs.TrueLines.{variable_count};
-ghost use Rattle.it_print.specs.Lines.{AreListed, IsPrintable, IsRowOver, answer_line, row_text};
+ghost use Rattle.it_print.specs.Lines.{AreListed, IsPrintable, IsRowOver, row_text};
 ghost use Rattle.it_print.specs.PosedQuestions.{HasRowsOver, IsCertificateOf, generator_count, names_of};
 ghost use Rattle.it_print.specs.ProofLines.{generator_rows, generator_row_text, proof_text_by, sum_line};
 ghost use Rattle.it_print.specs.ByConstraints.{certificate_lines_by, elemental_row_text, proof_lines_by, weight_line_by};

@@ -24,7 +24,7 @@ use it_elemental::{Elemental, count, parts};
 use it_fraction::signed_product;
 use it_problems::Constraint;
 use it_question::types::{Question, Verb};
-use it_space::{Certificate, Row, Space, VarSet};
+use it_space::{Certificate, Row, VarSet};
 use it_syntax::Names;
 use it_syntax::types::{Atom, Relation, Sign, Term};
 use std::alloc::{AllocError, Global};
