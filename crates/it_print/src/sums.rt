@@ -3,10 +3,12 @@ ghost use Rattle.std.specs.Prelude.{◌≡◌, ◌≤◌, ◌<◌, ◌+◌, ◌+
 ghost use Rattle.it_polymatroid.specs.Elementals.{elementals};
 ghost use Rattle.it_canon.specs.TrueLines.{variable_count};
 ghost use Rattle.it_print.specs.Lines.{AreListed, weight_text, origins_of, sum_text, variable_names};
+ghost use Rattle.it_print.specs.PosedQuestions.{IsCertificateOf, proof_text_of};
 ghost use Rattle.it_print.specs.ByConstraints.{certificate_text_by, proofs_text_by};
 
 use crate::generators::write_generator;
 use crate::pieces::{write_if, write_signed};
+use crate::posed::PosedQuestion;
 use it_canon::problem_names;
 use it_problems::Constraint;
 use it_question::types::Question;
@@ -57,6 +59,20 @@ fn write_certificate(
         constraints,
         certificate.weights.as_slice(),
     )
+}
+
+/// Appends the scale and the sum of a certificate of a posed question.
+pub fn write_proof(
+    alloc: Global,
+    out: &mut Vec<u8>,
+    posed: &PosedQuestion<'_>,
+    proof: &Certificate,
+) -> Result<(), AllocError>
+    requires there { IsCertificateOf posed.now proof.now }
+    ensures { OnOk result (out.new.items ≡ out.old.items ++ proof_text_of posed.now proof.now) }
+{
+    let names = problem_names(posed.question);
+    write_certificate(alloc, out, names, posed.constraints, proof)
 }
 
 /// Appends the weights other than 0 with ` + ` between them, or `0`.

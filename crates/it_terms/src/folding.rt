@@ -7,6 +7,12 @@ use it_fraction::sum;
 use it_syntax::types::{Atom, Term};
 use std::alloc::{AllocError, Global};
 
+/// How terms over closed sets are written: as the first of the question's own measures that they are, else with few names.
+pub struct Notation<'a> {
+    pub closures: &'a Closures,
+    pub measures: &'a [Measure],
+}
+
 /// `times` copies of a term over closed sets.
 #[derive(Clone, Copy)]
 struct Summand {
@@ -123,31 +129,30 @@ fn put_in_order(summands: &mut Vec<Summand>, summand: Summand) -> Result<(), All
     Ok(())
 }
 
-/// `term` as an atom: the first of `measures` that is this term over closed sets, else one of few names.
-pub fn atom_of(closures: &Closures, measures: &[Measure], term: &ClosedTerm) -> Atom {
-    for measure in measures {
-        if closures.fold(&measure.atom) == Some(*term) {
+/// `term` as an atom.
+pub fn atom_of(notation: &Notation<'_>, term: &ClosedTerm) -> Atom {
+    for measure in notation.measures {
+        if notation.closures.fold(&measure.atom) == Some(*term) {
             return measure.atom;
         }
     }
-    closures.short_atom(term)
+    notation.closures.short_atom(term)
 }
 
 /// `summand` as a term to write.
-fn written(closures: &Closures, measures: &[Measure], summand: &Summand) -> Term {
+fn written(notation: &Notation<'_>, summand: &Summand) -> Term {
     Term {
         negative: false,
         number: summand.times,
         denominator: 1,
-        atom: atom_of(closures, measures, &summand.term),
+        atom: atom_of(notation, &summand.term),
     }
 }
 
 /// `summands` in the order of `stands_before`, as terms to write.
 fn in_order(
     alloc: Global,
-    closures: &Closures,
-    measures: &[Measure],
+    notation: &Notation<'_>,
     summands: &[Summand],
 ) -> Result<Vec<Term>, AllocError> {
     let mut sorted = Vec::new(alloc);
@@ -156,7 +161,7 @@ fn in_order(
     }
     let mut terms = Vec::new(alloc);
     for summand in sorted.as_slice() {
-        terms.push(written(closures, measures, summand))?;
+        terms.push(written(notation, summand))?;
     }
     Ok(terms)
 }
@@ -164,18 +169,17 @@ fn in_order(
 /// `terms`, which have a plus and are over sets, as terms over closed sets: joined, in order, and with few names.
 pub fn folded_terms(
     alloc: Global,
-    closures: &Closures,
-    measures: &[Measure],
+    notation: &Notation<'_>,
     terms: &[Term],
 ) -> Result<Vec<Term>, Untold> {
     let mut summands = Vec::new(alloc);
     for term in terms {
-        if let Some(closed) = closures.fold(&term.atom) {
+        if let Some(closed) = notation.closures.fold(&term.atom) {
             add(&mut summands, term.number, closed)?;
         }
     }
-    let summands = joined(alloc, closures, summands)?;
-    Ok(in_order(alloc, closures, measures, summands.as_slice())?)
+    let summands = joined(alloc, notation.closures, summands)?;
+    Ok(in_order(alloc, notation, summands.as_slice())?)
 }
 
 /// The sum of the coefficients of `terms` at coordinates whose place over closed sets is `place`.

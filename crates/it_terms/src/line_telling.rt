@@ -14,10 +14,9 @@ use crate::judging::is_same;
 use crate::measures::measures;
 use crate::reading::relation_text;
 use crate::substituting::substituted;
-use crate::telling::names_of;
 use crate::untold::Untold;
 use crate::writing::sums_text;
-use it_canon::target_rows;
+use it_canon::{problem_names, target_rows};
 use it_problems::Origin;
 use it_question::types::Question;
 use it_space::{Row, Space, VarSet, normal};
@@ -112,7 +111,7 @@ pub fn told_line(
 ) -> Result<Option<Vec<u8>>, AllocError>
     ensures { IfOk result (λ o. IfSome o (λ text. TellsForms (problem_names question.now.body) (map value rows.now) text.items)) }
 {
-    let names = names_of(question);
+    let names = problem_names(question);
     let text = match line_text(alloc, question, names, parts, origin) {
         Ok(text) => text,
         Err(Untold::Memory) => return Err(AllocError),

@@ -9,7 +9,7 @@ ghost use Rattle.it_terms.specs.Proposals.{ArePrintedFrom};
 
 use crate::closed::{Closures, closures_of};
 use crate::constraints::put_side;
-use crate::folding::{folded_terms, vanishes};
+use crate::folding::{Notation, folded_terms, vanishes};
 use crate::joining::joined_terms;
 use crate::measures::measures;
 use crate::names::by_comment;
@@ -19,12 +19,11 @@ use crate::proving::{
     Asked, Summands, goal_of, least_closed_summands, least_summands, put_weighted, sum_of_numbers,
     summed_up,
 };
-use crate::telling::names_of;
 use crate::under::{functions_of, is_nothing_under};
 use crate::under_judging::{Sides, judged_under, sides_excess};
 use crate::untold::Untold;
 use crate::writing::terms_text;
-use it_canon::problem;
+use it_canon::{problem, problem_names};
 use it_closure::Dependences;
 use it_elemental::count;
 use it_fraction::signed_product;
@@ -78,9 +77,13 @@ fn folded(
     closures: &Closures,
     summands: &Summands,
 ) -> Result<Summands, Untold> {
+    let notation = Notation {
+        closures,
+        measures: asked.measures,
+    };
     let mut folded = Summands {
         scale: summands.scale,
-        shannon: folded_terms(alloc, closures, asked.measures, summands.shannon.as_slice())?,
+        shannon: folded_terms(alloc, &notation, summands.shannon.as_slice())?,
         rest: Vec::new(alloc),
         weights: Vec::new(alloc),
     };
@@ -333,7 +336,7 @@ fn any_printed(
     requires space { problem.now.space ≡ space_of (problem_names question.now.body) }
     ensures { IfOk result (λ o. IfSome o (λ t. ArePrintedFrom (problem_names question.now.body) (value proven.now.row.now) problem.now.constraints t.lines.items t.named.items t.text.items t.whole.items t.by.items)) }
 {
-    let names = names_of(question);
+    let names = problem_names(question);
     let measures = measures(alloc, question.source(), names)?;
     let goal = goal_of(
         alloc,

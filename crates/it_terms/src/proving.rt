@@ -16,16 +16,15 @@ use crate::measures::{Measure, measures};
 use crate::proof_judging::{Proposal, Split, tells_proof};
 use crate::proven::Proven;
 use crate::reading::relation_text;
-use crate::shortest::{LeastSum, shortest, shortest_closed};
-use crate::telling::names_of;
+use crate::shortest::{LeastSum, Multiple, shortest, shortest_closed};
 use crate::untold::Untold;
 use crate::writing::sums_text;
-use it_canon::{problem, target_rows};
+use it_canon::{problem, problem_names, target_rows};
 use it_elemental::{Elemental, count, parts};
 use it_fraction::signed_product;
 use it_problems::Constraint;
 use it_question::types::{Question, Verb};
-use it_space::{Certificate, Row, Space, VarSet};
+use it_space::{Certificate, Row, VarSet};
 use it_syntax::Names;
 use it_syntax::types::{Atom, Relation, Sign, Term};
 use std::alloc::{AllocError, Global};
@@ -243,12 +242,15 @@ pub fn sum_of_numbers(terms: &[Term]) -> i128 {
     sum
 }
 
-/// The number of copies of the target's row in `scale` copies of the goal.
-fn times_of_goal(goal: &Goal, scale: i128) -> Result<i128, Untold> {
-    if goal.factor <= 0 {
+/// `scale` copies of the goal, as a multiple of the target's row.
+fn multiple_of_goal<'a>(asked: &Asked<'a>, scale: i128) -> Result<Multiple<'a>, Untold> {
+    if asked.goal.factor <= 0 {
         return Err(Untold::NotFound);
     }
-    Ok(signed_product(scale, goal.factor)?)
+    Ok(Multiple {
+        target: asked.target,
+        scale: signed_product(scale, asked.goal.factor)?,
+    })
 }
 
 /// The summands of a proof with the least sum of terms.
@@ -272,9 +274,9 @@ pub fn least_summands(
     scale: i128,
     most: i128,
 ) -> Result<Summands, Untold> {
-    let often = times_of_goal(asked.goal, scale)?;
+    let multiple = multiple_of_goal(asked, scale)?;
     let space = asked.names.space();
-    let least = shortest(alloc, space, asked.constraints, asked.target, often, most)?;
+    let least = shortest(alloc, space, asked.constraints, &multiple, most)?;
     summands_of(alloc, asked, &least)
 }
 
@@ -286,16 +288,9 @@ pub fn least_closed_summands(
     scale: i128,
     most: i128,
 ) -> Result<Summands, Untold> {
-    let often = times_of_goal(asked.goal, scale)?;
-    let least = shortest_closed(
-        alloc,
-        closures,
-        asked.names.space(),
-        asked.constraints,
-        asked.target,
-        often,
-        most,
-    )?;
+    let multiple = multiple_of_goal(asked, scale)?;
+    let space = asked.names.space();
+    let least = shortest_closed(alloc, closures, space, asked.constraints, &multiple, most)?;
     summands_of(alloc, asked, &least)
 }
 
@@ -437,7 +432,7 @@ pub fn told_form(
 ) -> Result<Option<Vec<u8>>, AllocError>
     ensures { IfOk result (λ o. IfSome o (λ text. TellsForm question.now.body (value proven.now.row.now) text.items)) }
 {
-    let names = names_of(question);
+    let names = problem_names(question);
     let posed = problem(alloc, question)?;
     let constraints = posed.constraints();
     match any_proof(alloc, question, names, constraints, proven, short) {

@@ -8,13 +8,14 @@ ghost use Rattle.it_space.specs.Spaces.{most_variables};
 
 use crate::closed::{ClosedTerm, Closures, closures_of};
 use crate::finding::own_sum;
+use crate::folding::Notation;
 use crate::measures::{Measure, measures};
 use crate::row_judging::{are_given_equations, is_given_equation, tells_under};
 use crate::row_search::{Length, closed_sum, closed_terms, length_of};
-use crate::telling::{names_of, written};
+use crate::telling::written;
 use crate::under::functions_of;
 use crate::untold::Untold;
-use it_canon::problem;
+use it_canon::{problem, problem_names};
 use it_closure::Dependences;
 use it_elemental::count;
 use it_problems::{Constraint, Problem};
@@ -96,15 +97,11 @@ fn shorter_text(
     let measures = measures.as_slice();
     let closures = closures_of(alloc, functions, space.variables)?;
     let terms = few_terms(alloc, &closures, space.variables)?;
-    let found = closed_sum(
-        alloc,
-        functions,
-        &closures,
-        terms.as_slice(),
+    let notation = Notation {
+        closures: &closures,
         measures,
-        row,
-        space,
-    )?;
+    };
+    let found = closed_sum(alloc, functions, &notation, terms.as_slice(), row, space)?;
     let length = length_of(measures, found.terms.as_slice());
     if let Some(own) = own_length(alloc, measures, names, row)? {
         if !length.is_less(&own) {
@@ -185,7 +182,7 @@ fn any_printed(
     requires space { problem.now.space ≡ space_of (problem_names question.now.body) }
     ensures { IfOk result (λ o. IfSome o (λ t. IsPrintedRowFrom (problem_names question.now.body) row.now problem.now.constraints t.lines.items t.text.items)) }
 {
-    let names = names_of(question);
+    let names = problem_names(question);
     let lines = given_functions(alloc, problem)?;
     let lines = lines.as_slice();
     if lines.is_empty() {

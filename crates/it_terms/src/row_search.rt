@@ -5,7 +5,7 @@ ghost use Rattle.it_space.specs.Spaces.{most_variables};
 
 use crate::closed::{ClosedTerm, Closures, size};
 use crate::finding::{Found, own_sum, term_of, turned};
-use crate::folding::atom_of;
+use crate::folding::{Notation, atom_of};
 use crate::measures::{Measure, own_spelling};
 use crate::row_judging::closed_row;
 use crate::untold::Untold;
@@ -209,13 +209,8 @@ fn single(closures: &Closures, terms: &[(u32, i128)]) -> Option<(i128, ClosedTer
 }
 
 /// `times` times `term`, as a term to write.
-fn written(
-    closures: &Closures,
-    measures: &[Measure],
-    times: i128,
-    term: &ClosedTerm,
-) -> Result<Term, Untold> {
-    term_of(times, atom_of(closures, measures, term))
+fn written(notation: &Notation<'_>, times: i128, term: &ClosedTerm) -> Result<Term, Untold> {
+    term_of(times, atom_of(notation, term))
 }
 
 /// The closed sets of `variables` variables, by number.
@@ -288,8 +283,7 @@ fn least_number(terms: &[(u32, i128)]) -> Result<i128, Untold> {
 /// Two terms whose sum is `part`: `times` times `first`, and the rest, where that is a multiple of one term; else None.
 fn pair_with(
     alloc: Global,
-    closures: &Closures,
-    measures: &[Measure],
+    notation: &Notation<'_>,
     part: &Part,
     first: &ClosedTerm,
     times: i128,
@@ -297,13 +291,13 @@ fn pair_with(
     let mut rest = Part {
         terms: Vec::from_slice(alloc, part.terms.as_slice())?,
     };
-    rest.add(closures, first, turned(times, true)?)?;
-    let Some((more, second)) = single(closures, rest.terms.as_slice()) else {
+    rest.add(notation.closures, first, turned(times, true)?)?;
+    let Some((more, second)) = single(notation.closures, rest.terms.as_slice()) else {
         return Ok(None);
     };
     let mut terms = Vec::new(alloc);
-    terms.push(written(closures, measures, times, first)?)?;
-    terms.push(written(closures, measures, more, &second)?)?;
+    terms.push(written(notation, times, first)?)?;
+    terms.push(written(notation, more, &second)?)?;
     Ok(Some(terms))
 }
 
@@ -330,8 +324,7 @@ fn less_to_read(
 /// a coefficient as its number, with a plus or a minus.
 fn pair_sum(
     alloc: Global,
-    closures: &Closures,
-    measures: &[Measure],
+    notation: &Notation<'_>,
     terms: &[ClosedTerm],
     part: &Part,
 ) -> Result<Option<Vec<Term>>, Untold> {
@@ -339,10 +332,10 @@ fn pair_sum(
     let opposite = turned(times, true)?;
     let mut best = None;
     for first in terms {
-        let plus = pair_with(alloc, closures, measures, part, first, times)?;
-        best = less_to_read(measures, best, plus);
-        let minus = pair_with(alloc, closures, measures, part, first, opposite)?;
-        best = less_to_read(measures, best, minus);
+        let plus = pair_with(alloc, notation, part, first, times)?;
+        best = less_to_read(notation.measures, best, plus);
+        let minus = pair_with(alloc, notation, part, first, opposite)?;
+        best = less_to_read(notation.measures, best, minus);
     }
     Ok(best)
 }
@@ -378,32 +371,31 @@ fn closed_measures(
 pub fn closed_sum(
     alloc: Global,
     functions: &Dependences,
-    closures: &Closures,
+    notation: &Notation<'_>,
     terms: &[ClosedTerm],
-    measures: &[Measure],
     row: &Row,
     space: Space,
 ) -> Result<Found, Untold>
     requires { space.variables ≤ most_variables }
 {
-    let part = part_of(alloc, closures, row, space)?;
+    let part = part_of(alloc, notation.closures, row, space)?;
     if part.terms.is_empty() {
         return Ok(Found {
             scale: 1,
             terms: Vec::new(alloc),
         });
     }
-    if let Some((times, term)) = single(closures, part.terms.as_slice()) {
-        let only = written(closures, measures, times, &term)?;
+    if let Some((times, term)) = single(notation.closures, part.terms.as_slice()) {
+        let only = written(notation, times, &term)?;
         return Ok(Found {
             scale: 1,
             terms: Vec::from_slice(alloc, &[only])?,
         });
     }
-    if let Some(terms) = pair_sum(alloc, closures, measures, terms, &part)? {
+    if let Some(terms) = pair_sum(alloc, notation, terms, &part)? {
         return Ok(Found { scale: 1, terms });
     }
-    let closed = closed_measures(alloc, functions, measures)?;
+    let closed = closed_measures(alloc, functions, notation.measures)?;
     let row = closed_or_not(alloc, functions, row)?;
     own_sum(alloc, closed.as_slice(), &row, space)
 }

@@ -12,32 +12,25 @@ ghost use Rattle.it_terms.specs.StepsUnder.{ArePieceSteps, IsEquationUnder, Tell
 ghost use Rattle.it_terms.specs.Sums.{AreReadUnder};
 ghost use Rattle.it_terms.specs.Tells.{IsRelationText};
 
-use crate::closed::{Closures, closures_of};
-use crate::measures::{Measure, measures};
+use crate::closed::closures_of;
+use crate::folding::Notation;
+use crate::measures::measures;
 use crate::names::with_names;
 use crate::pieces::{Piece, first_sum, piece_weights, right_pieces, with_piece};
-use crate::steps::are_same_terms;
+use crate::steps::{Step, are_same_terms};
 use crate::sums::are_allowed;
 use crate::tallies::Tally;
-use crate::telling::names_of;
 use crate::under::{excess, functions_of, is_nothing_under};
 use crate::under_judging::{is_whole_equation, named_text, sides_relation, sides_text};
 use crate::untold::Untold;
 use crate::writing::terms_text;
-use it_canon::problem;
+use it_canon::{problem, problem_names};
 use it_closure::Dependences;
 use it_problems::{Constraint, Problem};
 use it_question::types::Question;
 use it_syntax::Names;
 use it_syntax::types::{Atom, Relation, Term};
 use std::alloc::{AllocError, Global};
-
-/// The line of a step, and the sum after it.
-#[derive(Drop)]
-struct Step {
-    text: Vec<u8>,
-    sum: Vec<Term>,
-}
 
 /// The sides of an equation as texts, without names of constraints.
 #[derive(Drop)]
@@ -53,8 +46,7 @@ struct Under<'a> {
     problem: &'a Problem,
     functions: &'a Dependences,
     lines: &'a [u32],
-    measures: &'a [Measure],
-    closures: &'a Closures,
+    notation: &'a Notation<'a>,
 }
 
 /// A side as it is read without names: `0` if it is empty.
@@ -151,14 +143,14 @@ fn judged(
 /// Adds a piece to a sum over closed sets.
 fn add_piece(tally: &mut Tally, under: &Under<'_>, piece: &Piece) -> Result<(), Untold> {
     match piece {
-        Piece::Summand(term) => tally.add_term(under.closures, under.names.space(), term),
+        Piece::Summand(term) => tally.add_term(under.notation.closures, under.names.space(), term),
         Piece::Named((line, times)) => {
             let constraints = under.problem.constraints();
             let index = *line as usize;
             if index >= constraints.len() {
                 return Err(Untold::NotFound);
             }
-            tally.add_terms(under.closures, constraints[index].row.terms(), *times)
+            tally.add_terms(under.notation.closures, constraints[index].row.terms(), *times)
         }
     }
 }
@@ -182,7 +174,7 @@ fn left_text(
         Piece::Named(_) if is_zero(sum) => Ok(Vec::new(alloc)),
         _ => {
             let terms = with_piece(alloc, sum, piece)?;
-            terms_text(alloc, under.measures, under.names, terms.as_slice())
+            terms_text(alloc, under.notation.measures, under.names, terms.as_slice())
         }
     }
 }
@@ -203,8 +195,8 @@ fn step_sides(
         Some(total) => Vec::from_slice(alloc, total)?,
         None => {
             let space = under.names.space();
-            let terms = tally.terms(alloc, under.closures, under.measures, space)?;
-            let text = terms_text(alloc, under.measures, under.names, terms.as_slice())?;
+            let terms = tally.terms(alloc, under.notation, space)?;
+            let text = terms_text(alloc, under.notation.measures, under.names, terms.as_slice())?;
             or_zero(alloc, text.as_slice())?
         }
     };
@@ -347,19 +339,22 @@ fn steps_from(
     requires space { problem.now.space ≡ space_of (problem_names question.now.body) }
     ensures { IfOk result (λ o. IfSome o (λ steps. TellsPieceSteps (problem_names question.now.body) (origins_of problem.now.constraints) (forms_of (map of_constraint problem.now.constraints)) lines.now named.now proof.now (map (λ step. step.items) steps.items))) }
 {
-    let names = names_of(question);
+    let names = problem_names(question);
     let Some(functions) = functions_of(alloc, problem, lines)? else {
         return Ok(None);
     };
     let measures = measures(alloc, question.source(), names)?;
     let closures = closures_of(alloc, &functions, names.space().variables)?;
+    let notation = Notation {
+        closures: &closures,
+        measures: measures.as_slice(),
+    };
     let under = Under {
         names,
         problem,
         functions: &functions,
         lines,
-        measures: measures.as_slice(),
-        closures: &closures,
+        notation: &notation,
     };
     told_pieces(alloc, &under, proof, named)
 }

@@ -15,15 +15,6 @@ use it_space::Row;
 use it_syntax::Names;
 use std::alloc::{AllocError, Global};
 
-/// The names of a question's problem, of which some are variables.
-#[tactic(auto, using(crate::proofs::NameLemmas::some_variables))]
-pub fn names_of(question: &Question) -> &Names
-    ensures names { result.now ≡ problem_names question.now.body }
-    ensures some { 1 ≤ length result.now.variables }
-{
-    problem_names(question)
-}
-
 /// The text of `row` with `sum` for its part over sets.
 pub fn written(
     alloc: Global,
@@ -98,7 +89,7 @@ pub fn told_row(
 ) -> Result<Option<Vec<u8>>, AllocError>
     ensures { IfOk result (λ o. IfSome o (λ text. TellsRow (problem_names question.now.body) row.now text.items)) }
 {
-    let names = names_of(question);
+    let names = problem_names(question);
     let measures = measures(alloc, question.source(), names)?;
     row_text(alloc, measures.as_slice(), names, row)
 }

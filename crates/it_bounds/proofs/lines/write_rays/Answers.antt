@@ -19,8 +19,8 @@ write_ray-requires-clause-kept c =
     (kept_places (space_of names) gone)
 
 pub returns : goal.returns
-returns c = rays_done c.args.k c.problem_names-names.result.now (problem_names c.args.question.now.body) c.in_ok-kept.kept.items
-    (told_rates c.args.question.now.body) c.args.rays.now c.loop-ray.ray-index
+returns c = rays_done c.args.posed.now.number c.problem_names-names.result.now (problem_names c.args.posed.now.question.now.body) c.in_ok-kept.kept.items
+    (told_rates c.args.posed.now.question.now.body) c.args.rays.now c.loop-ray.ray-index
     c.loop-ray.out.items c.args.out.now.items c.problem_names-names.ensures.value
     (c.in_ok-kept.ensures ∙ ap₂ (λ (s : Space) (rs : List ℕ). kept_coordinates s rs)
     (c.space.ensures.counts ∙ ap space_of c.problem_names-names.ensures.value) (rw c.verb.ensures.value at c.gone_rates.ensures))
