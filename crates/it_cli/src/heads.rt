@@ -1,6 +1,5 @@
 //! Modes `copy` and `best`: replies to the questions of a file whose head may ask for copies.
-ghost use Rattle.std.specs.Prelude.{[], ◌≤◌, All, IfOk, length, map};
-ghost use Rattle.it_question.specs.Limits.{IsQuestion};
+ghost use Rattle.std.specs.Prelude.{[], ◌≤◌, IfOk, length, map};
 ghost use Rattle.it_copy.specs.CopyLines.{AreNamed, copy_view};
 ghost use Rattle.it_cli.specs.Copies.{with_copies};
 ghost use Rattle.it_cli.specs.InnerEnds.{EndsForBytes, EndsForItems, IsTextOf, head_mode, questions_with, request_mode};
@@ -72,7 +71,6 @@ fn reply_all<K: Sink>(
     questions: &[Question],
     sink: &mut K,
 ) -> Status
-    requires limits { All (λ q. IsQuestion q.body) questions.now }
     requires names { AreNamed copies.now }
     requires few { length copies.now ≤ 4 }
     ensures { EndsForItems K.taken K.faults (request_mode request) sink.old sink.new (questions_with copies.now questions.now) result }
