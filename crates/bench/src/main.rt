@@ -14,8 +14,7 @@
 //! each is; how it ends, and the calls.
 #![tactic(auto)]
 
-ghost use Rattle.std.specs.Prelude.{◌≤◌, All, length};
-ghost use Rattle.it_question.specs.Limits.{IsQuestion};
+ghost use Rattle.std.specs.Prelude.{◌≤◌, length};
 
 mod fractions;
 mod output;
@@ -75,9 +74,7 @@ fn write_all(
     kernel: &str,
     questions: &[Question],
     task: &Task<'_>,
-) -> Result<(), AllocError>
-    requires { All (λ q. IsQuestion q.body) questions.now }
-{
+) -> Result<(), AllocError> {
     for question in questions {
         if kernel == "targets" {
             targets::write(alloc, out, question, task)?;

@@ -55,19 +55,7 @@ fn answer_under(
     match question.verb() {
         Verb::Prove(relation) => { relation_answer(alloc, problem, relation, budgets.effort) }
         Verb::Eliminate(rates) => { region(alloc, question, rates.as_slice(), problem, budgets) }
-        Verb::Contain {
-            first,
-            second,
-            tries,
-        } => containment(
-            alloc,
-            question,
-            first,
-            second,
-            tries.as_slice(),
-            budgets,
-            boxes,
-        ),
+        Verb::Contain { .. } => containment(alloc, question, budgets, boxes),
     }
 }
 

@@ -32,6 +32,7 @@ use Rattle.it_cli.specs.Ends.{Ends, call_of}
 use Rattle.it_cli.specs.Modes.{FirstOutput, Mode, OutputInPart, WholeOutput}
 use Rattle.it_cli.specs.Outputs.{done_mode}
 use Rattle.it_cli.specs.Refusals.{fault_line}
+use Rattle.it_cli.specs.declared.heads.Request.{Request}
 use Rattle.it_cli.specs.declared.heads.Wanted.{Wanted}
 use Rattle.it_cli.specs.declared.heads.Wanted.TheVariants.{Answers, Factors}
 use Rattle.it_cli.specs.declared.status.Status.{Status}
@@ -161,6 +162,10 @@ lines_for Factors = best_lines
 -- mode `copy` or `best`
 abbrev pub head_mode : Wanted → Bool → Effort → Mode
 head_mode wanted report effort = done_mode AsksWithCopies CopyFileFaultAt (λ (earlier : List (ReplyWith (ToldFor wanted))). IsRightFor wanted effort) (lines_for wanted report)
+
+-- the mode of a request
+abbrev pub request_mode : Request → Mode
+request_mode request = head_mode request.wanted request.report request.effort
 
 -- ---- the same of a sink, by its meaning and its states before and after
 

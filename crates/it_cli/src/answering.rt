@@ -4,7 +4,6 @@ ghost use Rattle.it_space.specs.Answers.{answer_view};
 ghost use Rattle.it_space.specs.Rows.{IsOver};
 ghost use Rattle.it_space.specs.Spaces.{size_of};
 ghost use Rattle.it_question.specs.AsciiTexts.{IsAsciiQuestion};
-ghost use Rattle.it_question.specs.Limits.{IsQuestion};
 ghost use Rattle.it_demand.specs.Origins.{AreStated};
 ghost use Rattle.it_demand.specs.QuestionSpaces.{space_of};
 ghost use Rattle.it_question.specs.ProblemLines.{problem_names};
@@ -59,7 +58,6 @@ fn answer_all<K: Sink>(
     boxes: &mut Vec<Box<dyn Proposer>>,
     sink: &mut K,
 ) -> Status
-    requires limits { All (λ q. IsQuestion q.body) questions.now }
     requires ascii { All IsAsciiQuestion questions.now }
     ensures { EndsForItems K.taken K.faults (answer_mode budgets (map plan boxes.old.items) format) sink.old sink.new questions.now result }
 {

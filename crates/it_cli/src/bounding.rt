@@ -1,6 +1,5 @@
 //! Mode `outer`: a question file, and the outer bounds of its eliminations in rates alone.
-ghost use Rattle.std.specs.Prelude.{◌≤◌, [], All, IfOk, length, map};
-ghost use Rattle.it_question.specs.Limits.{IsQuestion};
+ghost use Rattle.std.specs.Prelude.{◌≤◌, [], IfOk, length, map};
 ghost use Rattle.it_cli.specs.InnerEnds.{EndsForBytes, EndsForItems, IsTextOf};
 ghost use Rattle.it_cli.specs.Outputs.{outer_mode};
 ghost use Rattle.it_question.specs.QuestionLimits.{most_file_bytes};
@@ -42,7 +41,6 @@ fn reply_all<K: Sink>(
     questions: &[Question],
     sink: &mut K,
 ) -> Status
-    requires questions { All (λ q. IsQuestion q.body) questions.now }
     requires few_rows { limits.rows ≤ most_system_rows }
     ensures { EndsForItems K.taken K.faults (outer_mode report limits) sink.old sink.new questions.now result }
 {

@@ -193,26 +193,18 @@ fn reply<K: Sink>(
             report,
             run,
             pivots,
-        } => reply_to_file(
-            alloc,
-            Wanted::Answers,
-            report,
-            effort_of(run, pivots),
-            bytes,
-            sink,
-        ),
+        } => {
+            let effort = effort_of(run, pivots);
+            reply_to_file(alloc, Wanted::Answers, report, effort, bytes, sink)
+        }
         Settings::Best {
             report,
             run,
             pivots,
-        } => reply_to_file(
-            alloc,
-            Wanted::Factors,
-            report,
-            effort_of(run, pivots),
-            bytes,
-            sink,
-        ),
+        } => {
+            let effort = effort_of(run, pivots);
+            reply_to_file(alloc, Wanted::Factors, report, effort, bytes, sink)
+        }
         Settings::Outer {
             report,
             run,

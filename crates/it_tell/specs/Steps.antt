@@ -1,5 +1,5 @@
 -- No public clause cites this module: what the calls inside `tell` give.
-use Rattle.std.specs.Prelude.{◌≡◌, ◌≤◌, ℕ, ◌-◌, ℤ, List, ◌∷◌, ◌++◌, length, Bool, [], map, codes, ◌⊎◌, Option, Some}
+use Rattle.std.specs.Prelude.{◌≡◌, ◌≤◌, ◌<◌, ℕ, ◌+◌, ◌-◌, All, ℤ, List, ◌∷◌, ◌++◌, length, Bool, [], map, codes, ◌⊎◌, Option, Some}
 use Rattle.std.specs.List.{zip}
 use Rattle.std.specs.Borrow.{Bor}
 use Rattle.it_space.specs.declared.spaces.Space.{Space}
@@ -16,10 +16,12 @@ use Rattle.it_demand.specs.QuestionSpaces.{space_of}
 use Rattle.it_question.specs.LineDemands.{line_demands}
 use Rattle.it_question.specs.LineOrigins.{line_origins}
 use Rattle.it_question.specs.ProblemLines.{problem_names}
+use Rattle.it_terms.specs.declared.proven.Proven.{Proven}
 use Rattle.it_terms.specs.Tells.{TellsForms}
 use Rattle.it_tell.specs.OwnLines.{own_line, own_lines_by}
 use Rattle.it_space.specs.Answers.{AnswerView, CertificateView, answer_view, certificate_view}
 use Rattle.it_polymatroid.specs.Certificates.{Form}
+use Rattle.it_polymatroid.specs.Elementals.{elementals}
 use Rattle.it_syntax.specs.NamesViews.{NamesView}
 use Rattle.it_question.specs.Questions.{BodyView, VerbView, Contain}
 use Rattle.it_canon.specs.QuestionDemands.{question_demands}
@@ -38,6 +40,7 @@ use Rattle.it_space.specs.declared.answers.Certificate.{Certificate}
 use Rattle.it_cli.specs.Ends.{call_of}
 use Rattle.it_cli.specs.LineModes.{IsReplied, LineMode}
 use Rattle.it_cli.specs.declared.status.Status.{Status}
+use Rattle.it_tell.specs.declared.containments.Obligations.{Obligations}
 use Rattle.it_tell.specs.declared.settings.Options.{Options}
 use Rattle.it_tell.specs.declared.settings.Settings.TheVariants.{Tell}
 use Rattle.it_tell.specs.declared.settings.Style.{Style}
@@ -95,6 +98,18 @@ AppendsPoint v values old new = (text : List ℕ) × (IsPointText v values text 
 -- the form of a row, with a certificate for it
 abbrev pub form_with_proof : Terms → Certificate → Form × CertificateView
 form_with_proof row w = (value row, certificate_view w)
+
+-- the form of a row that is proved, with its certificate
+abbrev pub proven_form : Proven → Form × CertificateView
+proven_form proven = form_with_proof proven.row.now proven.certificate.now
+
+-- a certificate's weights are of the elemental inequalities of n variables, and of so many constraints after these
+abbrev pub IsListed : ℕ → ℕ → Certificate → Type 0
+IsListed n count proof = All (λ w. w.0 < length (elementals n) + count) proof.weights.items
+
+-- the certificates of obligations
+abbrev pub certificates_of : Obligations → List CertificateView
+certificates_of owed = map certificate_view owed.proofs.now
 
 -- the answer that a containment holds by these parts, with these certificates
 abbrev pub contained_by : List ℕ → List Certificate → AnswerView

@@ -1,10 +1,9 @@
 //! The lines below the first one of a containment: the proofs of its obligations, each under its line of the second region.
-ghost use Rattle.std.specs.Prelude.{◌≡◌, ◌≤◌, ◌<◌, ◌+◌, ◌++◌, length, map, codes, All, IfOk, OnOk, [], drop, slice_index_or, true, if◌then◌else◌, ◌==◌};
+ghost use Rattle.std.specs.Prelude.{◌≡◌, ◌≤◌, ◌<◌, ◌++◌, length, map, codes, All, IfOk, OnOk, [], drop, slice_index_or, true, if◌then◌else◌, ◌==◌};
 ghost use Rattle.std.specs.Bool.{OnTrue};
 ghost use Rattle.it_space.specs.Answers.{certificate_view};
 ghost use Rattle.it_space.specs.Rows.{IsOver, value};
 ghost use Rattle.it_space.specs.Spaces.{size_of};
-ghost use Rattle.it_polymatroid.specs.Elementals.{elementals};
 ghost use Rattle.it_question.specs.ProblemLines.{problem_names};
 ghost use Rattle.it_canon.specs.TrueLines.{variable_count};
 ghost use Rattle.it_canon.specs.QuestionDemands.{question_origins};
@@ -12,7 +11,7 @@ ghost use Rattle.it_certificate.specs.AnswerShapes.{HasQuestionShape};
 ghost use Rattle.it_print.specs.Lines.{AreListed, auxiliary_names, origins_of, part_for, set_text};
 ghost use Rattle.it_region.specs.Pairs.{IsContainment};
 ghost use Rattle.it_tell.specs.OwnLines.{own_line_comment, relation_part, sets_with, with_text};
-ghost use Rattle.it_tell.specs.Steps.{AppendsDetails, AppendsEachOwnLine, AppendsObligation, AppendsOwnLine, AppendsOwnProofs, AreObligations, AreOwnConstraints, HasObligations, IsFreeProblem, SaysOrNothing, contained_by, form_with_proof, obliged};
+ghost use Rattle.it_tell.specs.Steps.{AppendsDetails, AppendsEachOwnLine, AppendsObligation, AppendsOwnLine, AppendsOwnProofs, AreObligations, AreOwnConstraints, HasObligations, IsFreeProblem, IsListed, SaysOrNothing, certificates_of, contained_by, obliged, proven_form};
 ghost use Rattle.it_tell.specs.Tellings.{IsByShannon};
 
 use crate::details::{Asked, write_indented, write_proof, write_proofs};
@@ -36,6 +35,13 @@ pub struct Containment<'a> {
     pub options: Options,
     pub constraints: &'a [Constraint],
     pub parts: &'a [VarSet],
+}
+
+/// The rows of obligations, and the certificates that prove them, in the same order.
+#[derive(Clone, Copy)]
+struct Obligations<'a> {
+    rows: &'a [Row],
+    proofs: &'a [Certificate],
 }
 
 /// The constraints of the second region's own lines; these alone are counted.
@@ -239,17 +245,15 @@ fn write_obligation(
     out: &mut Vec<u8>,
     asked: &Containment<'_>,
     free: &Problem,
-    relation: &[u8],
-    row: &Row,
-    proof: &Certificate,
+    proven: &Proven<'_>,
 ) -> Result<(), AllocError>
     requires origins { origins_of asked.now.constraints.now ≡ question_origins asked.now.question.now.body }
-    requires there { All (λ w. w.0 < length (elementals (variable_count asked.now.question.now.body)) + length asked.now.constraints.now) proof.now.weights.items }
+    requires there { IsListed (variable_count asked.now.question.now.body) (length asked.now.constraints.now) proven.now.certificate.now }
     requires free { IsFreeProblem asked.now.question.now.body free.now }
-    requires over { IsOver (size_of free.now.space) row.now }
-    ensures { OnOk result (AppendsObligation asked.now.question.now.body asked.now.options (form_with_proof row.now proof.now) out.old.items out.new.items) }
+    requires over { IsOver (size_of free.now.space) proven.now.row.now }
+    ensures { OnOk result (AppendsObligation asked.now.question.now.body asked.now.options (proven_form proven.now) out.old.items out.new.items) }
 {
-    if is_by_shannon(free, row, proof) {
+    if is_by_shannon(free, proven.row, proven.certificate) {
         return Ok(());
     }
     let told = Asked {
@@ -257,12 +261,7 @@ fn write_obligation(
         options: asked.options,
         constraints: asked.constraints,
     };
-    let proven = Proven {
-        row,
-        certificate: proof,
-        line: Some(relation),
-    };
-    write_proof(alloc, out, &told, &proven)?;
+    write_proof(alloc, out, &told, proven)?;
     Ok(())
 }
 
@@ -273,19 +272,25 @@ fn own_proofs(
     asked: &Containment<'_>,
     free: &Problem,
     relation: &[u8],
-    rows: &[Row],
-    proofs: &[Certificate],
+    owed: &Obligations<'_>,
 ) -> Result<Vec<u8>, AllocError>
     requires origins { origins_of asked.now.constraints.now ≡ question_origins asked.now.question.now.body }
-    requires there { AreListed (variable_count asked.now.question.now.body) (length asked.now.constraints.now) proofs.now }
+    requires there { AreListed (variable_count asked.now.question.now.body) (length asked.now.constraints.now) owed.now.proofs.now }
     requires free { IsFreeProblem asked.now.question.now.body free.now }
-    requires over { All (IsOver (size_of free.now.space)) rows.now }
-    requires as_many { length rows.now ≡ length proofs.now }
-    ensures { IfOk result (λ v. AppendsOwnProofs asked.now.question.now.body asked.now.options rows.now (map certificate_view proofs.now) [] v.items) }
+    requires over { All (IsOver (size_of free.now.space)) owed.now.rows.now }
+    requires as_many { length owed.now.rows.now ≡ length owed.now.proofs.now }
+    ensures { IfOk result (λ v. AppendsOwnProofs asked.now.question.now.body asked.now.options owed.now.rows.now (certificates_of owed.now) [] v.items) }
 {
     let mut out = Vec::new(alloc);
+    let rows = owed.rows;
+    let proofs = owed.proofs;
     for (i, row) in rows.iter().enumerate() {
-        write_obligation(alloc, &mut out, asked, free, relation, row, &proofs[i])?;
+        let proven = Proven {
+            row,
+            certificate: &proofs[i],
+            line: Some(relation),
+        };
+        write_obligation(alloc, &mut out, asked, free, &proven)?;
     }
     Ok(out)
 }
@@ -297,21 +302,20 @@ fn write_own_line(
     asked: &Containment<'_>,
     free: &Problem,
     origin: Origin,
-    rows: &[Row],
-    proofs: &[Certificate],
+    owed: &Obligations<'_>,
 ) -> Result<(), AllocError>
     requires origins { origins_of asked.now.constraints.now ≡ question_origins asked.now.question.now.body }
     requires contains { IsContainment asked.now.question.now.body.verb }
     requires counted { length asked.now.parts.now ≡ length (auxiliary_names asked.now.question.now.body.names asked.now.question.now.body.verb) }
-    requires there { AreListed (variable_count asked.now.question.now.body) (length asked.now.constraints.now) proofs.now }
+    requires there { AreListed (variable_count asked.now.question.now.body) (length asked.now.constraints.now) owed.now.proofs.now }
     requires free { IsFreeProblem asked.now.question.now.body free.now }
-    requires over { All (IsOver (size_of free.now.space)) rows.now }
-    requires as_many { length rows.now ≡ length proofs.now }
-    ensures { OnOk result (AppendsOwnLine asked.now.question.now.body asked.now.options asked.now.parts.now origin rows.now (map certificate_view proofs.now) out.old.items out.new.items) }
+    requires over { All (IsOver (size_of free.now.space)) owed.now.rows.now }
+    requires as_many { length owed.now.rows.now ≡ length owed.now.proofs.now }
+    ensures { OnOk result (AppendsOwnLine asked.now.question.now.body asked.now.options asked.now.parts.now origin owed.now.rows.now (certificates_of owed.now) out.old.items out.new.items) }
 {
-    let relation = line_text(alloc, asked, origin, rows)?;
+    let relation = line_text(alloc, asked, origin, owed.rows)?;
     let relation = relation.as_slice();
-    let below = own_proofs(alloc, asked, free, relation, rows, proofs)?;
+    let below = own_proofs(alloc, asked, free, relation, owed)?;
     let below = below.as_slice();
     let comment = own_line_comment(alloc, asked, origin, relation, below.is_empty())?;
     write_indented(out, comment.as_slice())?;
@@ -329,35 +333,37 @@ fn obliged(kind: Kind) -> usize
     }
 }
 
-/// Appends each line of the second region as `write_own_line` does, in order. `own` is the constraints of the lines, `rows`
-/// their obligations, one constraint's after the other's.
+/// Appends each line of the second region as `write_own_line` does, in order. `own` is the constraints of the lines,
+/// `owed` has the obligations of one constraint after those of the other.
 fn write_own_lines(
     alloc: Global,
     out: &mut Vec<u8>,
     asked: &Containment<'_>,
     free: &Problem,
     own: &[Constraint],
-    rows: &[Row],
-    proofs: &[Certificate],
+    owed: &Obligations<'_>,
 ) -> Result<(), AllocError>
     requires contains { IsContainment asked.now.question.now.body.verb }
     requires counted { length asked.now.parts.now ≡ length (auxiliary_names asked.now.question.now.body.names asked.now.question.now.body.verb) }
     requires origins { origins_of asked.now.constraints.now ≡ question_origins asked.now.question.now.body }
-    requires there { AreListed (variable_count asked.now.question.now.body) (length asked.now.constraints.now) proofs.now }
+    requires there { AreListed (variable_count asked.now.question.now.body) (length asked.now.constraints.now) owed.now.proofs.now }
     requires free { IsFreeProblem asked.now.question.now.body free.now }
-    requires over { All (IsOver (size_of free.now.space)) rows.now }
-    requires as_many { length rows.now ≡ length proofs.now }
-    requires all { HasObligations own.now (length rows.now) }
-    ensures { OnOk result (AppendsEachOwnLine asked.now.question.now.body asked.now.options asked.now.parts.now own.now rows.now (map certificate_view proofs.now) out.old.items out.new.items) }
+    requires over { All (IsOver (size_of free.now.space)) owed.now.rows.now }
+    requires as_many { length owed.now.rows.now ≡ length owed.now.proofs.now }
+    requires all { HasObligations own.now (length owed.now.rows.now) }
+    ensures { OnOk result (AppendsEachOwnLine asked.now.question.now.body asked.now.options asked.now.parts.now own.now owed.now.rows.now (certificates_of owed.now) out.old.items out.new.items) }
 {
-    let mut rows_left = rows;
-    let mut proofs_left = proofs;
+    let mut rows_left = owed.rows;
+    let mut proofs_left = owed.proofs;
     for constraint in own {
         let count = obliged(constraint.kind);
         let (own_rows, later_rows) = rows_left.split_at(count);
         let (own_proofs, later_proofs) = proofs_left.split_at(count);
-        let origin = constraint.origin;
-        write_own_line(alloc, out, asked, free, origin, own_rows, own_proofs)?;
+        let of_line = Obligations {
+            rows: own_rows,
+            proofs: own_proofs,
+        };
+        write_own_line(alloc, out, asked, free, constraint.origin, &of_line)?;
         rows_left = later_rows;
         proofs_left = later_proofs;
     }
@@ -391,5 +397,6 @@ pub fn write_contained(
     }
     let free = free_problem(alloc, asked.question);
     let own = own_constraints(alloc, asked.question)?;
-    write_own_lines(alloc, out, asked, &free, own.as_slice(), rows, proofs)
+    let owed = Obligations { rows, proofs };
+    write_own_lines(alloc, out, asked, &free, own.as_slice(), &owed)
 }

@@ -1,10 +1,9 @@
 //! The lines below the first one of an answer: proofs and points, and those of regions and containments.
-ghost use Rattle.std.specs.Prelude.{◌≡◌, ◌≤◌, ◌<◌, ◌+◌, ◌^◌, ◌++◌, length, map, codes, All, IfOk, IfSome, OnOk};
+ghost use Rattle.std.specs.Prelude.{◌≡◌, ◌≤◌, ◌<◌, ◌+◌, ◌^◌, ◌++◌, length, map, codes, IfOk, IfSome, OnOk};
 ghost use Rattle.std.specs.List.{flat_map};
 ghost use Rattle.it_space.specs.Answers.{answer_view, certificate_view};
 ghost use Rattle.it_space.specs.Rows.{value};
 ghost use Rattle.it_space.specs.Answers.AnswerView.{Yes};
-ghost use Rattle.it_polymatroid.specs.Elementals.{elementals};
 ghost use Rattle.it_syntax.specs.Meaning.{relation_view};
 ghost use Rattle.it_question.specs.Questions.{Prove};
 ghost use Rattle.it_question.specs.ProblemLines.{problem_names};
@@ -16,7 +15,7 @@ ghost use Rattle.it_polymatroid.specs.Certificates.{Form};
 ghost use Rattle.it_report.specs.Steps.{IsAboutRelation};
 ghost use Rattle.it_terms.specs.FunctionProofs.{ArePrinted};
 ghost use Rattle.it_tell.specs.Tellings.{ArePrintedSteps, ArePrintedTexts, AreProofSteps, AreProofTexts, IsPointText, IsProofText, indented_line, step_line, weights_text};
-ghost use Rattle.it_tell.specs.Steps.{AppendsDetails, AppendsPoint, AppendsProof, AppendsProofs, AreFormRows, IsStyled, form_with_proof};
+ghost use Rattle.it_tell.specs.Steps.{AppendsDetails, AppendsPoint, AppendsProof, AppendsProofs, AreFormRows, IsListed, IsStyled, proven_form};
 
 use crate::containments::{Containment, write_contained};
 use crate::regions::write_rows;
@@ -49,7 +48,7 @@ fn weights_text(
     constraints: &[Constraint],
     certificate: &Certificate,
 ) -> Result<Vec<u8>, AllocError>
-    requires there { All (λ w. w.0 < length (elementals (variable_count question.now.body)) + length constraints.now) certificate.now.weights.items }
+    requires there { IsListed (variable_count question.now.body) (length constraints.now) certificate.now }
     ensures { IfOk result (λ t. t.items ≡ weights_text question.now.body (origins_of constraints.now) (certificate_view certificate.now)) }
 {
     let mut out = Vec::new(alloc);
@@ -212,8 +211,8 @@ fn printed_texts(
 #[tactic(auto, unfolding(crate::specs::Tellings::IsProofText))]
 fn plain_proof(alloc: Global, asked: &Asked<'_>, proven: &Proven<'_>) -> Result<Vec<u8>, AllocError>
     requires origins { origins_of asked.now.constraints.now ≡ question_origins asked.now.question.now.body }
-    requires there { All (λ w. w.0 < length (elementals (variable_count asked.now.question.now.body)) + length asked.now.constraints.now) proven.now.certificate.now.weights.items }
-    ensures { IfOk result (λ t. IsProofText asked.now.question.now.body (form_with_proof proven.now.row.now proven.now.certificate.now) t.items) }
+    requires there { IsListed (variable_count asked.now.question.now.body) (length asked.now.constraints.now) proven.now.certificate.now }
+    ensures { IfOk result (λ t. IsProofText asked.now.question.now.body (proven_form proven.now) t.items) }
 {
     let question = asked.question;
     match told_form(alloc, question, proven, asked.options.short)? {
@@ -243,8 +242,8 @@ fn steps_of(
 /// The texts of the proof of a row as an equation that is true of every map, or its weights.
 fn plain_texts(alloc: Global, asked: &Asked<'_>, proven: &Proven<'_>) -> Result<Texts, AllocError>
     requires origins { origins_of asked.now.constraints.now ≡ question_origins asked.now.question.now.body }
-    requires there { All (λ w. w.0 < length (elementals (variable_count asked.now.question.now.body)) + length asked.now.constraints.now) proven.now.certificate.now.weights.items }
-    ensures { IfOk result (λ t. AreProofTexts asked.now.question.now.body asked.now.options (form_with_proof proven.now.row.now proven.now.certificate.now) (record { proof = t.proof.items; steps = map (λ s. s.items) t.steps.items })) }
+    requires there { IsListed (variable_count asked.now.question.now.body) (length asked.now.constraints.now) proven.now.certificate.now }
+    ensures { IfOk result (λ t. AreProofTexts asked.now.question.now.body asked.now.options (proven_form proven.now) (record { proof = t.proof.items; steps = map (λ s. s.items) t.steps.items })) }
 {
     let proof = plain_proof(alloc, asked, proven)?;
     let steps = steps_of(alloc, asked.question, asked.options, proof.as_slice())?;
@@ -255,8 +254,8 @@ fn plain_texts(alloc: Global, asked: &Asked<'_>, proven: &Proven<'_>) -> Result<
 #[tactic(auto, unfolding(crate::specs::Tellings::AreProofTexts))]
 fn proof_texts(alloc: Global, asked: &Asked<'_>, proven: &Proven<'_>) -> Result<Texts, AllocError>
     requires origins { origins_of asked.now.constraints.now ≡ question_origins asked.now.question.now.body }
-    requires there { All (λ w. w.0 < length (elementals (variable_count asked.now.question.now.body)) + length asked.now.constraints.now) proven.now.certificate.now.weights.items }
-    ensures { IfOk result (λ t. AreProofTexts asked.now.question.now.body asked.now.options (form_with_proof proven.now.row.now proven.now.certificate.now) (record { proof = t.proof.items; steps = map (λ s. s.items) t.steps.items })) }
+    requires there { IsListed (variable_count asked.now.question.now.body) (length asked.now.constraints.now) proven.now.certificate.now }
+    ensures { IfOk result (λ t. AreProofTexts asked.now.question.now.body asked.now.options (proven_form proven.now) (record { proof = t.proof.items; steps = map (λ s. s.items) t.steps.items })) }
 {
     match printed_texts(alloc, asked.question, proven, asked.options)? {
         Some(texts) => Ok(texts),
@@ -292,8 +291,8 @@ pub fn write_proof(
     proven: &Proven<'_>,
 ) -> Result<(), AllocError>
     requires origins { origins_of asked.now.constraints.now ≡ question_origins asked.now.question.now.body }
-    requires there { All (λ w. w.0 < length (elementals (variable_count asked.now.question.now.body)) + length asked.now.constraints.now) proven.now.certificate.now.weights.items }
-    ensures { OnOk result (AppendsProof asked.now.question.now.body asked.now.options (form_with_proof proven.now.row.now proven.now.certificate.now) out.old.items out.new.items) }
+    requires there { IsListed (variable_count asked.now.question.now.body) (length asked.now.constraints.now) proven.now.certificate.now }
+    ensures { OnOk result (AppendsProof asked.now.question.now.body asked.now.options (proven_form proven.now) out.old.items out.new.items) }
 {
     let texts = proof_texts(alloc, asked, proven)?;
     write_indented(out, texts.proof.as_slice())?;

@@ -8,6 +8,7 @@ use Rattle.it_contain.specs.Proposals.{Plan}
 use Rattle.it_answer.specs.RightAnswers.{IsAnswered}
 use Rattle.it_answer.specs.RowAnswers.{AnswersForms}
 use Rattle.it_answer.proofs.AnswerLemmas.{answers_relation, nothing_found}
+use Rattle.it_answer.proofs.ContainmentLemmas.{is_containment}
 use Rattle.it_answer.proofs.answering.answer_under.Goals as goal
 
 pub returns-in-Prove : goal.returns-in-Prove
@@ -24,3 +25,9 @@ pub returns-in-Eliminate : goal.returns-in-Eliminate
 returns-in-Eliminate g c =
     if_ok c.region.result (λ a. (plans : List Plan) → IsAnswered c.args.budgets plans c.args.question.now a plans)
     (λ a. IsAnswered c.args.budgets _ c.args.question.now a _) c.region.ensures (λ a x. x _)
+
+pub containment-requires-in-Contain : goal.containment-requires-in-Contain
+containment-requires-in-Contain g c = record {
+  contains = is_containment c.args.question.now.body c.in-Contain.first c.in-Contain.second
+      c.in-Contain.tries.items (sym c.verb.ensures.value ∙ ap verb_view c.in-Contain.is);
+}

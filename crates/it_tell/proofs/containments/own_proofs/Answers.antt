@@ -7,17 +7,17 @@ use Rattle.it_tell.proofs.containments.own_proofs.Goals as goal
 pub loop-i-init : goal.loop-i-init
 loop-i-init c =
     let q = c.args.asked.now.question.now.body in
-    let ws = map certificate_view c.args.proofs.now in
-    subst (λ (out : List ℕ). ObligationsAppended q c.args.asked.now.options c.args.rows.now ws [] out 0) (sym c.new-out.ensures.items)
-    (no_obligation_appended q c.args.asked.now.options c.args.rows.now ws [])
+    let ws = map certificate_view c.args.owed.now.proofs.now in
+    subst (λ (out : List ℕ). ObligationsAppended q c.args.asked.now.options c.args.owed.now.rows.now ws [] out 0) (sym c.new-out.ensures.items)
+    (no_obligation_appended q c.args.asked.now.options c.args.owed.now.rows.now ws [])
 
 pub loop-i-preserved : goal.loop-i-preserved
 loop-i-preserved c =
-    obligations_more c.args.asked.now.question.now.body c.args.asked.now.options c.args.rows.now c.args.proofs.now
+    obligations_more c.args.asked.now.question.now.body c.args.asked.now.options c.args.owed.now.rows.now c.args.owed.now.proofs.now
     c.index-rows-i.result c.index-proofs-i.result [] c.loop-i.out.items c.write_obligation.new.out.items
     c.loop-i.i c.loop-i.invariant c.requires.as_many (omega arith) c.index-rows-i.is c.index-proofs-i.is c.in_ok-write_obligation.ensures
 
 pub returns : goal.returns
 returns c =
-    all_obligations c.args.asked.now.question.now.body c.args.asked.now.options c.args.rows.now
-    (map certificate_view c.args.proofs.now) [] c.loop-i.out.items c.loop-i.i c.loop-i.invariant (simp length-map (omega arith))
+    all_obligations c.args.asked.now.question.now.body c.args.asked.now.options c.args.owed.now.rows.now
+    (map certificate_view c.args.owed.now.proofs.now) [] c.loop-i.out.items c.loop-i.i c.loop-i.invariant (simp length-map (omega arith))

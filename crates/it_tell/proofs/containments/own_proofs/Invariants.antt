@@ -4,4 +4,4 @@ use Rattle.it_tell.proofs.ProofLemmas.{ObligationsAppended}
 use Rattle.it_tell.proofs.containments.own_proofs.Given as goal
 
 abbrev pub invariant-loop-i : goal.invariant-loop-i
-invariant-loop-i l = ObligationsAppended l.asked.question.now.body l.asked.options l.rows (map certificate_view l.proofs) [] l.out.items l.i
+invariant-loop-i l = ObligationsAppended l.asked.question.now.body l.asked.options l.owed.rows.now (map certificate_view l.owed.proofs.now) [] l.out.items l.i
