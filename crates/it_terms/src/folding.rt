@@ -8,6 +8,7 @@ use it_syntax::types::{Atom, Term};
 use std::alloc::{AllocError, Global};
 
 /// How terms over closed sets are written: as the first of the question's own measures that they are, else with few names.
+#[derive(Drop)]
 pub struct Notation<'a> {
     pub closures: &'a Closures,
     pub measures: &'a [Measure],

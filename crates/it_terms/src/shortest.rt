@@ -46,6 +46,7 @@ impl Drop for LeastSum {
 }
 
 /// `scale` times the row `target`.
+#[derive(Drop)]
 pub struct Multiple<'a> {
     pub target: &'a Row,
     pub scale: i128,
