@@ -256,12 +256,7 @@ fn write_obligation(
     if is_by_shannon(free, proven.row, proven.certificate) {
         return Ok(());
     }
-    let told = Asked {
-        question: asked.question,
-        options: asked.options,
-        constraints: asked.constraints,
-    };
-    write_proof(alloc, out, &told, proven)?;
+    write_proof(alloc, out, asked, proven)?;
     Ok(())
 }
 
