@@ -256,7 +256,12 @@ fn write_obligation(
     if is_by_shannon(free, proven.row, proven.certificate) {
         return Ok(());
     }
-    write_proof(alloc, out, asked, proven)?;
+    let told = Asked {
+        question: asked.question,
+        options: asked.options,
+        constraints: asked.constraints,
+    };
+    write_proof(alloc, out, &told, proven)?;
     Ok(())
 }
 
