@@ -4,7 +4,7 @@ ghost use Rattle.it_syntax.specs.Givens.{given_view};
 ghost use Rattle.it_question.specs.Limits.{IsQuestion};
 ghost use Rattle.it_question.specs.QuestionLimits.{most_lines};
 ghost use Rattle.it_sharing.specs.declared.types.MadeFault.TheVariants.{Many};
-ghost use Rattle.it_sharing.specs.Sharings.{sharing_view, IsSharing, vanishing, knows, knows_nothing, made_question, question_under, maximal_count, minimal_count};
+ghost use Rattle.it_sharing.specs.Sharings.{vanishing, knows, knows_nothing, made_question, question_under, maximal_count, minimal_count};
 
 use crate::sets::{maximal_sets, minimal_sets};
 use crate::types::{Made, MadeFault, Sharing};
@@ -120,16 +120,16 @@ fn made_givens(
 
 /// The question whether the relation of `from` holds under `givens`.
 fn question(alloc: Global, from: &Sharing, givens: Vec<Given>) -> Result<Question, AllocError>
-    requires { IsQuestion (question_under (sharing_view from.now) (map given_view givens.items)).body }
-    ensures { IfOk result (λ q. q ≡ question_under (sharing_view from.now) (map given_view givens.items)) }
+    requires { IsQuestion (question_under from.now (map given_view givens.items)).body }
+    ensures { IfOk result (λ q. q ≡ question_under from.now (map given_view givens.items)) }
 {
     let body = Body {
-        names: from.names.copy()?,
+        names: from.names().copy()?,
         lines: OwnLines {
             givens,
             rows: Vec::new(alloc),
         },
-        verb: Verb::Prove(from.relation.copy()?),
+        verb: Verb::Prove(from.relation().copy()?),
     };
     Ok(body.with_source(Vec::new(alloc)))
 }
@@ -139,17 +139,16 @@ fn question(alloc: Global, from: &Sharing, givens: Vec<Given>) -> Result<Questio
 /// verb is `prove`, also where the least factor is asked for; it has no rows and no text. `Many` comes exactly where the sets are
 /// more than 64 together.
 pub fn made(alloc: Global, from: &Sharing) -> Result<Made, MadeFault>
-    requires { IsSharing (sharing_view from.now) }
-    ensures question { IfOk result (λ m. m.question ≡ made_question (sharing_view from.now)) }
-    ensures minimal { IfOk result (λ m. m.minimal ≡ minimal_count (sharing_view from.now)) }
-    ensures maximal { IfOk result (λ m. m.maximal ≡ maximal_count (sharing_view from.now)) }
+    ensures question { IfOk result (λ m. m.question ≡ made_question from.now) }
+    ensures minimal { IfOk result (λ m. m.minimal ≡ minimal_count from.now) }
+    ensures maximal { IfOk result (λ m. m.maximal ≡ maximal_count from.now) }
     ensures few { IfOk result (λ m. m.minimal + m.maximal ≤ most_lines) }
     ensures limits { IfOk result (λ m. IsQuestion m.question.body) }
-    ensures many { IfErr result (λ e. e ≡ Many → most_lines < minimal_count (sharing_view from.now) + maximal_count (sharing_view from.now)) }
+    ensures many { IfErr result (λ e. e ≡ Many → most_lines < minimal_count from.now + maximal_count from.now) }
 {
-    let listed = from.qualified.as_slice();
+    let listed = from.qualified();
     let minimal = minimal_sets(alloc, listed)?;
-    let maximal = maximal_sets(alloc, from.names.space().variables, listed)?;
+    let maximal = maximal_sets(alloc, from.variable_count(), listed)?;
     if minimal.len() + maximal.len() > MOST_LINES {
         return Err(MadeFault::Many);
     }
