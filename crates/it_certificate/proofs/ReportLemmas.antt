@@ -17,8 +17,7 @@ use Rattle.it_certificate.specs.declared.keys.ReportFault.{ReportFault}
 use Rattle.it_certificate.specs.declared.keys.ReportFault.TheVariants as faults
 use Rattle.it_certificate.specs.declared.types.Reported.TheVariants as reported
 use Rattle.it_certificate.specs.declared.types.ReportedBounds.{ReportedBounds}
-use Rattle.it_certificate.specs.declared.types.ReportedCode.{ReportedCode}
-use Rattle.it_certificate.specs.CodeReading.{ReportedCodeView, names_code, reported_code_view, tells_code}
+use Rattle.it_certificate.specs.CodeReading.{ReportedCodeView, names_code, tells_code}
 use Rattle.it_certificate.specs.OriginReading.{answer_origins, tells_origins}
 use Rattle.it_certificate.specs.Parts.{answer_kind_at}
 use Rattle.it_ratio.specs.BestViews.{BestView, best_view}
@@ -188,17 +187,17 @@ module _ (d : Data) (told : false ≡ tells_misfit d) (outer : false ≡ tells_o
       no_err faults.NotJson by = by
       no_err faults.Memory by = tt
 
-      pub code_ok : (a : Answer) (c : ReportedCode) → verb_answer q.body.names q.body.verb kinds.No d ≡ Ok (answer_view a)
-          → names_code q.body.names d ≡ Ok (reported_code_view c) → ReadsValue d (Ok (reported.Coded q a c))
+      pub code_ok : (a : Answer) (c : ReportedCodeView) → verb_answer q.body.names q.body.verb kinds.No d ≡ Ok (answer_view a)
+          → names_code q.body.names d ≡ Ok c → ReadsValue d (Ok (reported.Coded q a c))
       code_ok a c answered coded = (
-        Coded gives.0 (answer_view a) (reported_code_view c),
+        Coded gives.0 (answer_view a) c,
         (gives.2, refl, refl),
-        code_as gives.0 (Ok (answer_view a)) (Ok (reported_code_view c)) gives.1 (no_as_asked gives.0 q (Ok (answer_view a)) gives.2 answered)
-            (code_as_asked gives.0 q (Ok (reported_code_view c)) gives.2 coded),
+        code_as gives.0 (Ok (answer_view a)) (Ok c) gives.1 (no_as_asked gives.0 q (Ok (answer_view a)) gives.2 answered)
+            (code_as_asked gives.0 q (Ok c) gives.2 coded),
       )
 
       pub code_err : (a : Answer) (f : ReportFault) → verb_answer q.body.names q.body.verb kinds.No d ≡ Ok (answer_view a)
-          → GivesKeyed reported_code_view (Err f) (names_code q.body.names d) → ReadsValue d (Err f)
+          → GivesKeyed {A = ReportedCodeView} (λ c. c) (Err f) (names_code q.body.names d) → ReadsValue d (Err f)
       code_err a (faults.Shape key) answered coded = code_as gives.0 (Ok (answer_view a)) (Err key) gives.1
           (no_as_asked gives.0 q (Ok (answer_view a)) gives.2 answered)
           (code_as_asked gives.0 q (Err key) gives.2 coded)

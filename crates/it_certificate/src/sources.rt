@@ -6,7 +6,6 @@ ghost use Rattle.it_question.specs.Limits.{IsQuestion};
 ghost use Rattle.it_copy.specs.CopyLines.{AreNamed, copy_view};
 ghost use Rattle.it_certificate.specs.Parts.{text_of};
 ghost use Rattle.it_certificate.specs.ReportSteps.{GivesCopied, GivesExtended, GivesMade, GivesMadeFrom, GivesSource, refusal_by};
-ghost use Rattle.it_sharing.specs.Sharings.{IsSharing, sharing_view};
 ghost use Rattle.it_certificate.specs.Sources.{source_key};
 
 use crate::keys::{Key, Refusal};
@@ -50,8 +49,7 @@ pub fn source_key(value: &Value) -> Key
 
 /// The question that a sharing file makes, unless its sets are too many.
 fn made_from(alloc: Global, sharing: &Sharing) -> Result<Question, Refusal>
-    requires { IsSharing (sharing_view sharing.now) }
-    ensures reading { GivesMadeFrom (sharing_view sharing.now) result }
+    ensures reading { GivesMadeFrom sharing.now result }
     ensures limits { IfOk result (λ q. IsQuestion q.body) }
 {
     match made(alloc, sharing) {

@@ -6,7 +6,7 @@ use Rattle.it_space.specs.Answers.{AnswerView, answer_view}
 use Rattle.it_question.specs.Questions.{QuestionView}
 use Rattle.it_question.proofs.NumberLemmas.{QuestionHasSmallNumbers}
 use Rattle.it_certificate.specs.declared.keys.Key.{Key}
-use Rattle.it_certificate.specs.CodeReading.{ReportedCodeView, reported_code_view}
+use Rattle.it_certificate.specs.CodeReading.{ReportedCodeView}
 use Rattle.it_certificate.specs.Reports as reports
 use Rattle.it_certificate.specs.Reports.{IsReported, KeepsLimits, ReadsReport, Reading, Reports}
 use Rattle.it_certificate.specs.Sources.{Source, asked}
@@ -179,8 +179,8 @@ reported_line options k line text r read h told = by_reading read.0 r read.1 rea
     by_reading (reports.Coded source a c) (variants.Coded q answer code) same reads told =
         let back : IsCodedText options k (asked source).body a c text =
         subst (λ x. IsCodedText options k (asked source).body a x text) (sym same.2)
-        (subst (λ b. IsCodedText options k (asked source).body b (reported_code_view code) text) (sym same.1)
-        (subst (λ (x : QuestionView). IsCodedText options k x.body (answer_view answer) (reported_code_view code) text) (sym same.0) told)) in
+        (subst (λ b. IsCodedText options k (asked source).body b code text) (sym same.1)
+        (subst (λ (x : QuestionView). IsCodedText options k x.body (answer_view answer) code text) (sym same.0) told)) in
         record {
           telling = tellings.Coded source a c back.0;
           is = (record { verdict = h.verdict; is = h.is; accepted = h.accepted; reads = reads }, back.1.0);

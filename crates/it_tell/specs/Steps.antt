@@ -31,7 +31,7 @@ use Rattle.it_region.specs.AnswerForms.{answer_forms}
 use Rattle.it_ratio.specs.BestViews.{best_view}
 use Rattle.it_certificate.specs.Bounds.{bounds_view}
 use Rattle.it_tell.specs.Tellings.{AreDetails, AreProofTexts, Each, IsPointText, IsTelling, ProofTexts, Telling, best_words, bounds_words, head_line, indented_line, proof_lines, tells_invalid, telling_text, AreOwnLineTexts, TellsObligation, obligation_lines}
-use Rattle.it_certificate.specs.CodeReading.{ReportedCodeView, reported_code_view}
+use Rattle.it_certificate.specs.CodeReading.{ReportedCodeView}
 use Rattle.it_tell.specs.CodeTexts.{code_text}
 use Rattle.it_space.specs.Answers.AnswerView.{Contained}
 use Rattle.it_space.specs.declared.answers.Certificate.{Certificate}
@@ -63,7 +63,7 @@ IsCodedText options k q answer code text =
 -- the lines about what was read
 abbrev pub IsReportedText : Options → ℕ → Reported → List ℕ → Type 0
 IsReportedText options k (variants.Answered question answer) text = IsAnsweredText options k question.body (answer_view answer) text
-IsReportedText options k (variants.Coded question answer code) text = IsCodedText options k question.body (answer_view answer) (reported_code_view code) text
+IsReportedText options k (variants.Coded question answer code) text = IsCodedText options k question.body (answer_view answer) code text
 IsReportedText options k (variants.Derived question answer origins) text = IsAnsweredText options k question.body (answer_view answer) text
 IsReportedText options k (variants.Factored question best) text = text ≡ numbered_line k (best_words (best_view best))
 IsReportedText options k (variants.Bounded question bounds) text = text ≡ numbered_line k (bounds_words (bounds_view bounds))

@@ -5,7 +5,7 @@ ghost use Rattle.it_canon.specs.QuestionDemands.{question_demands};
 ghost use Rattle.it_certificate.specs.AnswerShapes.{HasQuestionShape};
 ghost use Rattle.it_print.specs.Lines.{IsPrintable};
 ghost use Rattle.it_certificate.specs.Bounds.{bounds_view};
-ghost use Rattle.it_certificate.specs.CodeReading.{HasCodedShape, reported_code_view};
+ghost use Rattle.it_certificate.specs.CodeReading.{HasCodedShape};
 ghost use Rattle.it_certificate.specs.Reports.{KeepsLimits};
 ghost use Rattle.it_report.specs.LineVerdicts.{numbered_line};
 ghost use Rattle.it_tell.specs.Tellings.{bounds_words};
@@ -61,9 +61,9 @@ fn coded_text(
     answer: &Answer,
     code: &ReportedCode,
 ) -> Result<Vec<u8>, AllocError>
-    requires fits { HasCodedShape question.now.body (answer_view answer.now) (reported_code_view code.now) }
+    requires fits { HasCodedShape question.now.body (answer_view answer.now) code.now }
     requires printable { IsPrintable question.now.body (length (question_demands question.now.body)) answer.now }
-    ensures { IfOk result (λ t. IsCodedText options k question.now.body (answer_view answer.now) (reported_code_view code.now) t.items) }
+    ensures { IfOk result (λ t. IsCodedText options k question.now.body (answer_view answer.now) code.now t.items) }
 {
     let mut text = answered_text(alloc, options, k, question, answer)?;
     let code_line = code_text(alloc, question.names(), code)?;
