@@ -35,8 +35,8 @@ use Rattle.it_region.specs.Pairs.{IsPair, IsPairOf, Pairs, IsContainment, FitsPa
 use Rattle.it_region.proofs.TextLemmas.{text_rows, parts_fit, rows_as_pulled, pulled_rows_are}
 use Rattle.it_certificate.specs.AnswerShapes.{HasQuestionShape, HasVerbShape, HasContainmentShape, IsRowIn}
 use Rattle.it_certificate.specs.Bounds.{BoundsView, bounds_view}
-use Rattle.it_certificate.specs.CodeReading.{HasCodedShape, IsNo, ReportedCodeView, reported_code_view}
-use Rattle.it_codes.specs.Codes.{AreEntropies, IsCode, IsFirstOther, variables_of}
+use Rattle.it_certificate.specs.CodeReading.{HasCodedShape, IsNo, ReportedCodeView}
+use Rattle.it_codes.specs.Codes.{AreEntropies, IsFirstOther, variables_of}
 use Rattle.it_certificate.specs.declared.keys.Key.{Key}
 use Rattle.it_certificate.specs.declared.keys.ReportFault.{ReportFault}
 use Rattle.it_certificate.specs.OriginReading.{IsRegion, rows_of}
@@ -190,8 +190,8 @@ module _ {L E : Type 0} (text : L → List ℕ) (invalid : L → Bool) (k : ℕ)
       by_reading (Coded source a c) (variants.Coded question answer code) same h judged =
           let verdict : IsCodedVerdict (asked source).body a c judged.verdict =
           subst (λ x. IsCodedVerdict (asked source).body a x judged.verdict) (sym same.2)
-          (subst (λ x. IsCodedVerdict (asked source).body x (reported_code_view code) judged.verdict) (sym same.1)
-          (subst (λ (q : QuestionView). IsCodedVerdict q.body (answer_view answer) (reported_code_view code) judged.verdict) (sym same.0) judged.is)) in
+          (subst (λ x. IsCodedVerdict (asked source).body x code judged.verdict) (sym same.1)
+          (subst (λ (q : QuestionView). IsCodedVerdict q.body (answer_view answer) code judged.verdict) (sym same.0) judged.is)) in
           record { verdict = judged.verdict; is = read_verdict line (Coded source a c) judged.verdict h verdict; told = judged.told }
       by_reading (Coded source a c) (variants.Derived question answer origins) same h judged = absurd same
       by_reading (Coded source a c) (variants.Factored question best) same h judged = absurd same
@@ -442,14 +442,6 @@ module _ (q : BodyView) (p : Pair) (parts : List ℕ) (ws : List CertificateView
       ∙ sym (ap (λ v. answer_forms_by q v (Contained parts ws)) e)) (text_rows q first second p o c ts are))
 
 -- ---- a code
-
--- a code of the question's variables is one that calls take
-pub code_is : (q : BodyView) (a : AnswerView) (c : ReportedCodeView) → IsQuestion q → HasCodedShape q a c → IsCode c.code
-code_is q a c k h = record {
-  some = subst (λ n. 1 ≤ n) (sym h.code.variables) k.some;
-  few = subst (λ n. n ≤ 10) (sym h.code.variables) k.few;
-  messages = h.code.messages;
-}
 
 -- the values of the point are those of all sets
 pub values_complete : (q : BodyView) (a : AnswerView) (c : ReportedCodeView) → HasCodedShape q a c → 2 ^ variables_of c.code - 1 ≤ length (values_of a)

@@ -7,7 +7,7 @@ ghost use Rattle.it_question.specs.Questions.{Prove};
 ghost use Rattle.it_certificate.specs.AnswerShapes.{HasQuestionShape};
 ghost use Rattle.it_ratio.specs.BestViews.{best_view};
 ghost use Rattle.it_certificate.specs.FactorShapes.{HasFactorShape};
-ghost use Rattle.it_certificate.specs.CodeReading.{HasCodedShape, IsNo, reported_code_view};
+ghost use Rattle.it_certificate.specs.CodeReading.{HasCodedShape, IsNo};
 ghost use Rattle.it_certificate.specs.OriginReading.{HasDerivedShape, IsRegion, rows_of};
 ghost use Rattle.it_report.specs.Judging.{IsJudgedLine, factor_line_verdict, values_of};
 ghost use Rattle.it_report.specs.LineVerdicts.{IsLineOf};
@@ -15,7 +15,7 @@ ghost use Rattle.it_certificate.specs.Reports.{KeepsLimits};
 ghost use Rattle.it_report.specs.Steps.{IsAboutRelation, IsFaultLine, IsJudgedAnswer, IsJudgedCoded, IsJudgedDerived, IsJudgedReport};
 
 use crate::bounds::bounds_line;
-use crate::factors::best_verdict;
+use crate::factors::{SideRows, best_verdict};
 use crate::lines::{
     JudgedLine, factor_line, not_json_line, other_line, shape_line, skipped_line, verdict_line,
 };
@@ -171,16 +171,15 @@ fn coded_line(
     answer: &Answer,
     code: &ReportedCode,
 ) -> Result<JudgedLine, AllocError>
-    requires fits { HasCodedShape question.now.body (answer_view answer.now) (reported_code_view code.now) }
-    ensures { IfOk result (λ j. IsJudgedCoded k question.now.body (answer_view answer.now) (reported_code_view code.now) j.text.items j.invalid) }
+    requires fits { HasCodedShape question.now.body (answer_view answer.now) code.now }
+    ensures { IfOk result (λ j. IsJudgedCoded k question.now.body (answer_view answer.now) code.now j.text.items j.invalid) }
 {
-    question.facts();
     let judged = answer_line(alloc, k, question, answer)?;
     if judged.invalid {
         return Ok(judged);
     }
     let point = point_of(answer);
-    let other = first_other(alloc, &code.code, code.times as u64, point)?;
+    let other = first_other(alloc, code.code(), code.times() as u64, point)?;
     match other {
         Some(set) => other_line(alloc, k, problem_names(question), set),
         None => Ok(judged),
@@ -245,7 +244,11 @@ fn best_line(
 {
     let problem = problem(alloc, question)?;
     let (left, right) = sides(alloc, relation_of(question), problem.space())?;
-    match best_verdict(alloc, &problem, &left, &right, best)? {
+    let rows = SideRows {
+        left: &left,
+        right: &right,
+    };
+    match best_verdict(alloc, &problem, rows, best)? {
         Some(verdict) => factor_line(alloc, k, problem_names(question), &verdict),
         None => skipped_line(alloc, k),
     }
