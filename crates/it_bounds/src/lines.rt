@@ -45,7 +45,13 @@ pub fn reply_lines(
                 question,
                 constraints,
             };
-            bounds_lines(alloc, &posed, rows.as_slice(), proofs.as_slice(), rays.as_slice())
+            bounds_lines(
+                alloc,
+                &posed,
+                rows.as_slice(),
+                proofs.as_slice(),
+                rays.as_slice(),
+            )
         }
         Reply::Undecided(cause) => undecided_line(alloc, limits, k, problem_names(question), cause),
         Reply::Size => word_line(alloc, k, b" undecided size\n"),
@@ -133,7 +139,8 @@ fn write_row(
     out.extend_from_slice(b" row ")?;
     out.extend_from_slice(row.0.word().as_bytes())?;
     out.extend_from_slice(b" ")?;
-    let text = row_text(alloc, &row.1, Kind::Inequality, problem_names(posed.question))?;
+    let names = problem_names(posed.question);
+    let text = row_text(alloc, &row.1, Kind::Inequality, names)?;
     out.extend_from_slice(text.as_slice())?;
     out.extend_from_slice(b" by ")?;
     write_proof(alloc, out, posed, proof)?;

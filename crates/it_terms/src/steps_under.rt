@@ -150,7 +150,11 @@ fn add_piece(tally: &mut Tally, under: &Under<'_>, piece: &Piece) -> Result<(), 
             if index >= constraints.len() {
                 return Err(Untold::NotFound);
             }
-            tally.add_terms(under.notation.closures, constraints[index].row.terms(), *times)
+            tally.add_terms(
+                under.notation.closures,
+                constraints[index].row.terms(),
+                *times,
+            )
         }
     }
 }
@@ -174,7 +178,12 @@ fn left_text(
         Piece::Named(_) if is_zero(sum) => Ok(Vec::new(alloc)),
         _ => {
             let terms = with_piece(alloc, sum, piece)?;
-            terms_text(alloc, under.notation.measures, under.names, terms.as_slice())
+            terms_text(
+                alloc,
+                under.notation.measures,
+                under.names,
+                terms.as_slice(),
+            )
         }
     }
 }
@@ -196,7 +205,12 @@ fn step_sides(
         None => {
             let space = under.names.space();
             let terms = tally.terms(alloc, under.notation, space)?;
-            let text = terms_text(alloc, under.notation.measures, under.names, terms.as_slice())?;
+            let text = terms_text(
+                alloc,
+                under.notation.measures,
+                under.names,
+                terms.as_slice(),
+            )?;
             or_zero(alloc, text.as_slice())?
         }
     };
