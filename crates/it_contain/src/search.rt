@@ -2,6 +2,7 @@
 ghost use Rattle.std.specs.Prelude.{◌≡◌, ◌<◌, ◌+◌, map, drop, vec_len, IfOk, OnOk};
 ghost use Rattle.it_region.specs.Pairs.{IsPair};
 ghost use Rattle.it_contain.specs.Search.{pair_goal, PairEnds};
+ghost use Rattle.it_contain.specs.Shapes.{IsShape, shape_of};
 ghost use Rattle.it_contain.specs.SearchSteps.{AreOutcomes, BoxEnds, Judges, KeepsLater, KeepsPending, ListEnds, plans_after_try};
 
 use crate::boxes::{begin_all, next_at, teach_all, tell_all};
@@ -126,6 +127,18 @@ fn try_box(
     Ok(Contained::Open { tried: tries })
 }
 
+/// The shape of a pair's candidates.
+fn shape_of(pair: &Pair) -> Shape
+    requires pair { IsPair pair.now }
+    ensures value { result ≡ shape_of pair.now }
+    ensures shape { IsShape result }
+{
+    Shape {
+        variables: pair.first.space.variables,
+        parts: pair.parts,
+    }
+}
+
 /// Tries the first `tries` candidates of the plan for the shape of the goal's pair.
 fn try_all(
     alloc: Global,
@@ -139,10 +152,7 @@ fn try_all(
     requires outcomes { AreOutcomes goal.now.pair.now.first goal.now.effort outcomes.old }
     ensures { IfOk result (λ r. PairEnds goal.now.pair.now goal.now.effort tries first.now (map plan boxes.old.items) r (map plan boxes.new.items)) }
 {
-    let shape = Shape {
-        variables: goal.pair.first.space.variables,
-        parts: goal.pair.parts,
-    };
+    let shape = shape_of(goal.pair);
     begin_all(boxes, shape);
     let mut count = match try_list(alloc, goal, first, boxes, tries, outcomes)? {
         Contained::Found(candidate, proof) => return Ok(Contained::Found(candidate, proof)),

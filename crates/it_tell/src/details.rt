@@ -89,7 +89,7 @@ fn relation_rows(
 }
 
 /// A question with how it is told and the constraints of its problem, which are the generators after the elemental inequalities.
-#[derive(Drop)]
+#[derive(Clone, Copy)]
 pub struct Asked<'a> {
     pub question: &'a Question,
     pub options: Options,

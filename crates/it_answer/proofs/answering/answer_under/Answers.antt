@@ -26,8 +26,8 @@ returns-in-Eliminate g c =
     if_ok c.region.result (λ a. (plans : List Plan) → IsAnswered c.args.budgets plans c.args.question.now a plans)
     (λ a. IsAnswered c.args.budgets _ c.args.question.now a _) c.region.ensures (λ a x. x _)
 
-pub containment-requires-in-Contain : goal.containment-requires-in-Contain
-containment-requires-in-Contain g c = record {
+pub containment-requires : goal.containment-requires
+containment-requires g c = record {
   contains = is_containment c.args.question.now.body c.in-Contain.first c.in-Contain.second
       c.in-Contain.tries.items (sym c.verb.ensures.value ∙ ap verb_view c.in-Contain.is);
 }

@@ -17,6 +17,6 @@ returns g c =
     let answered =
     question_is_answered q a b tries p c.facts.ensures is c.in_ok-pair.ensures.limits
     (pair_of_verb q a b tries p is c.in_ok-pair.ensures.pair) c.args.budgets _ _
-    c.in_ok-end.end c.as_slice.result.now (answer_view c.in_ok-answer.answer)
-    (c.as_slice.ensures.value ∙ c.in_ok-tried.ensures) c.in_ok-answer.ensures c.in_ok-end.ensures in
+    c.in_ok-end.end c.as_slice-2.result.now (answer_view c.in_ok-answer.answer)
+    (c.as_slice-2.ensures.value ∙ (rw c.as_slice.ensures.value at c.in_ok-tried.ensures)) c.in_ok-answer.ensures c.in_ok-end.ensures in
     record { found = found_of c.in_ok-end.end; right = answered.0; learned = answered.1 }

@@ -20,7 +20,8 @@ loop-i-init g c =
       within = open_within (pair_goal c.args.goal.now.pair.now c.args.goal.now.effort) c.args.tries c.in-Open.tried c.args.first.now o.0;
       open_so_far = open_at_first (pair_goal c.args.goal.now.pair.now c.args.goal.now.effort) c.args.tries c.args.first.now [] c.in-Open.tried o.0;
       plans = o.1 ∙ c.begin_all.ensures.plan;
-      later = open_keeps_later c.in_ok-candidate.field-0 c.in-Open.tried _ _ c.in_ok-candidate.ensures.later c.in-Open.is ∙ c.begin_all.ensures.pending;
+      later = open_keeps_later c.in_ok-candidate.field-0 c.in-Open.tried _ _ c.in_ok-candidate.ensures.later c.in-Open.is
+          ∙ (rw c.shape_of-shape.ensures.value at c.begin_all.ensures.pending);
       outcomes = search rules;
     }
 
