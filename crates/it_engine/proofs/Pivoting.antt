@@ -1,10 +1,11 @@
 -- A pivot under way: row r is taken out, and the rows below i are updated.
 use Rattle.std.proofs.Common.{◌≡◌, ◌≢◌, ◌⊎◌, inl, inr, ℤ, pos, ◌≤ℤ◌, ◌^◌, unsigned_abs, refl, ℕ, suc, ◌+◌, ◌-◌, ◌<◌, ◌≤◌, List, [], length, slice_index_or, slice_set, sym, ap, subst, ◌∙◌, arith}
 use Rattle.std.proofs.lemmas.Bool.{cases_eq, cases_lt}
+use Rattle.std.proofs.lemmas.Int.{ints}
 use Rattle.std.proofs.lemmas.List.{get_or-set_same, get_or-set_other, length-set}
 use Rattle.it_engine.specs.Behind.{after_rows, AreNullElsewhere, IsNextMoved}
 use Rattle.it_engine.specs.PivotedRows.{AreUsable, AreWholeRowsPivoted, IsRowUpdated, IsWholeRowDivided}
-use Rattle.it_whole.specs.Updates.{IsQuotient, IsUpdated}
+use Rattle.it_whole.specs.Updates.{IsLeaving, IsQuotient, IsUpdated}
 use Rattle.it_whole.specs.WholeRows.{IsUsable, WholeRowView}
 use Rattle.it_engine.specs.Tables.{whole_row_at}
 use Rattle.it_engine.proofs.DividedRows.{divided_row, less_divided, shortened_divided}
@@ -115,6 +116,18 @@ pub own_usable : (limit : ℕ) (old : List WholeRowView) (entries : List ℤ) (r
 own_usable limit old entries r own hr usable hp q =
     let u : IsUsable (length old) limit own = quotient_usable (length old) limit (whole_row_at old r) (number_at entries r) own (usable r hr) hp q in
     subst (λ (n : ℕ). IsUsable n limit own) (sym u.length_is) u
+
+-- a usable row may leave, divided by its entry, which its denominator then represents
+pub own_leaves : (limit : ℕ) (own : WholeRowView) (p : ℤ) → IsUsable (length own.numbers) limit own → p ≡ pos own.bottom → limit < 2 ^ 63
+    → IsLeaving limit own p
+own_leaves limit own p u e h = record {
+  usable = u;
+  positive = subst (λ (z : ℤ). pos 1 ≤ℤ z) (sym e) (at_least_one own.bottom u.some);
+  limit_is = h;
+}
+  where
+    at_least_one : (n : ℕ) → 0 < n → pos 1 ≤ℤ pos n
+    at_least_one n h = omega (arith, ints, h)
 
 -- all rows are updated by the row that leaves as divided by its entry, and that row is row r
 pub pivot_ends : (limit : ℕ) (old : List WholeRowView) (entries : List ℤ) (r : ℕ) (own : WholeRowView) (now : List WholeRowView) (i : ℕ)

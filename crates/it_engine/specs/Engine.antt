@@ -12,6 +12,7 @@ use Rattle.it_run.specs.Runs.{RunEndView}
 use Rattle.it_run.specs.Runs.RunEndView.{Weights, Point, Pivots}
 use Rattle.it_run.specs.Steps.{ReachesBy}
 use Rattle.it_engine.specs.declared.blocks.Notes.{Notes}
+use Rattle.it_engine.specs.declared.blocks.Scratch.{Scratch}
 use Rattle.it_engine.specs.declared.engine.EngineEnd.{EngineEnd}
 use Rattle.it_engine.specs.declared.engine.EngineEnd.TheVariants as engine_ends
 use Rattle.it_engine.specs.PivotedRows.{AreFitting, AreUsable}
@@ -23,10 +24,14 @@ pub record EngineView : Type 0 where
   pub rows : List WholeRowView
   pub basis : List ℕ
 
--- for height basic columns there is room for a pivot's notes on the leaving row, for a row, and for an entry and a mark of each row
+-- there is room for a pivot's notes on a leaving row of width numbers, and for a row
+pub record HasSpace (width : ℕ) (scratch : Scratch) : Type 0 where
+  pub next_is : length scratch.next.items ≡ width + 1
+  pub room_is : length scratch.room.items ≡ width
+
+-- for height basic columns there is room for a pivot, and for an entry and a mark of each row
 pub record HasRoom (height : ℕ) (notes : Notes) : Type 0 where
-  pub next_is : length notes.next.items ≡ height + 2
-  pub room_is : length notes.room.items ≡ height + 1
+  pub scratch : HasSpace (height + 1) notes.scratch
   pub entries_are : length notes.entries.items ≡ height + 1
   pub moved_is : length notes.moved.items ≡ height + 1
 

@@ -13,7 +13,9 @@ ghost use Rattle.it_engine.specs.Behind.{AreBaseBounds, AreEngineSteps, AreMoved
 ghost use Rattle.it_engine.specs.Engine.{HasRoom, IsSafe};
 ghost use Rattle.it_engine.specs.Loading.{IsNorm};
 
-use crate::blocks::{Block, Notes, Run, entry_at, note_moved, note_moved_entries, note_none_moved};
+use crate::blocks::{
+    Block, Moves, Notes, Run, entry_at, note_moved, note_moved_entries, note_none_moved,
+};
 use crate::bringing::{bring_all, bring_if_behind, shorten_moved};
 use crate::choice::{entering_column, is_above_zero, right_side};
 use crate::leaving::{Base, begin_base, combine_columns, first_to_leave};
@@ -126,8 +128,13 @@ fn make_step(
 {
     let moved = notes.moved.as_slice();
     let order = notes.order.as_slice();
-    let room = notes.room.as_mut_slice();
-    if !bring_if_behind(rows, run, basis, moved, order, room, row) {
+    let room = notes.scratch.room.as_mut_slice();
+    let moves = Moves {
+        basis,
+        moved,
+        order,
+    };
+    if !bring_if_behind(rows, run, &moves, room, row) {
         return false;
     }
     if !note_moved(notes.moved.as_mut_slice(), &mut notes.order, row) {
@@ -138,14 +145,12 @@ fn make_step(
         return false;
     }
     if !pivot_moved(
-        run.alloc,
         rows,
+        run,
         notes.order.as_slice(),
-        notes.next.as_mut_slice(),
-        notes.room.as_mut_slice(),
+        &mut notes.scratch,
         notes.entries.as_slice(),
         row,
-        run.limit,
     ) {
         return false;
     }
@@ -221,9 +226,14 @@ pub fn make_steps(
     let made = still_steps(rows, basis, notes, run, most)?;
     let moved = notes.moved.as_slice();
     let order = notes.order.as_slice();
-    let room = notes.room.as_mut_slice();
+    let room = notes.scratch.room.as_mut_slice();
     shorten_moved(rows, order, run.limit);
-    if bring_all(rows, run, basis, moved, order, room) {
+    let moves = Moves {
+        basis,
+        moved,
+        order,
+    };
+    if bring_all(rows, run, &moves, room) {
         Some(made)
     } else {
         None

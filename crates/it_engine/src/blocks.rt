@@ -40,13 +40,31 @@ pub struct Block<'a> {
     pub order: &'a [usize],
 }
 
-/// Working space of the steps. Between two calls only its size is known.
+/// Which rows moved since a block of steps began.
 #[derive(Drop)]
-pub struct Notes {
+pub struct Moves<'a> {
+    /// The basic column of each row but the cost row.
+    pub basis: &'a [usize],
+    /// Whether each row moved.
+    pub moved: &'a [bool],
+    /// The rows that moved, without the cost row, in ascending order.
+    pub order: &'a [usize],
+}
+
+/// Working space of a pivot. Between two calls only its size is known.
+#[derive(Drop)]
+pub struct Scratch {
     /// For rows in 64 bits: for each place of the leaving row, the next place where it isn't 0.
     pub next: Vec<usize>,
     /// Space for a row in 64 bits.
     pub room: Vec<i64>,
+}
+
+/// Working space of the steps. Between two calls only its size is known.
+#[derive(Drop)]
+pub struct Notes {
+    /// That of each pivot.
+    pub scratch: Scratch,
     /// The entries of the rows at the entering column.
     pub entries: Vec<i64>,
     /// Whether each row moved since the block began.
@@ -68,8 +86,7 @@ impl Notes {
         let entries = Vec::from_elem(alloc, 0, height + 1)?;
         let moved = Vec::from_elem(alloc, false, height + 1)?;
         Ok(Notes {
-            next,
-            room,
+            scratch: Scratch { next, room },
             entries,
             moved,
             order: Vec::new(alloc),

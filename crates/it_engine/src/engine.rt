@@ -92,6 +92,11 @@ impl Engine {
         Ok(Some(Engine::new(self.alloc, rows, basis)?))
     }
 
+    /// The allocator.
+    fn alloc(&self) -> Global {
+        self.alloc
+    }
+
     /// The rows, the cost row last.
     pub fn rows(&self) -> &[WholeRow]
         ensures { result.now ≡ self.now.rows }
@@ -136,22 +141,21 @@ impl Engine {
 
     /// Makes one step, if one is left, and returns whether it did; `None` if no row leaves or a number would be too large, and then
     /// nothing is known of the engine.
-    fn step(&mut self, columns: &[Column], limit: u64) -> Option<bool>
-        requires { IsSafe columns.now limit self.old.rows self.old.basis }
-        ensures { IfSome result (λ moved. IsEngineStepOrStuck columns.now limit self.old.rows self.old.basis self.new.rows self.new.basis moved) }
+    fn step(&mut self, run: &Run<'_>) -> Option<bool>
+        requires { IsSafe run.now.columns.now run.now.limit self.old.rows self.old.basis }
+        ensures { IfSome result (λ moved. IsEngineStepOrStuck run.now.columns.now run.now.limit
+            self.old.rows self.old.basis self.new.rows self.new.basis moved) }
     {
-        let Some(column) = self.next_column(columns) else {
+        let Some(column) = self.next_column(run.columns) else {
             return Some(false);
         };
         let row = enter(
-            self.alloc,
             self.rows.as_mut_slice(),
+            run,
             self.basis.as_slice(),
-            self.notes.next.as_mut_slice(),
-            self.notes.room.as_mut_slice(),
+            &mut self.notes.scratch,
             self.notes.entries.as_mut_slice(),
-            &columns[column],
-            limit,
+            &run.columns[column],
         )?;
         self.basis[row] = column;
         Some(true)
@@ -159,10 +163,10 @@ impl Engine {
 
     /// Makes at most `most` degenerate steps, and returns their number, which may be 0, and is 0 with rows in 64 bits. `None` if a number
     /// would be too large or allocation fails, and then nothing is known of the engine.
-    fn still_steps(&mut self, columns: &[Column], limit: u64, norm: u64, most: u32) -> Option<u32>
-        requires engine { IsSafe columns.now limit self.old.rows self.old.basis }
-        requires norm { IsNorm columns.now norm }
-        ensures steps { IfSome result (λ k. AreEngineSteps columns.now limit self.old.rows self.old.basis k self.new.rows self.new.basis) }
+    fn still_steps(&mut self, run: &Run<'_>, most: u32) -> Option<u32>
+        requires engine { IsSafe run.now.columns.now run.now.limit self.old.rows self.old.basis }
+        requires norm { IsNorm run.now.columns.now run.now.norm }
+        ensures steps { IfSome result (λ k. AreEngineSteps run.now.columns.now run.now.limit self.old.rows self.old.basis k self.new.rows self.new.basis) }
         ensures most { IfSome result (λ k. k ≤ most) }
     {
         if most == 0 || !self.cost_row().is_narrow() {
@@ -172,37 +176,27 @@ impl Engine {
             self.rows.as_mut_slice(),
             self.basis.as_mut_slice(),
             &mut self.notes,
-            &Run {
-                alloc: self.alloc,
-                columns,
-                limit,
-                norm,
-            },
+            run,
             most,
         )
     }
 
     /// Makes the run with `budget` as the most steps. `None` as for `run`.
-    fn run_within(
-        &mut self,
-        columns: &[Column],
-        limit: u64,
-        norm: u64,
-        budget: u32,
-    ) -> Option<EngineEnd>
-        requires engine { IsSafe columns.now limit self.old.rows self.old.basis }
-        requires norm { IsNorm columns.now norm }
-        ensures { IfSome result (λ finish. IsFinished columns.now limit self.old.rows self.old.basis (Some budget) self.new.rows self.new.basis finish) }
+    fn run_within(&mut self, run: &Run<'_>, budget: u32) -> Option<EngineEnd>
+        requires engine { IsSafe run.now.columns.now run.now.limit self.old.rows self.old.basis }
+        requires norm { IsNorm run.now.columns.now run.now.norm }
+        ensures { IfSome result (λ finish. IsFinished run.now.columns.now run.now.limit
+            self.old.rows self.old.basis (Some budget) self.new.rows self.new.basis finish) }
     {
         let mut k: u32 = 0;
         while k < budget {
             let most = most_still(k, budget - k - 1);
-            let made = self.still_steps(columns, limit, norm, most)?;
+            let made = self.still_steps(run, most)?;
             k += made;
             if self.is_done() {
                 return Some(EngineEnd::Weights);
             }
-            if !self.step(columns, limit)? {
+            if !self.step(run)? {
                 return Some(EngineEnd::Point);
             }
             k += 1;
@@ -210,28 +204,28 @@ impl Engine {
         if self.is_done() {
             return Some(EngineEnd::Weights);
         }
-        match self.next_column(columns) {
+        match self.next_column(run.columns) {
             Some(_) => Some(EngineEnd::Pivots(budget)),
             None => Some(EngineEnd::Point),
         }
     }
 
     /// Makes the run without a budget. It terminates, since no set of basic columns recurs (Bland 1977). `None` as for `run`.
-    fn run_on(&mut self, columns: &[Column], limit: u64, norm: u64) -> Option<EngineEnd>
-        requires engine { IsSafe columns.now limit self.old.rows self.old.basis }
-        requires stands { RepresentsSome columns.now limit self.old.rows self.old.basis }
-        requires norm { IsNorm columns.now norm }
-        ensures { IfSome result (λ finish. IsFinished columns.now limit self.old.rows self.old.basis None self.new.rows self.new.basis finish) }
+    fn run_on(&mut self, run: &Run<'_>) -> Option<EngineEnd>
+        requires engine { IsSafe run.now.columns.now run.now.limit self.old.rows self.old.basis }
+        requires stands { RepresentsSome run.now.columns.now run.now.limit self.old.rows self.old.basis }
+        requires norm { IsNorm run.now.columns.now run.now.norm }
+        ensures { IfSome result (λ finish. IsFinished run.now.columns.now run.now.limit self.old.rows self.old.basis None self.new.rows self.new.basis finish) }
     {
         let mut k: u32 = 0;
         'steps: loop {
             let most = most_still(k, u32::MAX);
-            let made = self.still_steps(columns, limit, norm, most)?;
+            let made = self.still_steps(run, most)?;
             k = k.saturating_add(made).saturating_add(1);
             if self.is_done() {
                 return Some(EngineEnd::Weights);
             }
-            if !self.step(columns, limit)? {
+            if !self.step(run)? {
                 return Some(EngineEnd::Point);
             }
         }
@@ -245,9 +239,15 @@ impl Engine {
         ensures { IfSome result (λ finish. IsFinished columns.now limit self.old.rows self.old.basis budget self.new.rows self.new.basis finish) }
     {
         let norm = norm(columns)?;
+        let run = Run {
+            alloc: self.alloc(),
+            columns,
+            limit,
+            norm,
+        };
         match budget {
-            Some(steps) => self.run_within(columns, limit, norm, steps),
-            None => self.run_on(columns, limit, norm),
+            Some(steps) => self.run_within(&run, steps),
+            None => self.run_on(&run),
         }
     }
 }

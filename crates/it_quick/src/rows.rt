@@ -2,11 +2,12 @@
 //!
 //! A row has a number at each place of the program: at place 0 the number 0, and at place `RIGHT` the row's value at the right side.
 ghost use Rattle.std.specs.Prelude.{◌≡◌};
-ghost use Rattle.std.specs.Option.{IfNone};
+ghost use Rattle.std.specs.Option.{IfNone, IfSome};
+ghost use Rattle.it_vectors.specs.Stretches.{AreStretches};
 
 use crate::numbers::at;
 use it_vectors::narrow_numbers::{
-    STRETCH, combine, divide, divisor, greatest_size, note_stretches,
+    STRETCH, Subtrahend, combine, divide, divisor, greatest_size, note_stretches,
 };
 use it_vectors::{lowest_terms, short_product};
 use std::alloc::{AllocError, Global};
@@ -173,13 +174,10 @@ impl InverseRow {
         };
         let Some(most) = combine(
             self.numbers.as_mut_slice(),
-            leaving.numbers.as_slice(),
-            leaving.starts.as_slice(),
-            leaving.noted,
+            &leaving.as_subtrahend(),
             a,
             b,
             self.most,
-            leaving.most,
             LIMIT,
         ) else {
             return false;
@@ -268,6 +266,24 @@ impl LeavingRow {
     /// The numbers.
     pub fn numbers(&self) -> &[i32] {
         self.numbers.as_slice()
+    }
+
+    /// The places where the stretches begin outside of which the row is 0, if they are known.
+    fn known_starts(&self) -> Option<&[usize]>
+        ensures { IfSome result (λ starts. AreStretches self.now starts.now) }
+    {
+        if self.noted {
+            Some(self.starts.as_slice())
+        } else {
+            None
+        }
+    }
+
+    /// The row as one whose multiples are subtracted from others.
+    fn as_subtrahend(&self) -> Subtrahend<'_>
+        ensures { result ≡ self.now }
+    {
+        Subtrahend::new(self.numbers.as_slice(), self.known_starts(), self.most)
     }
 
     /// Divides the row by `entry`, its entry in the entering column, which is above 0.

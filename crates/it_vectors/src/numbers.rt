@@ -12,6 +12,45 @@ ghost use Rattle.it_space.specs.Sums.{number_at};
 
 use crate::arithmetic::{narrow_difference, sum_within};
 use crate::divisors::Divisor;
+use std::marker::Model;
+
+/// A row whose multiples are subtracted from other rows.
+#[derive(Drop)]
+pub struct Subtrahend<'a> {
+    numbers: &'a [i64],
+    // the next places where the row isn't 0
+    next: &'a [usize],
+    // a bound on the absolute values of the numbers
+    most: u64,
+}
+
+impl<'a> Model for Subtrahend<'a> {
+    ghost use Rattle.std.specs.Prelude.{List, ℤ};
+    ghost use Rattle.it_vectors.specs.Sizes.{AreAtMost};
+    ghost use Rattle.it_vectors.specs.Places.{AreNextPlaces};
+
+    ghost Value = { List ℤ };
+
+    ghost view = { λ r. r.numbers.now };
+
+    ghost invariant = { λ r. (AreAtMost r.numbers.now r.most) × (AreNextPlaces r.numbers.now r.next.now) };
+}
+
+impl<'a> Subtrahend<'a> {
+    /// The row of `numbers`, which are at most `most` in absolute value; `next` has the next places where it isn't 0.
+    #[inline]
+    pub fn new(numbers: &'a [i64], next: &'a [usize], most: u64) -> Subtrahend<'a>
+        requires most { AreAtMost numbers.now most }
+        requires places { AreNextPlaces numbers.now next.now }
+        ensures { result ≡ numbers.now }
+    {
+        Subtrahend {
+            numbers,
+            next,
+            most,
+        }
+    }
+}
 
 /// The number at place `k` of `row`.
 #[inline]
@@ -198,25 +237,20 @@ fn combine_plain(row: &mut [i64], by: &[i64], next: &[usize], a: i64, b: i64)
     }
 }
 
-/// Multiplies the numbers of `row` by `a` and subtracts `b` times those of `by`; returns a bound on the results. `most` and
-/// `most_by` are bounds on the numbers of the two rows, and `next` has the next places where `by` isn't 0. `None` if a result
-/// would be above `limit` in absolute value: then nothing is known of the row.
+/// Multiplies the numbers of `row` by `a` and subtracts `b` times those of `by`; returns a bound on the results. `most` is a bound on
+/// the numbers of `row`. `None` if a result would be above `limit` in absolute value: then nothing is known of the row.
 pub fn combine(
     row: &mut [i64],
-    by: &[i64],
-    next: &[usize],
+    by: &Subtrahend<'_>,
     a: i64,
     b: i64,
     most: u64,
-    most_by: u64,
     limit: u64,
 ) -> Option<u64>
     requires even { length row.old ≡ length by.now }
     requires row { AreShort row.old }
     requires by { AreShort by.now }
-    requires places { AreNextPlaces by.now next.now }
     requires most { AreAtMost row.old most }
-    requires most_by { AreAtMost by.now most_by }
     requires a { unsigned_abs a < 2 ^ 63 }
     requires b { unsigned_abs b < 2 ^ 63 }
     requires limit { limit < 2 ^ 63 }
@@ -227,16 +261,16 @@ pub fn combine(
         row,
         most,
         a.unsigned_abs(),
-        most_by,
+        by.most,
         b.unsigned_abs(),
         limit,
     ) {
         Some(sum) => {
-            combine_plain(row, by, next, a, b);
+            combine_plain(row, by.numbers, by.next, a, b);
             Some(sum)
         }
         None => {
-            if combine_tested(row, by, a, b, limit) {
+            if combine_tested(row, by.numbers, a, b, limit) {
                 Some(limit)
             } else {
                 None

@@ -6,9 +6,8 @@ use Rattle.it_number.proofs.Divisors.{quotient_some}
 use Rattle.it_rational.specs.Rational.{Rational}
 use Rattle.it_vectors.specs.Combinations.{IsCombined}
 use Rattle.it_vectors.specs.Sizes.{AreAtMost}
-use Rattle.it_whole.specs.Combinations.{IsCombinedAndShortened}
 use Rattle.it_whole.specs.WholeRows.{IsUsable, IsRow, WholeRowView}
-use Rattle.it_whole.specs.Updates.{IsWholeRowReduced}
+use Rattle.it_whole.specs.Updates.{IsShortened, IsWholeRowReduced}
 use Rattle.it_whole.proofs.RowSteps.{less_row}
 use Rattle.it_whole.proofs.Usable.{factor_some, shortened_less}
 
@@ -62,19 +61,20 @@ module _ (width limit : ℕ) (old own new : WholeRowView) (z p a b : ℤ) (above
     pub multiple_usable : IsUsable width limit old → IsUsable width limit new
     multiple_usable u = combined_usable u with_factor (e ∙ times_factor)
 
-  module _ (bottom : ℕ) (short : limit < 2 ^ 31) (bottom_is : bottom ≡ old.bottom * unsigned_abs a)
-      (c : IsCombinedAndShortened width old.numbers own.numbers a b bottom new) (small : AreAtMost new.numbers limit) where
+  module _ (bottom : ℕ) (short : limit < 2 ^ 31) (bottom_is : bottom ≡ old.bottom * unsigned_abs a) (numbers : List ℤ)
+      (c : IsCombined width 9223372036854775807 old.numbers own.numbers a b numbers)
+      (s : IsShortened record { numbers = numbers; bottom = bottom } new) (small : AreAtMost new.numbers limit) where
     pub shortened_reduced : b ≡ int_quotient z (gcd (unsigned_abs p) (unsigned_abs z)) → old.bottom * unsigned_abs a < 2 ^ 63
         → IsWholeRowReduced width limit old own z p new
     shortened_reduced b_is low = reduced_within width limit 9223372036854775807 old own new z p (omega (arith, short)) small
-        (shortened_less width 9223372036854775807 old own record { numbers = c.numbers; bottom = bottom } new z p
-        (less_row width 9223372036854775807 old own record { numbers = c.numbers; bottom = bottom } z p a b above a_is b_is c.combined
-        bottom_is low) c.shortened)
+        (shortened_less width 9223372036854775807 old own record { numbers = numbers; bottom = bottom } new z p
+        (less_row width 9223372036854775807 old own record { numbers = numbers; bottom = bottom } z p a b above a_is b_is c
+        bottom_is low) s)
 
     pub room_usable : IsUsable width limit old → IsUsable width limit new
     room_usable u = record {
-      length_is = c.shortened.length_is ∙ c.combined.length_is;
-      some = quotient_some new.bottom c.shortened.shared bottom c.shortened.bottom_is
+      length_is = s.length_is ∙ c.length_is;
+      some = quotient_some new.bottom s.shared bottom s.bottom_is
           (subst (λ (k : ℕ). 0 < k) (sym bottom_is) (mul-pos u.some (factor_some p z a above a_is)));
-      small = λ k l. small k (omega (arith, l, c.shortened.length_is, c.combined.length_is));
+      small = λ k l. small k (omega (arith, l, s.length_is, c.length_is));
     }

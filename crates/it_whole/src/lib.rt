@@ -12,4 +12,4 @@ mod rows;
 mod wide_rows;
 
 pub use columns::Column;
-pub use rows::WholeRow;
+pub use rows::{Leaving, WholeRow};

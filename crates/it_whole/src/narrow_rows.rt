@@ -3,15 +3,15 @@ ghost use Rattle.std.specs.Prelude.{◌≡◌, ◌+◌, ◌*◌, ◌<◌, ◌^�
 ghost use Rattle.std.specs.Bool.{OnFalse, OnTrue};
 ghost use Rattle.std.specs.Option.{IfSome};
 ghost use Rattle.it_space.specs.Sums.{number_at};
-ghost use Rattle.it_vectors.specs.Sizes.{AreAtMost};
+ghost use Rattle.it_vectors.specs.Sizes.{AreAtMost, AreShort};
 ghost use Rattle.it_vectors.specs.Combinations.{IsCombined};
+ghost use Rattle.it_vectors.specs.Stretches.{AreStretches};
 ghost use Rattle.it_whole.specs.WholeRows.{IsUsable};
 ghost use Rattle.it_whole.specs.Updates.{IsWholeRowReduced, IsQuotient, IsShortened, IsUpdated};
-ghost use Rattle.it_whole.specs.Combinations.{IsCombinedAndShortened};
 
-use crate::room::combine_in_room;
+use crate::room::{combine_to, shorten_to};
 use it_vectors::narrow_numbers::{
-    STRETCH, combine, divide, divide_at_once, divisor, greatest_size, narrow_number,
+    STRETCH, Subtrahend, combine, divide, divide_at_once, divisor, greatest_size, narrow_number,
     note_stretches, read, subtract_multiple,
 };
 use it_vectors::{lowest_terms, short_product};
@@ -170,6 +170,26 @@ impl NarrowRow {
         self.note_stretches();
     }
 
+    /// The places where the stretches begin outside of which the row is 0, if they are known.
+    #[inline]
+    fn known_starts(&self) -> Option<&[usize]>
+        ensures { IfSome result (λ starts. AreStretches self.now.numbers starts.now) }
+    {
+        if self.noted {
+            Some(self.starts.as_slice())
+        } else {
+            None
+        }
+    }
+
+    /// The row as one whose multiples are subtracted from others.
+    #[inline]
+    fn as_subtrahend(&self) -> Subtrahend<'_>
+        ensures { result ≡ self.now.numbers }
+    {
+        Subtrahend::new(self.numbers.as_slice(), self.known_starts(), self.most)
+    }
+
     /// Multiplies the numbers by `a`, subtracts `b` times those of the leaving row `own`, and puts them over `bottom`. `false` if the
     /// bounds of the two rows don't show that all results stay within `limit`: then the row is unchanged.
     fn combine(&mut self, own: &NarrowRow, a: i64, b: i64, bottom: u64, limit: u64) -> bool
@@ -179,18 +199,9 @@ impl NarrowRow {
         ensures bottom { OnTrue result (self.new.bottom ≡ bottom) }
         ensures kept { OnFalse result (self.new ≡ self.old) }
     {
+        let by = own.as_subtrahend();
         self.noted = false;
-        match combine(
-            self.numbers.as_mut_slice(),
-            own.numbers.as_slice(),
-            own.starts.as_slice(),
-            own.noted,
-            a,
-            b,
-            self.most,
-            own.most,
-            limit,
-        ) {
+        match combine(self.numbers.as_mut_slice(), &by, a, b, self.most, limit) {
             Some(most) => {
                 self.bottom = bottom;
                 self.most = most;
@@ -211,18 +222,9 @@ impl NarrowRow {
         ensures bottom { OnTrue result (self.new.bottom ≡ self.old.bottom) }
         ensures kept { OnFalse result (self.new ≡ self.old) }
     {
+        let by = own.as_subtrahend();
         self.noted = false;
-        match subtract_multiple(
-            self.numbers.as_mut_slice(),
-            own.numbers.as_slice(),
-            own.starts.as_slice(),
-            own.noted,
-            a,
-            b,
-            self.most,
-            own.most,
-            limit,
-        ) {
+        match subtract_multiple(self.numbers.as_mut_slice(), &by, a, b, self.most, limit) {
             Some(most) => {
                 self.most = most;
                 true
@@ -231,37 +233,39 @@ impl NarrowRow {
         }
     }
 
-    /// Like `combine`, where the numbers may pass `limit` until they are put over the least denominator; they are formed in `room`.
-    /// `false` if one is still above `limit`: then nothing is known of the row.
+    /// Writes to `room`, in 64 bits, the numbers times `a` less `b` times those of the leaving row `own`. `false` if one may be above
+    /// 2^63 - 1 in absolute value: then `room` is unchanged.
     #[inline(never)]
-    fn combine_in_room(
-        &mut self,
-        own: &NarrowRow,
-        room: &mut [i64],
-        a: i64,
-        b: i64,
-        bottom: u64,
-        limit: u64,
-    ) -> bool
-        requires even { length self.old.numbers ≡ length own.now.numbers }
+    fn combine_to(&self, own: &NarrowRow, room: &mut [i64], a: i64, b: i64) -> bool
+        requires even { length self.now.numbers ≡ length own.now.numbers }
         requires room { length room.old ≡ length own.now.numbers }
+        ensures room { length room.new ≡ length room.old }
+        ensures combined { OnTrue result (IsCombined (length own.now.numbers) 9223372036854775807 self.now.numbers own.now.numbers a b room.new) }
+    {
+        combine_to(
+            room,
+            self.numbers.as_slice(),
+            own.numbers.as_slice(),
+            own.most,
+            a,
+            b,
+        )
+    }
+
+    /// Replaces the row by the numbers of `room` over the denominator `bottom`, divided by a common divisor. `false` if a number is
+    /// above `limit`: then nothing is known of the row.
+    #[inline(never)]
+    fn take_shortened(&mut self, room: &mut [i64], bottom: u64, limit: u64) -> bool
+        requires even { length self.old.numbers ≡ length room.old }
+        requires short { AreShort room.old }
         requires some { 0 < bottom }
         requires limit { limit < 2 ^ 31 }
         ensures room { length room.new ≡ length room.old }
-        ensures combined { OnTrue result (IsCombinedAndShortened (length own.now.numbers) self.old.numbers own.now.numbers a b bottom self.new) }
+        ensures shortened { OnTrue result (IsShortened record { numbers = room.old; bottom = bottom } self.new) }
         ensures small { OnTrue result (AreAtMost self.new.numbers limit) }
     {
         self.noted = false;
-        let left = combine_in_room(
-            self.numbers.as_mut_slice(),
-            own.numbers.as_slice(),
-            room,
-            a,
-            b,
-            own.most,
-            bottom,
-            limit,
-        );
+        let left = shorten_to(self.numbers.as_mut_slice(), room, bottom, limit);
         self.most = greatest_size(self.numbers.as_slice());
         match left {
             Some(bottom) => {
@@ -303,7 +307,11 @@ impl NarrowRow {
         if self.combine(own, a, b, bottom, limit) {
             return true;
         }
-        self.combine_in_room(own, room, a, b, bottom, limit)
+        // the numbers may pass the limit until they are put over the least denominator
+        if !self.combine_to(own, room, a, b) {
+            return false;
+        }
+        self.take_shortened(room, bottom, limit)
     }
 
     /// Updates the row in a step in which `own` leaves, whose entry at the entering column is `pivot`; this row's entry there is `entry`.

@@ -6,7 +6,7 @@ ghost use Rattle.it_space.specs.Sums.{number_at};
 ghost use Rattle.it_vectors.specs.Sizes.{AreAtMost, AreShort};
 ghost use Rattle.it_vectors.specs.Places.{AreNextPlaces};
 ghost use Rattle.it_whole.specs.WholeRows.{IsUsable};
-ghost use Rattle.it_whole.specs.Updates.{IsQuotient, IsShortened, IsUpdated};
+ghost use Rattle.it_whole.specs.Updates.{IsLeaving, IsQuotient, IsShortened, IsUpdated};
 ghost use Rattle.it_whole.specs.Widths.{row_of};
 
 use crate::narrow_rows::NarrowRow;
@@ -44,6 +44,19 @@ impl Model for WholeRow {
     ghost use Rattle.it_whole.specs.Widths.{row_of};
 
     ghost view = { λ r. row_of r.row };
+}
+
+/// The row that leaves in a step.
+#[derive(Drop)]
+pub struct Leaving<'a> {
+    /// The row, already divided by its entry at the entering column.
+    pub row: &'a WholeRow,
+    /// Its entry at the entering column.
+    pub entry: i64,
+    /// The next places where it isn't 0.
+    pub next: &'a [usize],
+    /// Whether `next` has these: only a row in 64 bits needs them.
+    pub noted: bool,
 }
 
 impl WholeRow {
@@ -170,60 +183,52 @@ impl WholeRow {
         }
     }
 
-    /// Updates the row in a step in which `own` leaves, whose entry at the entering column is `pivot`; this row's entry there is `entry`.
-    /// If `noted`, `next` has the next places where `own` isn't 0; `room` is space for a row. `false` if a number would be above `limit`,
-    /// if the two rows have different widths, or if a row in 64 bits has no `noted` places; then nothing is known of the row.
+    /// Updates the row in a step in which `leaving` leaves; `entry` is this row's entry at the entering column, and `room` is space for a
+    /// row. `false` if a number would be above `limit`, if the two rows have different widths, or if the next places of a leaving row in
+    /// 64 bits aren't noted; then nothing is known of the row.
     #[inline(always)]
     pub fn update(
         &mut self,
-        own: &WholeRow,
-        next: &[usize],
-        noted: bool,
-        room: &mut [i64],
+        leaving: &Leaving<'_>,
         entry: i64,
-        pivot: i64,
+        room: &mut [i64],
         limit: u64,
     ) -> bool
-        requires row { IsUsable (length own.now.numbers) limit self.old }
-        requires own { IsUsable (length own.now.numbers) limit own.now }
-        requires places { OnTrue noted (AreNextPlaces own.now.numbers next.now) }
-        requires room { length room.old ≡ length own.now.numbers }
+        requires row { IsUsable (length leaving.now.row.now.numbers) limit self.old }
+        requires leaving { IsLeaving limit leaving.now.row.now leaving.now.entry }
+        requires places { OnTrue leaving.now.noted (AreNextPlaces leaving.now.row.now.numbers leaving.now.next.now) }
+        requires room { length room.old ≡ length leaving.now.row.now.numbers }
         requires entry { unsigned_abs entry < 2 ^ 63 }
-        requires pivot { pos 1 ≤ℤ pivot }
-        requires limit { limit < 2 ^ 63 }
         ensures room { length room.new ≡ length room.old }
-        ensures updated { OnTrue result (IsUpdated (length own.now.numbers) limit self.old own.now entry pivot self.new) }
+        ensures updated { OnTrue result (IsUpdated (length leaving.now.row.now.numbers) limit self.old leaving.now.row.now entry leaving.now.entry self.new) }
     {
         if is_zero(entry) {
             return true;
         }
-        self.update_other(own, next, noted, room, entry, pivot, limit)
+        self.update_other(leaving, entry, room, limit)
     }
 
     /// Like `update`, where `entry` isn't 0.
     #[inline(always)]
     fn update_other(
         &mut self,
-        own: &WholeRow,
-        next: &[usize],
-        noted: bool,
-        room: &mut [i64],
+        leaving: &Leaving<'_>,
         entry: i64,
-        pivot: i64,
+        room: &mut [i64],
         limit: u64,
     ) -> bool
-        requires row { IsUsable (length own.now.numbers) limit self.old }
-        requires own { IsUsable (length own.now.numbers) limit own.now }
-        requires places { OnTrue noted (AreNextPlaces own.now.numbers next.now) }
-        requires room { length room.old ≡ length own.now.numbers }
+        requires row { IsUsable (length leaving.now.row.now.numbers) limit self.old }
+        requires leaving { IsLeaving limit leaving.now.row.now leaving.now.entry }
+        requires places { OnTrue leaving.now.noted (AreNextPlaces leaving.now.row.now.numbers leaving.now.next.now) }
+        requires room { length room.old ≡ length leaving.now.row.now.numbers }
         requires entry { unsigned_abs entry < 2 ^ 63 }
         requires some { ¬ (entry ≡ pos 0) }
-        requires pivot { pos 1 ≤ℤ pivot }
-        requires limit { limit < 2 ^ 63 }
         ensures room { length room.new ≡ length room.old }
-        ensures updated { OnTrue result (IsUpdated (length own.now.numbers) limit self.old own.now entry pivot self.new) }
+        ensures updated { OnTrue result (IsUpdated (length leaving.now.row.now.numbers) limit self.old leaving.now.row.now entry leaving.now.entry self.new) }
     {
-        match &own.row {
+        let leaving_row = leaving.row;
+        let pivot = leaving.entry;
+        match &leaving_row.row {
             AnyRow::Narrow(own) => match &mut self.row {
                 AnyRow::Narrow(row) => {
                     limit < 1 << 31 && row.update(own, room, entry, pivot, limit)
@@ -232,7 +237,9 @@ impl WholeRow {
             },
             AnyRow::Wide(own) => match &mut self.row {
                 AnyRow::Narrow(_) => false,
-                AnyRow::Wide(row) => noted && row.update(own, next, entry, pivot, limit),
+                AnyRow::Wide(row) => {
+                    leaving.noted && row.update(own, leaving.next, entry, pivot, limit)
+                }
             },
         }
     }

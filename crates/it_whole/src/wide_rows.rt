@@ -7,7 +7,7 @@ ghost use Rattle.it_vectors.specs.Places.{AreNextPlaces};
 ghost use Rattle.it_whole.specs.WholeRows.{IsUsable};
 ghost use Rattle.it_whole.specs.Updates.{IsWholeRowReduced, IsQuotient, IsShortened, IsUpdated};
 
-use it_vectors::numbers::{combine, divide, divisor, greatest_size, note_places};
+use it_vectors::numbers::{Subtrahend, combine, divide, divisor, greatest_size, note_places};
 use it_vectors::{lowest_terms, short_product};
 use std::alloc::Global;
 use std::marker::Model;
@@ -124,6 +124,15 @@ impl WideRow {
         self.most = greatest_size(self.numbers.as_slice());
     }
 
+    /// The row as one whose multiples are subtracted from others; `next` has the next places where it isn't 0.
+    #[inline]
+    fn as_subtrahend<'a>(&'a self, next: &'a [usize]) -> Subtrahend<'a>
+        requires { AreNextPlaces self.now.numbers next.now }
+        ensures { result ≡ self.now.numbers }
+    {
+        Subtrahend::new(self.numbers.as_slice(), next, self.most)
+    }
+
     /// Subtracts the multiple of the leaving row `own` that makes this row's entry at the entering column 0. `entry` and `pivot` are the
     /// entries of this row and of `own` there. `false` if a number would be above `limit`: then nothing is known of the row.
     fn reduce(&mut self, own: &WideRow, next: &[usize], entry: i64, pivot: i64, limit: u64) -> bool
@@ -140,16 +149,8 @@ impl WideRow {
         let Some(bottom) = short_product(self.bottom, a.unsigned_abs()) else {
             return false;
         };
-        match combine(
-            self.numbers.as_mut_slice(),
-            own.numbers.as_slice(),
-            next,
-            a,
-            b,
-            self.most,
-            own.most,
-            limit,
-        ) {
+        let by = own.as_subtrahend(next);
+        match combine(self.numbers.as_mut_slice(), &by, a, b, self.most, limit) {
             Some(most) => {
                 self.bottom = bottom;
                 self.most = most;

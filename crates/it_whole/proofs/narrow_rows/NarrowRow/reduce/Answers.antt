@@ -1,15 +1,14 @@
-use Rattle.std.proofs.Common.{rules, Bool, true, false, mul-pos, ℕ, ◌*◌, ◌<◌, ◌^◌, ◌≡◌, ◌∙◌, ap, ap₂, sym, subst, FitsSigned, to_z-of_z, w64, length, unsigned_abs}
+use Rattle.std.proofs.Common.{rules, Bool, true, false, mul-pos, ℕ, ◌*◌, ◌<◌, ◌^◌, ◌≡◌, ◌∙◌, ap, ap₂, sym, subst, FitsSigned, to_z-of_z, w64, length, unsigned_abs, arith}
 use Rattle.std.specs.Bool.{OnTrue}
 use Rattle.it_number.specs.Gcd.{gcd}
 use Rattle.it_number.specs.Division.{int_quotient}
 use Rattle.it_vectors.specs.Combinations.{IsCombined}
-use Rattle.it_whole.specs.Combinations.{IsCombinedAndShortened}
 use Rattle.it_whole.specs.WholeRows.{WholeRowView}
 use Rattle.it_whole.proofs.RowSteps.{less_row}
 use Rattle.it_whole.proofs.Usable.{factor_some}
 use Rattle.it_whole.proofs.NarrowSteps.{combined_usable, multiple_reduced, multiple_usable, room_usable, shortened_reduced}
 use Rattle.it_whole.proofs.narrow_rows.NarrowRow.reduce.Goals as goal
-use Rattle.it_whole.proofs.narrow_rows.NarrowRow.reduce.Goals.{In-Some}
+use Rattle.it_whole.proofs.narrow_rows.NarrowRow.reduce.Goals.{In-Some, Else-not-combine_to}
 
 -- the factor of the row
 factor_is : (c : In-Some) → c.lowest_terms-a.result.0 ≡ int_quotient c.args.pivot (gcd (unsigned_abs c.args.pivot) (unsigned_abs c.args.entry))
@@ -89,9 +88,27 @@ returns-then-combine-clause-usable c =
     c.lowest_terms-a.result.0 c.lowest_terms-a.result.1 c.requires.pivot
     (factor_is d) c.requires.row combined (c.if-combine.ensures.bottom ∙ bottom_is d)
 
-pub combine_in_room-requires-clause-some : goal.combine_in_room-requires-clause-some
-combine_in_room-requires-clause-some c =
-    let d = (goal.at.combine_in_room-requires-clause-some c).In-Some in
+-- the row that the numbers in 64 bits are formed of is the one at the beginning
+combined_in_room : (c : Else-not-combine_to) → IsCombined (length c.args.own.now.numbers) 9223372036854775807 c.args.self.now.numbers c.args.own.now.numbers
+    c.lowest_terms-a.result.0 c.lowest_terms-a.result.1 c.combine_to.new.room
+combined_in_room c =
+    let fa : FitsSigned w64 c.lowest_terms-a.result.0 = search rules in
+    let fb : FitsSigned w64 c.lowest_terms-a.result.1 = search rules in
+    subst (λ (row : WholeRowView). IsCombined (length c.args.own.now.numbers) 9223372036854775807 row.numbers c.args.own.now.numbers
+    c.lowest_terms-a.result.0 c.lowest_terms-a.result.1 c.combine_to.new.room)
+    (c.if-combine.ensures.kept ∙ c.if-subtract_multiple.ensures.kept) (simp to_z-of_z at c.if-not-combine_to.ensures.combined)
+
+pub take_shortened-requires-clause-even : goal.take_shortened-requires-clause-even
+take_shortened-requires-clause-even c = ap (λ (r : WholeRowView). length r.numbers) (c.if-combine.ensures.kept ∙ c.if-subtract_multiple.ensures.kept)
+    ∙ c.requires.row.length_is ∙ sym c.requires.room ∙ sym c.combine_to.ensures.room
+
+pub take_shortened-requires-clause-short : goal.take_shortened-requires-clause-short
+take_shortened-requires-clause-short c = λ k l.
+    let s = c.if-not-combine_to.ensures.combined.small k (omega (arith, l, c.combine_to.ensures.room, c.requires.room)) in omega (arith, s)
+
+pub take_shortened-requires-clause-some : goal.take_shortened-requires-clause-some
+take_shortened-requires-clause-some c =
+    let d = (goal.at.take_shortened-requires-clause-some c).In-Some in
     subst (λ (k : ℕ). 0 < k) (sym (bottom_is d)) (mul-pos c.requires.row.some
     (factor_some c.args.pivot c.args.entry c.lowest_terms-a.result.0 c.requires.pivot (factor_is d)))
 
@@ -102,29 +119,17 @@ by_test false p q f = tt
 pub returns-clause-less : goal.returns-clause-less
 returns-clause-less c =
     let d = (goal.at.returns-clause-less c).In-Some in
-    let fa : FitsSigned w64 c.lowest_terms-a.result.0 = search rules in
-    let fb : FitsSigned w64 c.lowest_terms-a.result.1 = search rules in
-    let combined = simp to_z-of_z at c.combine_in_room.ensures.combined in
-    by_test c.combine_in_room.result combined c.combine_in_room.ensures.small
-    (λ k s. shortened_reduced (length c.args.own.now.numbers) c.args.limit c.args.self.now c.args.own.now c.combine_in_room.new.self
+    by_test c.take_shortened.result c.take_shortened.ensures.shortened c.take_shortened.ensures.small
+    (λ s m. shortened_reduced (length c.args.own.now.numbers) c.args.limit c.args.self.now c.args.own.now c.take_shortened.new.self
     c.args.entry c.args.pivot c.lowest_terms-a.result.0 c.lowest_terms-a.result.1 c.requires.pivot
-    (factor_is d) c.in-Some.bottom c.requires.limit (bottom_is d)
-    (subst (λ (row : WholeRowView). IsCombinedAndShortened (length c.args.own.now.numbers) row.numbers c.args.own.now.numbers
-    c.lowest_terms-a.result.0 c.lowest_terms-a.result.1 c.in-Some.bottom c.combine_in_room.new.self)
-    (c.if-combine.ensures.kept ∙ c.if-subtract_multiple.ensures.kept) k)
-    s (own_factor_is d) (bottom_is_low d))
+    (factor_is d) c.in-Some.bottom c.requires.limit (bottom_is d) c.combine_to.new.room
+    (combined_in_room (goal.at.returns-clause-less c).Else-not-combine_to) s m (own_factor_is d) (bottom_is_low d))
 
 pub returns-clause-usable : goal.returns-clause-usable
 returns-clause-usable c =
     let d = (goal.at.returns-clause-usable c).In-Some in
-    let fa : FitsSigned w64 c.lowest_terms-a.result.0 = search rules in
-    let fb : FitsSigned w64 c.lowest_terms-a.result.1 = search rules in
-    let combined = simp to_z-of_z at c.combine_in_room.ensures.combined in
-    by_test c.combine_in_room.result combined c.combine_in_room.ensures.small
-    (λ k s. room_usable (length c.args.own.now.numbers) c.args.limit c.args.self.now c.args.own.now c.combine_in_room.new.self c.args.entry
+    by_test c.take_shortened.result c.take_shortened.ensures.shortened c.take_shortened.ensures.small
+    (λ s m. room_usable (length c.args.own.now.numbers) c.args.limit c.args.self.now c.args.own.now c.take_shortened.new.self c.args.entry
     c.args.pivot c.lowest_terms-a.result.0 c.lowest_terms-a.result.1 c.requires.pivot
-    (factor_is d) c.in-Some.bottom c.requires.limit (bottom_is d)
-    (subst (λ (row : WholeRowView). IsCombinedAndShortened (length c.args.own.now.numbers) row.numbers c.args.own.now.numbers
-    c.lowest_terms-a.result.0 c.lowest_terms-a.result.1 c.in-Some.bottom c.combine_in_room.new.self)
-    (c.if-combine.ensures.kept ∙ c.if-subtract_multiple.ensures.kept) k)
-    s c.requires.row)
+    (factor_is d) c.in-Some.bottom c.requires.limit (bottom_is d) c.combine_to.new.room
+    (combined_in_room (goal.at.returns-clause-usable c).Else-not-combine_to) s m c.requires.row)
