@@ -48,8 +48,8 @@ abbrev pub End : Type 0
 End = RunEndView (List (ℕ × Rational)) (List Rational)
 
 -- the end is a point
-abbrev pub IsPoint : End → Type 0
-IsPoint e = (qs : List Rational) × (e ≡ Point qs)
+abbrev pub IsEndPoint : End → Type 0
+IsEndPoint e = (qs : List Rational) × (e ≡ Point qs)
 
 -- the weights ws of a phase's columns sum to its target
 abbrev pub PhaseSums : ℕ → List Generator → Terms → List (ℕ × Rational) → Type 0

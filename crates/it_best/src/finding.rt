@@ -9,7 +9,7 @@ ghost use Rattle.it_ratio.specs.BestViews.{best_view};
 ghost use Rattle.it_best.specs.Ends.{EndsWith, PhaseEnds, ThirdFollows};
 ghost use Rattle.it_best.specs.Factors.{IsRightBest, ground_of};
 ghost use Rattle.it_best.specs.Phases.{unknown_views};
-ghost use Rattle.it_best.specs.PhaseSteps.{FirstEnds, FirstIsRight, FirstSums, FollowsFirst, FollowsPhases, FollowsSecond, FollowsThird, HasNoThirdPoint, HasSecondPoint, IsPoint, PhaseIsRight, SecondEnds, SecondIsRight, Settles, ThirdEnds, ThirdIsRight, first_unknowns, third_unknowns};
+ghost use Rattle.it_best.specs.PhaseSteps.{FirstEnds, FirstIsRight, FirstSums, FollowsFirst, FollowsPhases, FollowsSecond, FollowsThird, HasNoThirdPoint, HasSecondPoint, IsEndPoint, PhaseIsRight, SecondEnds, SecondIsRight, Settles, ThirdEnds, ThirdIsRight, first_unknowns, third_unknowns};
 
 use crate::answers::{least, never, unbounded};
 use crate::sides::Sides;
@@ -147,7 +147,7 @@ fn second_point(
     requires first { FirstSums sides.now (unknown_views first.now.unknowns.now) first.now.weights.now }
     requires unknowns { unknown_views unknowns.now ≡ generators sides.now.problem }
     requires end { SecondIsRight sides.now (generators sides.now.problem) end.now }
-    ensures point { OnOk result (IsPoint (end_of_answer end.now)) }
+    ensures point { OnOk result (IsEndPoint (end_of_answer end.now)) }
     ensures reached { OnOk result (HasNoThirdPoint sides.now) }
     ensures settles { IfErr result (Settles (λ b. (budget : Option ℕ) → FollowsSecond sides.now budget first.now.weights.now (end_of_answer end.now) b)) }
 {
@@ -277,6 +277,7 @@ pub fn best(
     ensures ends { IfOk result (λ b. EndsWith problem.now left.now right.now budget (best_view b)) }
     ensures right { IfOk result (λ b. IsRightBest (ground_of problem.now) (value left.now) (value right.now) (best_view b)) }
 {
+    problem.facts();
     let sides = Sides::new(problem, left, right);
     best_by_sides(alloc, &sides, budget)
 }
