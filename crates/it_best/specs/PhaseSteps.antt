@@ -21,7 +21,8 @@ use Rattle.it_ratio.specs.BestViews.{BestView, Never}
 use Rattle.it_ratio.specs.BestViews.{best_view}
 use Rattle.it_best.specs.declared.finding.Stop.{Stop}
 use Rattle.it_best.specs.declared.finding.Stop.TheVariants.{Answer, Memory}
-use Rattle.it_best.specs.Ends.{FirstFollows, LeastFits, NeverFits, OrScale, PhaseEnds, SecondFollows, ThirdFollows, UnboundedFits, first, least_view, third, unbounded_view}
+use Rattle.it_best.specs.Ends.{FirstFollows, LeastFits, NeverFits, OrScale, PhaseEnds, SecondFollows, ThirdFollows, UnboundedFits}
+use Rattle.it_best.specs.Ends.{first, least_view, third, unbounded_view}
 use Rattle.it_best.specs.Factors.{IsFactor, ground_of}
 use Rattle.it_best.specs.Numbers.{column_weight, weights_certificate}
 use Rattle.it_best.specs.Phases.{coordinate_row, coordinate_unknown, right_equation, slacks, third_target}

@@ -4,7 +4,8 @@ ghost use Rattle.it_run.specs.Runs.RunEndView.{Weights};
 ghost use Rattle.it_ratio.specs.BestViews.{best_view};
 ghost use Rattle.it_best.specs.Ends.{ThirdFollows};
 ghost use Rattle.it_best.specs.Phases.{unknown_views};
-ghost use Rattle.it_best.specs.PhaseSteps.{FirstSeparates, FirstSums, FitsLeast, FitsUnbounded, FollowsPoint, FollowsWeights, SecondSums, ThirdSums, least_by, unbounded_by};
+ghost use Rattle.it_best.specs.PhaseSteps.{FirstSeparates, FirstSums, FitsLeast, FitsUnbounded, SecondSums, ThirdSums};
+ghost use Rattle.it_best.specs.PhaseSteps.{FollowsPoint, FollowsWeights, least_by, unbounded_by};
 
 use crate::judging::{below_proof, factor_proof, least_point, never_point};
 use crate::numbers::{factor_of, numbers, values_of, weights_of};

@@ -9,7 +9,9 @@ ghost use Rattle.it_ratio.specs.BestViews.{best_view};
 ghost use Rattle.it_best.specs.Ends.{EndsWith, PhaseEnds, ThirdFollows};
 ghost use Rattle.it_best.specs.Factors.{IsRightBest, ground_of};
 ghost use Rattle.it_best.specs.Phases.{unknown_views};
-ghost use Rattle.it_best.specs.PhaseSteps.{FirstEnds, FirstIsRight, FirstSums, FollowsFirst, FollowsPhases, FollowsSecond, FollowsThird, HasNoThirdPoint, HasSecondPoint, IsEndPoint, PhaseIsRight, SecondEnds, SecondIsRight, Settles, ThirdEnds, ThirdIsRight, first_unknowns, third_unknowns};
+ghost use Rattle.it_best.specs.PhaseSteps.{FirstEnds, FirstIsRight, FirstSums, PhaseIsRight, SecondEnds, SecondIsRight, ThirdEnds, ThirdIsRight};
+ghost use Rattle.it_best.specs.PhaseSteps.{FollowsFirst, FollowsPhases, FollowsSecond, FollowsThird, HasNoThirdPoint, HasSecondPoint};
+ghost use Rattle.it_best.specs.PhaseSteps.{IsEndPoint, Settles, first_unknowns, third_unknowns};
 
 use crate::answers::{least, never, unbounded};
 use crate::sides::Sides;

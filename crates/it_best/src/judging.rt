@@ -153,6 +153,7 @@ pub fn never_point(alloc: Global, sides: &Sides<'_>, values: &[Fraction]) -> Res
     ensures fits { OnOk result (NeverFits sides.now.problem sides.now.left sides.now.right values.now) }
     ensures wide { IfErr result (λ f. f ≡ RowFault.Wide → ¬ (NeverFits sides.now.problem sides.now.left sides.now.right values.now)) }
 {
+    sides.facts();
     let point = turned_point(alloc, sides.space(), values)?;
     check_point(alloc, sides, sides.right(), &point)?;
     side_values(sides, &point)?;
@@ -174,6 +175,7 @@ pub fn least_point(
     ensures fits { OnOk result (LeastPointFits sides.now.problem sides.now.left sides.now.right factor.now values.now) }
     ensures wide { IfErr result (λ f. f ≡ RowFault.Wide → ¬ (LeastPointFits sides.now.problem sides.now.left sides.now.right factor.now values.now)) }
 {
+    sides.facts();
     let point = whole_point(alloc, sides.space(), values)?;
     check_point(alloc, sides, sides.left(), &point)?;
     let (above, below) = side_values(sides, &point)?;

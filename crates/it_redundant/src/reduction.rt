@@ -69,7 +69,7 @@ fn reduced_rows(
         dropped: Vec::new(alloc),
     };
     for i in 0..rows.len() {
-        let unvisited = Unvisited {
+        let rest = Unvisited {
             next: &rows[i],
             after: &rows[i + 1..],
         };
@@ -79,7 +79,7 @@ fn reduced_rows(
             &mut problem,
             &mut closed,
             &mut reduced,
-            &unvisited,
+            &rest,
         )?;
     }
     Ok(reduced)
@@ -93,27 +93,27 @@ fn visit(
     problem: &mut Problem,
     closed: &mut ClosedProblem,
     reduced: &mut Reduced,
-    unvisited: &Unvisited<'_>,
+    rest: &Unvisited<'_>,
 ) -> Result<(), AllocError>
     requires few_givens { length reduction.now.givens.now.constraints ≤ most_system_rows }
-    requires few { length reduced.old.kept.items + length unvisited.now.after.now < 65535 }
-    requires row { IsOver (size_of reduction.now.givens.now.space) unvisited.now.next.now }
+    requires few { length reduced.old.kept.items + length rest.now.after.now < 65535 }
+    requires next { IsOver (size_of reduction.now.givens.now.space) rest.now.next.now }
     requires kept { AreRowsUpTo (size_of reduction.now.givens.now.space) (map (λ k. k.0) reduced.old.kept.items) }
-    requires after { AreRowsUpTo (size_of reduction.now.givens.now.space) unvisited.now.after.now }
+    requires after { AreRowsUpTo (size_of reduction.now.givens.now.space) rest.now.after.now }
     requires closed { IsClosedProblem reduction.now.givens.now closed.old }
-    requires problem { problem.old ≡ with_unvisited reduction.now.givens.now reduced.old (unvisited.now.next.now ∷ unvisited.now.after.now) }
-    ensures visited { OnOk result (IsVisited reduction.now.givens.now reduction.now.effort unvisited.now.next.now unvisited.now.after.now reduced.old reduced.new) }
+    requires problem { problem.old ≡ with_unvisited reduction.now.givens.now reduced.old (rest.now.next.now ∷ rest.now.after.now) }
+    ensures visited { OnOk result (IsVisited reduction.now.givens.now reduction.now.effort rest.now.next.now rest.now.after.now reduced.old reduced.new) }
     ensures closed { OnOk result (IsClosedProblem reduction.now.givens.now closed.new) }
-    ensures problem { OnOk result (problem.new ≡ with_unvisited reduction.now.givens.now reduced.new unvisited.now.after.now) }
+    ensures problem { OnOk result (problem.new ≡ with_unvisited reduction.now.givens.now reduced.new rest.now.after.now) }
 {
     reduction.givens.facts();
     let line = reduced.kept.len() + 1;
     let place = reduction.givens.constraints().len() + reduced.kept.len();
     remove_row(&mut problem.constraints, place, line);
-    let proof = closed.prove(alloc, problem, unvisited.next, reduction.effort)?;
-    put(alloc, reduced, unvisited.next, proof)?;
+    let proof = closed.prove(alloc, problem, rest.next, reduction.effort)?;
+    put(alloc, reduced, rest.next, proof)?;
     if reduced.kept.len() == line {
-        insert_row(alloc, &mut problem.constraints, place, line, unvisited.next)?;
+        insert_row(alloc, &mut problem.constraints, place, line, rest.next)?;
     }
     Ok(())
 }

@@ -11,7 +11,8 @@ use Rattle.it_redundant.proofs.VisitLemmas.{rows_kept, under_way_end, under_way_
 use Rattle.it_redundant.proofs.reduction.reduced_rows.Goals as goal
 
 pub visit-requires-clause-kept : goal.visit-requires-clause-kept
-visit-requires-clause-kept c = subst (AreRowsUpTo (size_of c.args.reduction.now.givens.now.space)) (rows_kept c.loop-i.reduced.kept.items) c.loop-i.invariant.under_way.up
+visit-requires-clause-kept c =
+    subst (AreRowsUpTo (size_of c.args.reduction.now.givens.now.space)) (rows_kept c.loop-i.reduced.kept.items) c.loop-i.invariant.under_way.up
 
 pub visit-requires-clause-problem : goal.visit-requires-clause-problem
 visit-requires-clause-problem c =
@@ -45,5 +46,6 @@ loop-i-preserved c =
 pub returns : goal.returns
 returns c =
     let all : length c.args.rows.now ≤ c.loop-i.i = search rules in
-    under_way_end c.args.reduction.now.givens.now c.args.reduction.now.effort (size_of c.args.reduction.now.givens.now.space) c.args.rows.now (kept_view c.loop-i.reduced)
+    under_way_end c.args.reduction.now.givens.now c.args.reduction.now.effort
+    (size_of c.args.reduction.now.givens.now.space) c.args.rows.now (kept_view c.loop-i.reduced)
     (dropped_view c.loop-i.reduced) c.loop-i.i (drop_all c.loop-i.i c.args.rows.now all) c.loop-i.invariant.under_way
