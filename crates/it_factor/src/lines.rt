@@ -160,11 +160,7 @@ fn other_line(alloc: Global, k: usize) -> Result<Vec<u8>, AllocError>
 }
 
 /// The line of what was found.
-fn best_line(
-    alloc: Global,
-    posed: &PosedQuestion<'_>,
-    found: &Best,
-) -> Result<Vec<u8>, AllocError>
+fn best_line(alloc: Global, posed: &PosedQuestion<'_>, found: &Best) -> Result<Vec<u8>, AllocError>
     requires printable { IsBestPrintable (names_of posed.now) (length posed.now.constraints.now) found.now }
     ensures { IfOk result (λ t. t.items ≡ best_line posed.now.number (names_of posed.now) (posed_origins posed.now) (best_view found.now)) }
 {

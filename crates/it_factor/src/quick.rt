@@ -197,11 +197,7 @@ fn after(
 }
 
 /// The first number, as an outcome: the ratio at a point where the left side is above 0; where it never is, any number will do: 0.
-fn first(
-    alloc: Global,
-    quick: &mut QuickProblem,
-    sides: &Sides<'_>,
-) -> Result<Step, AllocError>
+fn first(alloc: Global, quick: &mut QuickProblem, sides: &Sides<'_>) -> Result<Step, AllocError>
     requires sides { AreSides sides.now.problem.now sides.now.left.now sides.now.right.now }
     ensures { IfOk result (IsStep sides.now.problem.now sides.now.left.now sides.now.right.now) }
 {
