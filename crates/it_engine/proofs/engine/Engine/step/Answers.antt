@@ -1,12 +1,11 @@
 use Rattle.std.proofs.Common.{rules, ◌≡◌, ◌<◌, ◌+◌, ◌∙◌, ap, ap₂, sym, subst, ℕ, length, List, [], refl, slice_index_or, slice_set, Some}
-use Rattle.std.proofs.lemmas.List.{length-set, with_items_is}
+use Rattle.std.proofs.lemmas.List.{get_or_default, length-set, with_items_is}
 use Rattle.std.specs.Vec.{with_items}
 use Rattle.it_space.specs.Rows.{Terms}
 use Rattle.it_engine.specs.Choosing.{best_row, entry_of}
 use Rattle.it_engine.specs.Engine.{EngineView, IsEngineStep}
 use Rattle.it_engine.specs.PivotedRows.{AreUsable, AreWholeRowsPivoted, IsFitting}
 use Rattle.it_whole.specs.WholeRows.{WholeRowView}
-use Rattle.it_vectors.proofs.Items.{item_by_default}
 use Rattle.it_engine.proofs.Steps.{engine_kept, step_is_made, stuck_here}
 use Rattle.it_engine.proofs.engine.Engine.step.Goals as goal
 use Rattle.it_engine.proofs.engine.Engine.step.Goals.{After-index-run-column}
@@ -27,8 +26,9 @@ basis_is_lent : (c : After-index-run-column) → c.as_slice.result.now ≡ c.arg
 basis_is_lent c = c.as_slice.ensures.value ∙ ap (λ (e : EngineView). e.basis) c.self.view_is
 
 -- the entering column
-column_is : (c : After-index-run-column) → c.index-run-column.result ≡ slice_index_or c.args.run.now.columns.now c.in-Some.column []
-column_is c = item_by_default c.args.run.now.columns.now c.in-Some.column c.index-run-column.result [] (search rules) c.index-run-column.is
+column_is : (c : After-index-run-column) → slice_index_or c.args.run.now.columns.now c.in-Some.column c.index-run-column.result
+    ≡ slice_index_or c.args.run.now.columns.now c.in-Some.column []
+column_is c = get_or_default c.args.run.now.columns.now c.in-Some.column c.index-run-column.result [] (search rules)
 
 pub enter-requires-clause-height : goal.enter-requires-clause-height
 enter-requires-clause-height c = let d = (goal.at.enter-requires-clause-height c).After-index-run-column in
@@ -40,7 +40,8 @@ enter-requires-clause-rows c = let d = (goal.at.enter-requires-clause-rows c).Af
 
 pub enter-requires-clause-column : goal.enter-requires-clause-column
 enter-requires-clause-column c = let d = (goal.at.enter-requires-clause-column c).After-index-run-column in
-    subst (λ (rows : List WholeRowView). IsFitting (length rows) c.args.run.now.limit c.index-run-column.result) (sym (rows_are_lent d))
+    subst (λ (rows : List WholeRowView). IsFitting (length rows) c.args.run.now.limit
+    (slice_index_or c.args.run.now.columns.now c.in-Some.column c.index-run-column.result)) (sym (rows_are_lent d))
     (subst (IsFitting (length c.args.self.now.rows) c.args.run.now.limit) (sym (column_is d)) (c.requires.fitting c.in-Some.column (search rules)))
 
 pub returns : goal.returns
