@@ -6,8 +6,7 @@
 //! other table less, for each row whose basic column changed, its entry there times that row. Since right sides don't change, the
 //! rows with right side 0 are sorted by basic column once, when a block begins: of those that stay behind, the first that may leave
 //! is the next to leave.
-ghost use Rattle.std.specs.Prelude.{◌≡◌, ◌+◌, ◌<◌, ◌≤◌, [], length, true, slice_index_or, slice_set};
-ghost use Rattle.std.specs.Bool.{OnTrue};
+ghost use Rattle.std.specs.Prelude.{◌≡◌, ◌+◌, ◌<◌, ◌≤◌, [], length, true, slice_index_or, slice_set, IfOk, OnOk};
 ghost use Rattle.std.specs.Option.{IfSome};
 ghost use Rattle.it_engine.specs.Behind.{AreBaseBounds, AreEngineSteps, AreMovedEntries, AreMovedInOrder, AreRanked, AreStillSteps, HaveEntered, IsBehindStep, IsStillChoice, LeavesStill};
 ghost use Rattle.it_engine.specs.Engine.{HasRoom, IsSafe};
@@ -18,6 +17,7 @@ use crate::blocks::{
 };
 use crate::bringing::{bring_all, bring_if_behind, shorten_moved};
 use crate::choice::{entering_column, is_above_zero, right_side};
+use crate::giving_up::GaveUp;
 use crate::leaving::{Base, begin_base, combine_columns, first_to_leave};
 use crate::pivots::pivot_moved;
 use crate::shares::{are_short, shares_of_moved};
@@ -102,8 +102,8 @@ fn still_choice(
     Some((column, row))
 }
 
-/// Makes `column` basic in `row`, which leaves at a degenerate step and is brought up to date first; `false` if a number would be too
-/// large or allocation fails, and then nothing is known of the rows.
+/// Makes `column` basic in `row`, which leaves at a degenerate step and is brought up to date first. If it gives up, nothing is known of
+/// the rows.
 fn make_step(
     rows: &mut [WholeRow],
     basis: &mut [usize],
@@ -111,7 +111,7 @@ fn make_step(
     run: &Run<'_>,
     column: usize,
     row: usize,
-) -> bool
+) -> Result<(), GaveUp>
     requires engine { IsSafe run.now.columns.now run.now.limit rows.old basis.old }
     requires notes { HasRoom (length basis.old) notes.old }
     requires order { AreMovedInOrder notes.old.moved.items (length basis.old) notes.old.order.items }
@@ -119,11 +119,11 @@ fn make_step(
     requires entries { AreMovedEntries (slice_index_or run.now.columns.now column []) rows.old notes.old.moved.items notes.old.entries.items }
     requires column { column < length run.now.columns.now }
     requires row { row < length basis.old }
-    ensures step { OnTrue result (IsBehindStep run.now.columns.now run.now.limit rows.old basis.old notes.old.moved.items column row rows.new) }
-    ensures basis { OnTrue result (basis.new ≡ slice_set basis.old row column) }
-    ensures moved { OnTrue result (notes.new.moved.items ≡ slice_set notes.old.moved.items row true) }
-    ensures order { OnTrue result (AreMovedInOrder notes.new.moved.items (length basis.old) notes.new.order.items) }
-    ensures entered { OnTrue result (HaveEntered run.now.columns.now basis.new notes.new.moved.items) }
+    ensures step { OnOk result (IsBehindStep run.now.columns.now run.now.limit rows.old basis.old notes.old.moved.items column row rows.new) }
+    ensures basis { OnOk result (basis.new ≡ slice_set basis.old row column) }
+    ensures moved { OnOk result (notes.new.moved.items ≡ slice_set notes.old.moved.items row true) }
+    ensures order { OnOk result (AreMovedInOrder notes.new.moved.items (length basis.old) notes.new.order.items) }
+    ensures entered { OnOk result (HaveEntered run.now.columns.now basis.new notes.new.moved.items) }
     ensures notes { HasRoom (length basis.old) notes.new }
 {
     let moved = notes.moved.as_slice();
@@ -135,14 +135,12 @@ fn make_step(
         order,
     };
     if !bring_if_behind(rows, run, &moves, room, row) {
-        return false;
+        return Err(GaveUp::TooLarge);
     }
-    if !note_moved(notes.moved.as_mut_slice(), &mut notes.order, row) {
-        return false;
-    }
+    note_moved(notes.moved.as_mut_slice(), &mut notes.order, row)?;
     notes.entries[row] = entry_at(&run.columns[column], rows, row);
     if !is_above_zero(read(notes.entries.as_slice(), row)) {
-        return false;
+        return Err(GaveUp::TooLarge);
     }
     if !pivot_moved(
         rows,
@@ -152,37 +150,36 @@ fn make_step(
         notes.entries.as_slice(),
         row,
     ) {
-        return false;
+        return Err(GaveUp::TooLarge);
     }
     basis[row] = column;
-    true
+    Ok(())
 }
 
 /// Makes at most `most` degenerate steps, as long as they can be made with rows that stay behind, and returns their number. It stops
-/// when a sixth of the rows moved, since each step has to keep these up to date. `None` if a number would be too large or allocation
-/// fails, and then nothing is known of the rows.
+/// when a sixth of the rows moved, since each step has to keep these up to date. If it gives up, nothing is known of the rows.
 fn still_steps(
     rows: &mut [WholeRow],
     basis: &mut [usize],
     notes: &mut Notes,
     run: &Run<'_>,
     most: u32,
-) -> Option<u32>
+) -> Result<u32, GaveUp>
     requires engine { IsSafe run.now.columns.now run.now.limit rows.old basis.old }
     requires notes { HasRoom (length basis.old) notes.old }
     requires order { AreMovedInOrder notes.old.moved.items (length basis.old) notes.old.order.items }
     requires entered { HaveEntered run.now.columns.now basis.old notes.old.moved.items }
     requires norm { IsNorm run.now.columns.now run.now.norm }
-    ensures steps { IfSome result (λ k. AreStillSteps run.now.columns.now run.now.limit rows.old basis.old notes.old.moved.items k rows.new basis.new notes.new.moved.items) }
-    ensures most { IfSome result (λ k. k ≤ most) }
-    ensures order { IfSome result (λ k. AreMovedInOrder notes.new.moved.items (length basis.new) notes.new.order.items) }
-    ensures entered { IfSome result (λ k. HaveEntered run.now.columns.now basis.new notes.new.moved.items) }
+    ensures steps { IfOk result (λ k. AreStillSteps run.now.columns.now run.now.limit rows.old basis.old notes.old.moved.items k rows.new basis.new notes.new.moved.items) }
+    ensures most { IfOk result (λ k. k ≤ most) }
+    ensures order { IfOk result (λ k. AreMovedInOrder notes.new.moved.items (length basis.new) notes.new.order.items) }
+    ensures entered { IfOk result (λ k. HaveEntered run.now.columns.now basis.new notes.new.moved.items) }
     ensures notes { HasRoom (length basis.old) notes.new }
 {
     let base = begin_base(run.alloc, rows, basis, notes.moved.as_slice())?;
     for k in 0..most {
         if notes.order.len() >= basis.len() / 6 {
-            return Some(k);
+            return Ok(k);
         }
         let block = Block {
             rows,
@@ -197,29 +194,27 @@ fn still_steps(
             &mut notes.combined,
             &base,
         ) else {
-            return Some(k);
+            return Ok(k);
         };
-        if !make_step(rows, basis, notes, run, column, row) {
-            return None;
-        }
+        make_step(rows, basis, notes, run, column, row)?;
     }
-    Some(most)
+    Ok(most)
 }
 
 /// Makes at most `most` degenerate steps, and returns their number, which may be 0. Meanwhile most rows stay as they are, and at the
-/// end all are up to date. `None` if a number would be too large or allocation fails, and then nothing is known of the rows.
+/// end all are up to date. If it gives up, nothing is known of the rows.
 pub fn make_steps(
     rows: &mut [WholeRow],
     basis: &mut [usize],
     notes: &mut Notes,
     run: &Run<'_>,
     most: u32,
-) -> Option<u32>
+) -> Result<u32, GaveUp>
     requires engine { IsSafe run.now.columns.now run.now.limit rows.old basis.old }
     requires notes { HasRoom (length basis.old) notes.old }
     requires norm { IsNorm run.now.columns.now run.now.norm }
-    ensures steps { IfSome result (λ k. AreEngineSteps run.now.columns.now run.now.limit rows.old basis.old k rows.new basis.new) }
-    ensures most { IfSome result (λ k. k ≤ most) }
+    ensures steps { IfOk result (λ k. AreEngineSteps run.now.columns.now run.now.limit rows.old basis.old k rows.new basis.new) }
+    ensures most { IfOk result (λ k. k ≤ most) }
     ensures notes { HasRoom (length basis.old) notes.new }
 {
     note_none_moved(notes.moved.as_mut_slice(), &mut notes.order, basis.len());
@@ -234,8 +229,8 @@ pub fn make_steps(
         order,
     };
     if bring_all(rows, run, &moves, room) {
-        Some(made)
+        Ok(made)
     } else {
-        None
+        Err(GaveUp::TooLarge)
     }
 }

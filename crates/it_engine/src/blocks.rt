@@ -1,5 +1,5 @@
 //! Blocks of degenerate steps: their rows, which of these moved since the block began, and working space.
-ghost use Rattle.std.specs.Prelude.{◌≡◌, ◌+◌, ◌<◌, ◌≤◌, ◌^◌, ℕ, pos, [], length, cond, false, true, slice_index_or, slice_set, IfOk};
+ghost use Rattle.std.specs.Prelude.{◌≡◌, ◌+◌, ◌<◌, ◌≤◌, ◌^◌, ℕ, pos, [], length, cond, false, true, slice_index_or, slice_set, IfOk, OnOk};
 ghost use Rattle.std.specs.Bool.{OnFalse, OnTrue};
 ghost use Rattle.it_engine.specs.Behind.{AreMovedEntries, AreMovedInOrder, has_moved};
 ghost use Rattle.it_whole.specs.ColumnTerms.{Suits};
@@ -234,18 +234,19 @@ fn stands_at(order: &[usize], place: usize, r: usize) -> bool
     place < order.len() && row_at(order, place) == r
 }
 
-/// Marks row `r` as moved; `false` if allocation fails.
-pub fn note_moved(moved: &mut [bool], order: &mut Vec<usize>, r: usize) -> bool
+/// Marks row `r` as moved.
+pub fn note_moved(moved: &mut [bool], order: &mut Vec<usize>, r: usize) -> Result<(), AllocError>
     requires { r < length moved.old }
-    ensures moved { OnTrue result (moved.new ≡ slice_set moved.old r true) }
-    ensures order { OnTrue result ((height : ℕ) → r < height → AreMovedInOrder moved.old height order.old.items → AreMovedInOrder moved.new height order.new.items) }
+    ensures moved { OnOk result (moved.new ≡ slice_set moved.old r true) }
+    ensures order { OnOk result ((height : ℕ) → r < height → AreMovedInOrder moved.old height order.old.items → AreMovedInOrder moved.new height order.new.items) }
 {
     moved[r] = true;
     let place = place_of(order.as_slice(), r);
     if stands_at(order.as_slice(), place, r) {
-        return true;
+        return Ok(());
     }
-    order.insert(place, r).is_ok()
+    order.insert(place, r)?;
+    Ok(())
 }
 
 /// Marks the cost row, which comes last, as moved, and all other rows as not moved.

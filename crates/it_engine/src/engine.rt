@@ -12,6 +12,7 @@ ghost use Rattle.it_vectors.specs.Sizes.{AreAtMost};
 use crate::behind::make_steps;
 use crate::blocks::{Notes, Run};
 use crate::choice::entering_column;
+use crate::giving_up::GaveUp;
 use crate::loading::norm;
 use crate::pivots::enter;
 use it_vectors::is_zero;
@@ -139,38 +140,40 @@ impl Engine {
         entering_column(columns, self.cost_row())
     }
 
-    /// Makes one step, if one is left, and returns whether it did; `None` if no row leaves or a number would be too large, and then
-    /// nothing is known of the engine.
-    fn step(&mut self, run: &Run<'_>) -> Option<bool>
+    /// Makes one step, if one is left, and returns whether it did. If it gives up, which it also does if no row leaves, nothing is known of
+    /// the engine.
+    fn step(&mut self, run: &Run<'_>) -> Result<bool, GaveUp>
         requires { IsSafe run.now.columns.now run.now.limit self.old.rows self.old.basis }
-        ensures { IfSome result (λ moved. IsEngineStepOrStuck run.now.columns.now run.now.limit
+        ensures { IfOk result (λ moved. IsEngineStepOrStuck run.now.columns.now run.now.limit
             self.old.rows self.old.basis self.new.rows self.new.basis moved) }
     {
         let Some(column) = self.next_column(run.columns) else {
-            return Some(false);
+            return Ok(false);
         };
-        let row = enter(
+        let Some(row) = enter(
             self.rows.as_mut_slice(),
             run,
             self.basis.as_slice(),
             &mut self.notes.scratch,
             self.notes.entries.as_mut_slice(),
             &run.columns[column],
-        )?;
+        ) else {
+            return Err(GaveUp::TooLarge);
+        };
         self.basis[row] = column;
-        Some(true)
+        Ok(true)
     }
 
-    /// Makes at most `most` degenerate steps, and returns their number, which may be 0, and is 0 with rows in 64 bits. `None` if a number
-    /// would be too large or allocation fails, and then nothing is known of the engine.
-    fn still_steps(&mut self, run: &Run<'_>, most: u32) -> Option<u32>
+    /// Makes at most `most` degenerate steps, and returns their number, which may be 0, and is 0 with rows in 64 bits. If it gives up,
+    /// nothing is known of the engine.
+    fn still_steps(&mut self, run: &Run<'_>, most: u32) -> Result<u32, GaveUp>
         requires engine { IsSafe run.now.columns.now run.now.limit self.old.rows self.old.basis }
         requires norm { IsNorm run.now.columns.now run.now.norm }
-        ensures steps { IfSome result (λ k. AreEngineSteps run.now.columns.now run.now.limit self.old.rows self.old.basis k self.new.rows self.new.basis) }
-        ensures most { IfSome result (λ k. k ≤ most) }
+        ensures steps { IfOk result (λ k. AreEngineSteps run.now.columns.now run.now.limit self.old.rows self.old.basis k self.new.rows self.new.basis) }
+        ensures most { IfOk result (λ k. k ≤ most) }
     {
         if most == 0 || !self.cost_row().is_narrow() {
-            return Some(0);
+            return Ok(0);
         }
         make_steps(
             self.rows.as_mut_slice(),
@@ -181,11 +184,11 @@ impl Engine {
         )
     }
 
-    /// Makes the run with `budget` as the most steps. `None` as for `run`.
-    fn run_within(&mut self, run: &Run<'_>, budget: u32) -> Option<EngineEnd>
+    /// Makes the run with `budget` as the most steps. If it gives up, nothing is known of the engine.
+    fn run_within(&mut self, run: &Run<'_>, budget: u32) -> Result<EngineEnd, GaveUp>
         requires engine { IsSafe run.now.columns.now run.now.limit self.old.rows self.old.basis }
         requires norm { IsNorm run.now.columns.now run.now.norm }
-        ensures { IfSome result (λ finish. IsFinished run.now.columns.now run.now.limit
+        ensures { IfOk result (λ finish. IsFinished run.now.columns.now run.now.limit
             self.old.rows self.old.basis (Some budget) self.new.rows self.new.basis finish) }
     {
         let mut k: u32 = 0;
@@ -194,28 +197,29 @@ impl Engine {
             let made = self.still_steps(run, most)?;
             k += made;
             if self.is_done() {
-                return Some(EngineEnd::Weights);
+                return Ok(EngineEnd::Weights);
             }
             if !self.step(run)? {
-                return Some(EngineEnd::Point);
+                return Ok(EngineEnd::Point);
             }
             k += 1;
         }
         if self.is_done() {
-            return Some(EngineEnd::Weights);
+            return Ok(EngineEnd::Weights);
         }
         match self.next_column(run.columns) {
-            Some(_) => Some(EngineEnd::Pivots(budget)),
-            None => Some(EngineEnd::Point),
+            Some(_) => Ok(EngineEnd::Pivots(budget)),
+            None => Ok(EngineEnd::Point),
         }
     }
 
-    /// Makes the run without a budget. It terminates, since no set of basic columns recurs (Bland 1977). `None` as for `run`.
-    fn run_on(&mut self, run: &Run<'_>) -> Option<EngineEnd>
+    /// Makes the run without a budget. It terminates, since no set of basic columns recurs (Bland 1977). If it gives up, nothing is known of
+    /// the engine.
+    fn run_on(&mut self, run: &Run<'_>) -> Result<EngineEnd, GaveUp>
         requires engine { IsSafe run.now.columns.now run.now.limit self.old.rows self.old.basis }
         requires stands { RepresentsSome run.now.columns.now run.now.limit self.old.rows self.old.basis }
         requires norm { IsNorm run.now.columns.now run.now.norm }
-        ensures { IfSome result (λ finish. IsFinished run.now.columns.now run.now.limit self.old.rows self.old.basis None self.new.rows self.new.basis finish) }
+        ensures { IfOk result (λ finish. IsFinished run.now.columns.now run.now.limit self.old.rows self.old.basis None self.new.rows self.new.basis finish) }
     {
         let mut k: u32 = 0;
         'steps: loop {
@@ -223,22 +227,29 @@ impl Engine {
             let made = self.still_steps(run, most)?;
             k = k.saturating_add(made).saturating_add(1);
             if self.is_done() {
-                return Some(EngineEnd::Weights);
+                return Ok(EngineEnd::Weights);
             }
             if !self.step(run)? {
-                return Some(EngineEnd::Point);
+                return Ok(EngineEnd::Point);
             }
         }
     }
 
     /// Makes the run with `budget` as the most steps, or without a budget. `columns` are those of the start, and `limit` bounds the
-    /// numbers of the rows. `None` if a number would be larger or allocation fails: then nothing is known of the engine.
-    pub fn run(&mut self, columns: &[Column], limit: u64, budget: Option<u32>) -> Option<EngineEnd>
+    /// numbers of the rows. If it gives up, nothing is known of the engine.
+    pub fn run(
+        &mut self,
+        columns: &[Column],
+        limit: u64,
+        budget: Option<u32>,
+    ) -> Result<EngineEnd, GaveUp>
         requires engine { IsSafe columns.now limit self.old.rows self.old.basis }
         requires stands { RepresentsSome columns.now limit self.old.rows self.old.basis }
-        ensures { IfSome result (λ finish. IsFinished columns.now limit self.old.rows self.old.basis budget self.new.rows self.new.basis finish) }
+        ensures { IfOk result (λ finish. IsFinished columns.now limit self.old.rows self.old.basis budget self.new.rows self.new.basis finish) }
     {
-        let norm = norm(columns)?;
+        let Some(norm) = norm(columns) else {
+            return Err(GaveUp::TooLarge);
+        };
         let run = Run {
             alloc: self.alloc(),
             columns,

@@ -1,5 +1,5 @@
 //! The leaving row of a degenerate step.
-ghost use Rattle.std.specs.Prelude.{◌≡◌, ◌+◌, ◌<◌, ◌≤◌, ◌^◌, ◌*ℤ◌, neg_ℤ, ℕ, pos, Bool, List, [], length, false, slice_index_or};
+ghost use Rattle.std.specs.Prelude.{◌≡◌, ◌+◌, ◌<◌, ◌≤◌, ◌^◌, ◌*ℤ◌, neg_ℤ, ℕ, pos, Bool, List, [], length, false, slice_index_or, IfOk};
 ghost use Rattle.std.specs.Bool.{OnFalse, OnTrue};
 ghost use Rattle.std.specs.Option.{IfSome};
 ghost use Rattle.it_engine.specs.Behind.{AreBaseBounds, AreMovedInOrder, AreRanked, AreStillRows, column_behind, ComesBefore, has_moved, HasZeroRatio, HaveEntered, IsFirstOf, MayLeave, SuitsBehind, TakesRow};
@@ -15,7 +15,7 @@ use crate::choice::{is_above_zero, right_side};
 use crate::shares::share_at;
 use it_vectors::{is_zero, narrow, product, read};
 use it_whole::{Column, WholeRow};
-use std::alloc::Global;
+use std::alloc::{AllocError, Global};
 
 /// The largest number of the engine, 2^63 - 1.
 const LARGEST: u64 = i64::MAX as u64;
@@ -75,43 +75,48 @@ fn column_of(basis: &[usize], i: usize) -> usize
     basis.get(i).copied().unwrap_or(0)
 }
 
-/// The rows below `height` with right side 0, in ascending order. `None` if allocation fails.
-fn still_rows(alloc: Global, rows: &[WholeRow], height: usize) -> Option<Vec<usize>>
+/// The rows below `height` with right side 0, in ascending order.
+fn still_rows(alloc: Global, rows: &[WholeRow], height: usize) -> Result<Vec<usize>, AllocError>
     requires rows { height ≤ length rows.now }
     requires places { (i : ℕ) → i < height → height < length (whole_row_at rows.now i).numbers }
-    ensures { IfSome result (λ still. AreStillRows rows.now height height still.items) }
+    ensures { IfOk result (λ still. AreStillRows rows.now height height still.items) }
 {
     let mut still = Vec::new(alloc);
     for i in 0..height {
         if is_still(rows, height, i) {
-            still.push(i).ok()?;
+            still.push(i)?;
         }
     }
-    Some(still)
+    Ok(still)
 }
 
-/// The rows with right side 0, by ascending basic column. `None` if allocation fails.
-fn ranked_rows(alloc: Global, rows: &[WholeRow], basis: &[usize]) -> Option<Vec<usize>>
+/// The rows with right side 0, by ascending basic column.
+fn ranked_rows(alloc: Global, rows: &[WholeRow], basis: &[usize]) -> Result<Vec<usize>, AllocError>
     requires rows { length basis.now ≤ length rows.now }
     requires places { (i : ℕ) → i < length basis.now → length basis.now < length (whole_row_at rows.now i).numbers }
-    ensures { IfSome result (λ ranked. (moved : List Bool) → AreRanked rows.now basis.now moved (length basis.now) ranked.items) }
+    ensures { IfOk result (λ ranked. (moved : List Bool) → AreRanked rows.now basis.now moved (length basis.now) ranked.items) }
 {
     let mut ranked = still_rows(alloc, rows, basis.len())?;
     ranked.sort_unstable_by_key(|i| column_of(basis, *i));
-    Some(ranked)
+    Ok(ranked)
 }
 
-/// The base of a block of steps that begins with these rows. `None` if allocation fails.
-pub fn begin_base(alloc: Global, rows: &[WholeRow], basis: &[usize], moved: &[bool]) -> Option<Base>
+/// The base of a block of steps that begins with these rows.
+pub fn begin_base(
+    alloc: Global,
+    rows: &[WholeRow],
+    basis: &[usize],
+    moved: &[bool],
+) -> Result<Base, AllocError>
     requires rows { length basis.now ≤ length rows.now }
     requires moved { length basis.now ≤ length moved.now }
     requires places { (i : ℕ) → i < length basis.now → length basis.now < length (whole_row_at rows.now i).numbers }
-    ensures bound { IfSome result (λ base. AreBaseBounds base.bound base.bound rows.now moved.now (length basis.now)) }
-    ensures ranked { IfSome result (λ base. AreRanked rows.now basis.now moved.now (length basis.now) base.ranked.items) }
+    ensures bound { IfOk result (λ base. AreBaseBounds base.bound base.bound rows.now moved.now (length basis.now)) }
+    ensures ranked { IfOk result (λ base. AreRanked rows.now basis.now moved.now (length basis.now) base.ranked.items) }
 {
     let ranked = ranked_rows(alloc, rows, basis)?;
     let bound = bound_behind(rows, moved, basis.len());
-    Some(Base { bound, ranked })
+    Ok(Base { bound, ranked })
 }
 
 /// Subtracts from the combined column the basic column of row `q`, which moved, times the row's entry and its share of `multiple`;

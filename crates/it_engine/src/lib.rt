@@ -12,6 +12,7 @@ mod blocks;
 mod bringing;
 mod choice;
 mod engine;
+mod giving_up;
 mod leaving;
 mod loading;
 mod pivots;

@@ -6,6 +6,7 @@ ghost use Rattle.it_engine.specs.Engine.{IsSafe, RepresentsSome};
 ghost use Rattle.it_engine.specs.Ends.{AnswersFrom, IsStart};
 
 use crate::engine::{Engine, EngineEnd};
+use crate::giving_up::GaveUp;
 use crate::loading::{columns, norm, rows};
 use crate::reading::{point, weights};
 use it_run::Solved;
@@ -40,7 +41,7 @@ struct Task<'a> {
     budget: Option<u32>,
 }
 
-/// Makes the run of `engine`, and reads off its answer. `None` if a number would be above `limit` or allocation fails in the run.
+/// Makes the run of `engine`, and reads off its answer. `None` if a number would be above `limit`.
 fn answer(
     alloc: Global,
     task: &Task<'_>,
@@ -55,21 +56,22 @@ fn answer(
 {
     let mut engine = engine;
     match engine.run(task.columns, limit, task.budget) {
-        Some(EngineEnd::Weights) => Ok(Some(Solved::Weights(weights(
+        Ok(EngineEnd::Weights) => Ok(Some(Solved::Weights(weights(
             alloc,
             task.columns,
             engine.rows(),
             engine.basis(),
         )?))),
-        Some(EngineEnd::Point) => Ok(Some(Solved::Point(point(
+        Ok(EngineEnd::Point) => Ok(Some(Solved::Point(point(
             alloc,
             task.coordinates,
             task.target,
             engine.rows(),
             engine.basis(),
         )?))),
-        Some(EngineEnd::Pivots(steps)) => Ok(Some(Solved::Pivots(steps))),
-        None => Ok(None),
+        Ok(EngineEnd::Pivots(steps)) => Ok(Some(Solved::Pivots(steps))),
+        Err(GaveUp::TooLarge) => Ok(None),
+        Err(GaveUp::Memory) => Err(AllocError),
     }
 }
 
@@ -85,8 +87,7 @@ fn narrow_limit(limit: u64) -> u64
     }
 }
 
-/// The answer of the run in 32 bits. `None` if a number would be larger, if allocation fails in the run, or if the rows are so few
-/// that rows in 64 bits are as fast.
+/// The answer of the run in 32 bits. `None` if a number would be larger, or if the rows are so few that rows in 64 bits are as fast.
 fn narrow_answer(
     alloc: Global,
     task: &Task<'_>,
@@ -170,7 +171,7 @@ fn read_start(
 
 /// Makes the run from the start of a question, with `budget` as the most steps or without a budget, and returns the answer read off its
 /// last table. `None` if it can't be made on whole numbers below 2^63, since the start has a larger one or a step would form one; if
-/// the table has too many rows; if `coordinates` don't ascend; or if allocation fails in the run.
+/// the table has too many rows; or if `coordinates` don't ascend.
 pub fn whole_run(
     alloc: Global,
     coordinates: &[u32],

@@ -20,7 +20,7 @@ loop-k-init c = record {
 
 pub loop-k-preserved : goal.loop-k-preserved
 loop-k-preserved c =
-    let made = c.if-not-make_step.ensures in
+    let made = c.in_ok-make_step.ensures in
     let choice = subst (λ (moved : List Bool). IsStillChoice c.args.run.now.columns.now c.args.run.now.limit c.loop-k.rows c.loop-k.basis
     moved c.in-Some.column c.in-Some.row) c.as_slice-in-loop-k.ensures.value c.in-Some.ensures.choice in
     let steps = c.loop-k.invariant.steps in record {
