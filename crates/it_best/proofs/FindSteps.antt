@@ -1,8 +1,6 @@
 -- From the ends of the phases' runs to the answer, step by step as the code goes.
-use Rattle.std.proofs.Common.{◌≡◌, ℕ, suc, ◌+◌, ◌^◌, ◌<◌, ◌≤◌, ℤ, pos, ◌*ℤ◌, ◌≤ℤ◌, List, [], ◌∷◌, ◌++◌, length, map, Option, Result, Ok, Err, inr, refl, sym, ap, ap₂, subst, subst₂, ◌∙◌, arith, take, drop, slice_index_or}
-use Rattle.std.specs.Result.{IfErr, IfOk, OnOk}
-use Rattle.std.proofs.Common.{◌↔◌, Bool, true, false}
-use Rattle.std.specs.Bool.{IsTrue}
+use Rattle.std.proofs.Common.{◌≡◌, ℕ, suc, ◌+◌, ◌^◌, ◌<◌, ◌≤◌, ℤ, pos, ◌*ℤ◌, ◌≤ℤ◌, List, [], ◌∷◌, ◌++◌, length, map, Option, Result, Ok, Err, refl, sym, ap, ap₂, subst, subst₂, ◌∙◌, arith, take, drop, slice_index_or}
+use Rattle.std.specs.Result.{IfErr, IfOk, IsErrAnd, OnOk}
 use Rattle.it_space.specs.Rows.{ValueFits}
 use Rattle.it_check.specs.Meaning.{PointFits}
 use Rattle.std.proofs.lemmas.List.{length-map, length-append}
@@ -26,7 +24,7 @@ use Rattle.it_columns.proofs.ColumnLemmas.{few_columns}
 use Rattle.it_ratio.specs.declared.types.Best.{Best}
 use Rattle.it_best.specs.declared.unknowns.Unknown.{Unknown}
 use Rattle.it_ratio.specs.BestViews.{BestView, best_view}
-use Rattle.it_best.specs.Ends.{EndsWith, IsLarge, LeastPointFits, PhaseEnds, SidesFit, first, third}
+use Rattle.it_best.specs.Ends.{EndsWith, LeastPointFits, PhaseEnds, SidesFit, first, third}
 use Rattle.it_best.specs.PhaseSteps.{End, FirstEnds, FollowsFirst, FollowsPhases, FollowsSecond, FollowsThird, HasSecondPoint, IsEndPoint, PhaseSums}
 use Rattle.it_best.specs.PhaseSteps.{SecondEnds, Settles, SidesView, first_unknowns}
 use Rattle.it_best.specs.declared.finding.Stop.{Stop}
@@ -190,33 +188,23 @@ pub right_result : {E : Type 0} (q : ProblemView) (left right : Terms) (budget :
 right_result q left right budget (Err e) k l r h = tt
 right_result q left right budget (Ok b) k l r h = best_is_right q left right budget (best_view b) k l r h
 
-pub not_large : (b : Bool) (P : Type 0) → b ≡ false → IsTrue b ↔ P → ¬ P
-not_large true P e i p = cc
-not_large false P e i p = Rattle.std.proofs.lemmas.Bool.false≢true (i.1 p)
-
--- where the table isn't too large, an answer by the phases is the answer
-pub goes_on : (s : SidesView) (budget : Option ℕ) (b : BestView) → ¬ (IsLarge s.problem) → FollowsPhases s budget b
-    → EndsWith s.problem s.left s.right budget b
-goes_on s budget b small f = inr (small, f)
-
 -- ---- from one phase to the next
 
--- an answer by the end of the first phase
-pub by_first_end : (s : SidesView) (budget : Option ℕ) (us : List Generator) (e : End) (stop : Stop) → us ≡ first_unknowns s → FirstEnds s us budget e
-    → Settles (λ b. (budget : Option ℕ) → FollowsFirst s budget e b) stop → Settles (FollowsPhases s budget) stop
-by_first_end s budget us e Memory a p f = tt
-by_first_end s budget us e (Answer b) a p f = (e, subst (λ vs. FirstEnds s vs budget e) a p, f budget)
+-- the answer by the end of the first phase, which settles it
+pub first_settles : {T : Type 0} (s : SidesView) (budget : Option ℕ) (us : List Generator) (e : End) (r : Result T Stop) (stop : Stop)
+    → us ≡ first_unknowns s → FirstEnds s us budget e → IsErrAnd r (λ x. x ≡ stop) → Settles (λ b. (budget : Option ℕ) → FollowsFirst s budget e b) stop
+    → IfErr r (Settles (FollowsPhases s budget))
+first_settles s budget us e (Ok x) stop a p same f = tt
+first_settles s budget us e (Err x) stop a p same f = subst (Settles (FollowsPhases s budget)) (sym same) (by_stop stop f)
+  where
+    by_stop : (stop : Stop) → Settles (λ b. (budget : Option ℕ) → FollowsFirst s budget e b) stop → Settles (FollowsPhases s budget) stop
+    by_stop Memory f = tt
+    by_stop (Answer b) f = (e, subst (λ vs. FirstEnds s vs budget e) a p, f budget)
 
--- an answer by the second phase, after weights of the first
-pub by_second_end : (s : SidesView) (budget : Option ℕ) (us : List Generator) (e : End) (ws : List (ℕ × Rational)) (stop : Stop) → us ≡ first_unknowns s
-    → FirstEnds s us budget e → e ≡ Weights ws → Settles (FollowsFirst s budget (Weights ws)) stop → Settles (FollowsPhases s budget) stop
-by_second_end s budget us e ws Memory a p w f = tt
-by_second_end s budget us e ws (Answer b) a p w f = (Weights ws, subst₂ (λ vs x. FirstEnds s vs budget x) a w p, f)
-
--- an answer by the third phase, after weights of the first and a point of the second
-pub by_third_end : (s : SidesView) (budget : Option ℕ) (us : List Generator) (e : End) (ws : List (ℕ × Rational)) (b : BestView) → us ≡ first_unknowns s
+-- the answer by the third phase, after weights of the first and a point of the second
+pub third_settles : (s : SidesView) (budget : Option ℕ) (us : List Generator) (e : End) (ws : List (ℕ × Rational)) (b : BestView) → us ≡ first_unknowns s
     → FirstEnds s us budget e → e ≡ Weights ws → HasSecondPoint s budget → FollowsThird s budget b → FollowsPhases s budget b
-by_third_end s budget us e ws b a p w point f = (Weights ws, subst₂ (λ vs x. FirstEnds s vs budget x) a w p, Point point.0, point.1, f)
+third_settles s budget us e ws b a p w point f = (Weights ws, subst₂ (λ vs x. FirstEnds s vs budget x) a w p, (Point point.0, point.1, f))
 
 -- the second phase ends with a point
 pub second_passes : {E : Type 0} (s : SidesView) (budget : Option ℕ) (us : List Generator) (e : End) (r : Result (Unit {0}) E) → us ≡ generators s.problem

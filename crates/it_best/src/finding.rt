@@ -153,6 +153,7 @@ fn second_point(
     ensures reached { OnOk result (HasNoThirdPoint sides.now) }
     ensures settles { IfErr result (Settles (λ b. (budget : Option ℕ) → FollowsSecond sides.now budget first.now.weights.now (end_of_answer end.now) b)) }
 {
+    sides.facts();
     match end {
         Solved::Weights(weights) => {
             let second = Sum {
