@@ -1,5 +1,5 @@
 -- No public clause cites this module: the list after one rate gathered row by row.
-use Rattle.std.specs.Prelude.{◌≡◌, ◌⊎◌, ℕ, ℤ, pos, ◌<◌, ◌≤◌, ◌<ℤ◌, List, [], ◌∷◌, length, map, if◌then◌else◌}
+use Rattle.std.specs.Prelude.{◌≡◌, ◌⊎◌, ℕ, ℤ, pos, ◌<◌, ◌<ℤ◌, List, [], ◌∷◌, length, map, if◌then◌else◌}
 use Rattle.std.specs.Global.{Vec}
 use Rattle.std.specs.List.{flat_map, AllByRecursion as Every}
 use Rattle.it_space.specs.Rows.{Terms, IsCanonical, coefficient}

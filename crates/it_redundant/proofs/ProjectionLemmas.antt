@@ -81,7 +81,8 @@ module _ (givens : ProblemView) (effort : Effort) (most : ℕ) where
       pub leads_more : (new : Reduced) → IsAfterRate givens effort most (kept_rows (kept_view old)) r (region_view new)
           → All (IsOver size) (kept_rows (kept_view new)) → Leads size rows rates new (i + 1)
       leads_more new after up = record {
-        more = λ end h. l.more end (one_more_rate rates i r below is (kept_rows (kept_view old)) (kept_view old) (dropped_view old) (region_view new) end after h);
+        more = λ end h. l.more end (one_more_rate rates i r below is (kept_rows (kept_view old)) (kept_view old) (dropped_view old)
+            (region_view new) end after h);
         up = up;
       }
 

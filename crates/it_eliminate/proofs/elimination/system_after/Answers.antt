@@ -1,4 +1,4 @@
-use Rattle.std.proofs.Common.{rules, ◌≡◌, ◌^◌, get_or, refl}
+use Rattle.std.proofs.Common.{rules, ◌^◌, refl}
 use Rattle.it_eliminate.proofs.EndLemmas.{ends_done, leads_on, stops_on}
 use Rattle.it_eliminate.proofs.LawLemmas.{is_projection}
 use Rattle.it_eliminate.proofs.elimination.system_after.Goals as goal
