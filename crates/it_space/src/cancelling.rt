@@ -74,7 +74,7 @@ fn mix(
             times: b,
             terms: right,
         };
-        put_term(&mut terms, coordinate, up_rest, down_rest, at)?;
+        put_term(&mut terms, coordinate, &up_rest, &down_rest, at)?;
         left = rest_after(left, coordinate);
         right = rest_after(right, coordinate);
     }
@@ -119,7 +119,7 @@ fn rest_after(terms: &[(u32, i128)], coordinate: u32) -> &[(u32, i128)]
 }
 
 /// A factor, and the terms of the row that it multiplies.
-#[derive(Clone, Copy, Drop)]
+#[derive(Drop)]
 struct Multiple<'a> {
     times: u128,
     terms: &'a [(u32, i128)],
@@ -129,16 +129,16 @@ struct Multiple<'a> {
 fn put_term(
     terms: &mut Vec<(u32, i128)>,
     coordinate: u32,
-    left: Multiple<'_>,
-    right: Multiple<'_>,
+    left: &Multiple<'_>,
+    right: &Multiple<'_>,
     at: u32,
 ) -> Result<(), RowFault>
-    requires left { Ascends coordinate left.terms.now }
-    requires right { Ascends coordinate right.terms.now }
-    requires left_times { left.times < 2 ^ 127 }
-    requires right_times { right.times < 2 ^ 127 }
-    ensures is { OnOk result (IsTermPut at coordinate left.times left.terms.now right.times right.terms.now terms.old.items terms.new.items) }
-    ensures wide { IfErr result (λ f. f ≡ IsTooWide → (coordinate ≢ at) × ¬ (MixFitsAt left.times left.terms.now right.times right.terms.now coordinate)) }
+    requires left { Ascends coordinate left.now.terms.now }
+    requires right { Ascends coordinate right.now.terms.now }
+    requires left_times { left.now.times < 2 ^ 127 }
+    requires right_times { right.now.times < 2 ^ 127 }
+    ensures is { OnOk result (IsTermPut at coordinate left.now.times left.now.terms.now right.now.times right.now.terms.now terms.old.items terms.new.items) }
+    ensures wide { IfErr result (λ fault. fault ≡ IsTooWide → (coordinate ≢ at) × ¬ (MixFitsAt left.now.times left.now.terms.now right.now.times right.now.terms.now coordinate)) }
 {
     if coordinate == at {
         return Ok(());
