@@ -130,30 +130,31 @@ fn put_in_order(summands: &mut Vec<Summand>, summand: Summand) -> Result<(), All
     Ok(())
 }
 
-/// `term` as an atom.
-pub fn atom_of(notation: &Notation<'_>, term: &ClosedTerm) -> Atom {
-    for measure in notation.measures {
-        if notation.closures.fold(&measure.atom) == Some(*term) {
+/// `term` as an atom: the first of `measures` that is this term over closed sets, else one of few names.
+pub fn atom_of(closures: &Closures, measures: &[Measure], term: &ClosedTerm) -> Atom {
+    for measure in measures {
+        if closures.fold(&measure.atom) == Some(*term) {
             return measure.atom;
         }
     }
-    notation.closures.short_atom(term)
+    closures.short_atom(term)
 }
 
 /// `summand` as a term to write.
-fn written(notation: &Notation<'_>, summand: &Summand) -> Term {
+fn written(closures: &Closures, measures: &[Measure], summand: &Summand) -> Term {
     Term {
         negative: false,
         number: summand.times,
         denominator: 1,
-        atom: atom_of(notation, &summand.term),
+        atom: atom_of(closures, measures, &summand.term),
     }
 }
 
 /// `summands` in the order of `stands_before`, as terms to write.
 fn in_order(
     alloc: Global,
-    notation: &Notation<'_>,
+    closures: &Closures,
+    measures: &[Measure],
     summands: &[Summand],
 ) -> Result<Vec<Term>, AllocError> {
     let mut sorted = Vec::new(alloc);
@@ -162,7 +163,7 @@ fn in_order(
     }
     let mut terms = Vec::new(alloc);
     for summand in sorted.as_slice() {
-        terms.push(written(notation, summand))?;
+        terms.push(written(closures, measures, summand))?;
     }
     Ok(terms)
 }
@@ -180,7 +181,12 @@ pub fn folded_terms(
         }
     }
     let summands = joined(alloc, notation.closures, summands)?;
-    Ok(in_order(alloc, notation, summands.as_slice())?)
+    Ok(in_order(
+        alloc,
+        notation.closures,
+        notation.measures,
+        summands.as_slice(),
+    )?)
 }
 
 /// The sum of the coefficients of `terms` at coordinates whose place over closed sets is `place`.

@@ -209,8 +209,13 @@ fn single(closures: &Closures, terms: &[(u32, i128)]) -> Option<(i128, ClosedTer
 }
 
 /// `times` times `term`, as a term to write.
-fn written(notation: &Notation<'_>, times: i128, term: &ClosedTerm) -> Result<Term, Untold> {
-    term_of(times, atom_of(notation, term))
+fn written(
+    closures: &Closures,
+    measures: &[Measure],
+    times: i128,
+    term: &ClosedTerm,
+) -> Result<Term, Untold> {
+    term_of(times, atom_of(closures, measures, term))
 }
 
 /// The closed sets of `variables` variables, by number.
@@ -283,7 +288,8 @@ fn least_number(terms: &[(u32, i128)]) -> Result<i128, Untold> {
 /// Two terms whose sum is `part`: `times` times `first`, and the rest, where that is a multiple of one term; else None.
 fn pair_with(
     alloc: Global,
-    notation: &Notation<'_>,
+    closures: &Closures,
+    measures: &[Measure],
     part: &Part,
     first: &ClosedTerm,
     times: i128,
@@ -291,13 +297,13 @@ fn pair_with(
     let mut rest = Part {
         terms: Vec::from_slice(alloc, part.terms.as_slice())?,
     };
-    rest.add(notation.closures, first, turned(times, true)?)?;
-    let Some((more, second)) = single(notation.closures, rest.terms.as_slice()) else {
+    rest.add(closures, first, turned(times, true)?)?;
+    let Some((more, second)) = single(closures, rest.terms.as_slice()) else {
         return Ok(None);
     };
     let mut terms = Vec::new(alloc);
-    terms.push(written(notation, times, first)?)?;
-    terms.push(written(notation, more, &second)?)?;
+    terms.push(written(closures, measures, times, first)?)?;
+    terms.push(written(closures, measures, more, &second)?)?;
     Ok(Some(terms))
 }
 
@@ -324,7 +330,8 @@ fn less_to_read(
 /// a coefficient as its number, with a plus or a minus.
 fn pair_sum(
     alloc: Global,
-    notation: &Notation<'_>,
+    closures: &Closures,
+    measures: &[Measure],
     terms: &[ClosedTerm],
     part: &Part,
 ) -> Result<Option<Vec<Term>>, Untold> {
@@ -332,10 +339,10 @@ fn pair_sum(
     let opposite = turned(times, true)?;
     let mut best = None;
     for first in terms {
-        let plus = pair_with(alloc, notation, part, first, times)?;
-        best = less_to_read(notation.measures, best, plus);
-        let minus = pair_with(alloc, notation, part, first, opposite)?;
-        best = less_to_read(notation.measures, best, minus);
+        let plus = pair_with(alloc, closures, measures, part, first, times)?;
+        best = less_to_read(measures, best, plus);
+        let minus = pair_with(alloc, closures, measures, part, first, opposite)?;
+        best = less_to_read(measures, best, minus);
     }
     Ok(best)
 }
@@ -386,13 +393,13 @@ pub fn closed_sum(
         });
     }
     if let Some((times, term)) = single(notation.closures, part.terms.as_slice()) {
-        let only = written(notation, times, &term)?;
+        let only = written(notation.closures, notation.measures, times, &term)?;
         return Ok(Found {
             scale: 1,
             terms: Vec::from_slice(alloc, &[only])?,
         });
     }
-    if let Some(terms) = pair_sum(alloc, notation, terms, &part)? {
+    if let Some(terms) = pair_sum(alloc, notation.closures, notation.measures, terms, &part)? {
         return Ok(Found { scale: 1, terms });
     }
     let closed = closed_measures(alloc, functions, notation.measures)?;

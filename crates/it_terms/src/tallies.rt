@@ -118,7 +118,7 @@ impl Tally {
                     second: *set,
                     given,
                 };
-                terms.push(term_of(number, atom_of(notation, &term))?)?;
+                terms.push(term_of(number, atom_of(notation.closures, notation.measures, &term))?)?;
             }
         }
         Ok(())
