@@ -162,6 +162,72 @@ valid_coded k q a c t i is_no valid judged all = by_verdict judged.verdict judge
     by_verdict (OtherCode names s) is told = absurd is
     by_verdict (Hulled v) is told = absurd is
 
+line_is_judged : (k : ℕ) (line text : List ℕ) (invalid : Bool) (reported : Reported) → Reports line (Ok reported)
+    → IsJudgedReport k reported text invalid → IsJudgedLine k line text invalid
+line_is_judged k line text invalid reported h judged = by_reading h.0 reported h.1 h.2 judged
+  where
+    by_reading : (reading : Reading) (reported : Reported) → IsReported reading reported → ReadsReport line (Ok reading)
+        → IsJudgedReport k reported text invalid → IsJudgedLine k line text invalid
+    by_reading (Answered source a) (variants.Answered question answer) same h judged =
+        let verdict : IsAnswerVerdict (asked source).body a judged.verdict =
+        subst (λ b. IsAnswerVerdict (asked source).body b judged.verdict) (sym same.1)
+        (subst (λ (q : QuestionView). IsAnswerVerdict q.body (answer_view answer) judged.verdict) (sym same.0) judged.is) in
+        record { verdict = judged.verdict; is = read_verdict line (Answered source a) judged.verdict h verdict; told = judged.told }
+    by_reading (Answered source a) (variants.Coded question answer code) same h judged = absurd same
+    by_reading (Answered source a) (variants.Derived question answer origins) same h judged = absurd same
+    by_reading (Answered source a) (variants.Factored question best) same h judged = absurd same
+    by_reading (Answered source a) (variants.Bounded question bounds) same h judged = absurd same
+    by_reading (Answered source a) variants.Misfit same h judged = absurd same
+    by_reading (Coded source a c) (variants.Answered question answer) same h judged = absurd same
+    by_reading (Coded source a c) (variants.Coded question answer code) same h judged =
+        let verdict : IsCodedVerdict (asked source).body a c judged.verdict =
+        subst (λ x. IsCodedVerdict (asked source).body a x judged.verdict) (sym same.2)
+        (subst (λ x. IsCodedVerdict (asked source).body x code judged.verdict) (sym same.1)
+        (subst (λ (q : QuestionView). IsCodedVerdict q.body (answer_view answer) code judged.verdict) (sym same.0) judged.is)) in
+        record { verdict = judged.verdict; is = read_verdict line (Coded source a c) judged.verdict h verdict; told = judged.told }
+    by_reading (Coded source a c) (variants.Derived question answer origins) same h judged = absurd same
+    by_reading (Coded source a c) (variants.Factored question best) same h judged = absurd same
+    by_reading (Coded source a c) (variants.Bounded question bounds) same h judged = absurd same
+    by_reading (Coded source a c) variants.Misfit same h judged = absurd same
+    by_reading (Derived source a ws) (variants.Answered question answer) same h judged = absurd same
+    by_reading (Derived source a ws) (variants.Coded question answer code) same h judged = absurd same
+    by_reading (Derived source a ws) (variants.Derived question answer origins) same h judged =
+        let verdict : IsDerivedVerdict (asked source).body a ws judged.verdict =
+        subst (λ x. IsDerivedVerdict (asked source).body a x judged.verdict) (sym same.2)
+        (subst (λ x. IsDerivedVerdict (asked source).body x (map certificate_view origins.items) judged.verdict) (sym same.1)
+        (subst (λ (q : QuestionView). IsDerivedVerdict q.body (answer_view answer) (map certificate_view origins.items) judged.verdict)
+        (sym same.0) judged.is)) in
+        record { verdict = judged.verdict; is = read_verdict line (Derived source a ws) judged.verdict h verdict; told = judged.told }
+    by_reading (Derived source a ws) (variants.Factored question best) same h judged = absurd same
+    by_reading (Derived source a ws) (variants.Bounded question bounds) same h judged = absurd same
+    by_reading (Derived source a ws) variants.Misfit same h judged = absurd same
+    by_reading (Factored source b) (variants.Answered question answer) same h judged = absurd same
+    by_reading (Factored source b) (variants.Coded question answer code) same h judged = absurd same
+    by_reading (Factored source b) (variants.Derived question answer origins) same h judged = absurd same
+    by_reading (Factored source b) (variants.Factored question best) same h judged =
+        let v = factor_line_verdict question.body (best_view best) in
+        let told : v ≡ factor_line_verdict (asked source).body b = ap₂ (λ (q : QuestionView) (x : BestView). factor_line_verdict q.body x)
+        (sym same.0) (sym same.1) in
+        record { verdict = factor_line_verdict question.body (best_view best); is = read_verdict line (Factored source b) v h told; told = judged }
+    by_reading (Factored source b) (variants.Bounded question bounds) same h judged = absurd same
+    by_reading (Factored source b) variants.Misfit same h judged = absurd same
+    by_reading (Bounded source b) (variants.Answered question answer) same h judged = absurd same
+    by_reading (Bounded source b) (variants.Coded question answer code) same h judged = absurd same
+    by_reading (Bounded source b) (variants.Derived question answer origins) same h judged = absurd same
+    by_reading (Bounded source b) (variants.Factored question best) same h judged = absurd same
+    by_reading (Bounded source b) (variants.Bounded question bounds) same h judged =
+        let verdict : IsBoundsVerdict (asked source).body b judged.verdict =
+        subst (λ c. IsBoundsVerdict (asked source).body c judged.verdict) (sym same.1)
+        (subst (λ (q : QuestionView). IsBoundsVerdict q.body (bounds_view bounds) judged.verdict) (sym same.0) judged.is) in
+        record { verdict = judged.verdict; is = read_verdict line (Bounded source b) judged.verdict h verdict; told = judged.told }
+    by_reading (Bounded source b) variants.Misfit same h judged = absurd same
+    by_reading Misfit (variants.Answered question answer) same h judged = absurd same
+    by_reading Misfit (variants.Coded question answer code) same h judged = absurd same
+    by_reading Misfit (variants.Derived question answer origins) same h judged = absurd same
+    by_reading Misfit (variants.Factored question best) same h judged = absurd same
+    by_reading Misfit (variants.Bounded question bounds) same h judged = absurd same
+    by_reading Misfit variants.Misfit same h judged = record { verdict = Skipped; is = read_verdict line Misfit Skipped h refl; told = judged }
+
 module _ {L E : Type 0} (text : L → List ℕ) (invalid : L → Bool) (k : ℕ) where
   -- the line about a fault is that of each line that has it
   pub fault_is_judged : (fault : ReportFault) (r : Result L E) → IfOk r (λ j. IsFaultLine k fault (text j) (invalid j))
@@ -178,76 +244,10 @@ module _ {L E : Type 0} (text : L → List ℕ) (invalid : L → Bool) (k : ℕ)
   fault_is_invalid (faults.Shape key) (Ok j) told = told.1
   fault_is_invalid fault (Err e) told = tt
 
-  line_is_judged : (line : List ℕ) (reported : Reported) (j : L) → Reports line (Ok reported)
-      → IsJudgedReport k reported (text j) (invalid j) → IsJudgedLine k line (text j) (invalid j)
-  line_is_judged line reported j h judged = by_reading h.0 reported h.1 h.2 judged
-    where
-      by_reading : (reading : Reading) (reported : Reported) → IsReported reading reported → ReadsReport line (Ok reading)
-          → IsJudgedReport k reported (text j) (invalid j) → IsJudgedLine k line (text j) (invalid j)
-      by_reading (Answered source a) (variants.Answered question answer) same h judged =
-          let verdict : IsAnswerVerdict (asked source).body a judged.verdict =
-          subst (λ b. IsAnswerVerdict (asked source).body b judged.verdict) (sym same.1)
-          (subst (λ (q : QuestionView). IsAnswerVerdict q.body (answer_view answer) judged.verdict) (sym same.0) judged.is) in
-          record { verdict = judged.verdict; is = read_verdict line (Answered source a) judged.verdict h verdict; told = judged.told }
-      by_reading (Answered source a) (variants.Coded question answer code) same h judged = absurd same
-      by_reading (Answered source a) (variants.Derived question answer origins) same h judged = absurd same
-      by_reading (Answered source a) (variants.Factored question best) same h judged = absurd same
-      by_reading (Answered source a) (variants.Bounded question bounds) same h judged = absurd same
-      by_reading (Answered source a) variants.Misfit same h judged = absurd same
-      by_reading (Coded source a c) (variants.Answered question answer) same h judged = absurd same
-      by_reading (Coded source a c) (variants.Coded question answer code) same h judged =
-          let verdict : IsCodedVerdict (asked source).body a c judged.verdict =
-          subst (λ x. IsCodedVerdict (asked source).body a x judged.verdict) (sym same.2)
-          (subst (λ x. IsCodedVerdict (asked source).body x code judged.verdict) (sym same.1)
-          (subst (λ (q : QuestionView). IsCodedVerdict q.body (answer_view answer) code judged.verdict) (sym same.0) judged.is)) in
-          record { verdict = judged.verdict; is = read_verdict line (Coded source a c) judged.verdict h verdict; told = judged.told }
-      by_reading (Coded source a c) (variants.Derived question answer origins) same h judged = absurd same
-      by_reading (Coded source a c) (variants.Factored question best) same h judged = absurd same
-      by_reading (Coded source a c) (variants.Bounded question bounds) same h judged = absurd same
-      by_reading (Coded source a c) variants.Misfit same h judged = absurd same
-      by_reading (Derived source a ws) (variants.Answered question answer) same h judged = absurd same
-      by_reading (Derived source a ws) (variants.Coded question answer code) same h judged = absurd same
-      by_reading (Derived source a ws) (variants.Derived question answer origins) same h judged =
-          let verdict : IsDerivedVerdict (asked source).body a ws judged.verdict =
-          subst (λ x. IsDerivedVerdict (asked source).body a x judged.verdict) (sym same.2)
-          (subst (λ x. IsDerivedVerdict (asked source).body x (map certificate_view origins.items) judged.verdict) (sym same.1)
-          (subst (λ (q : QuestionView). IsDerivedVerdict q.body (answer_view answer) (map certificate_view origins.items) judged.verdict)
-          (sym same.0) judged.is)) in
-          record { verdict = judged.verdict; is = read_verdict line (Derived source a ws) judged.verdict h verdict; told = judged.told }
-      by_reading (Derived source a ws) (variants.Factored question best) same h judged = absurd same
-      by_reading (Derived source a ws) (variants.Bounded question bounds) same h judged = absurd same
-      by_reading (Derived source a ws) variants.Misfit same h judged = absurd same
-      by_reading (Factored source b) (variants.Answered question answer) same h judged = absurd same
-      by_reading (Factored source b) (variants.Coded question answer code) same h judged = absurd same
-      by_reading (Factored source b) (variants.Derived question answer origins) same h judged = absurd same
-      by_reading (Factored source b) (variants.Factored question best) same h judged =
-          let v = factor_line_verdict question.body (best_view best) in
-          let told : v ≡ factor_line_verdict (asked source).body b = ap₂ (λ (q : QuestionView) (x : BestView). factor_line_verdict q.body x)
-          (sym same.0) (sym same.1) in
-          record { verdict = factor_line_verdict question.body (best_view best); is = read_verdict line (Factored source b) v h told; told = judged }
-      by_reading (Factored source b) (variants.Bounded question bounds) same h judged = absurd same
-      by_reading (Factored source b) variants.Misfit same h judged = absurd same
-      by_reading (Bounded source b) (variants.Answered question answer) same h judged = absurd same
-      by_reading (Bounded source b) (variants.Coded question answer code) same h judged = absurd same
-      by_reading (Bounded source b) (variants.Derived question answer origins) same h judged = absurd same
-      by_reading (Bounded source b) (variants.Factored question best) same h judged = absurd same
-      by_reading (Bounded source b) (variants.Bounded question bounds) same h judged =
-          let verdict : IsBoundsVerdict (asked source).body b judged.verdict =
-          subst (λ c. IsBoundsVerdict (asked source).body c judged.verdict) (sym same.1)
-          (subst (λ (q : QuestionView). IsBoundsVerdict q.body (bounds_view bounds) judged.verdict) (sym same.0) judged.is) in
-          record { verdict = judged.verdict; is = read_verdict line (Bounded source b) judged.verdict h verdict; told = judged.told }
-      by_reading (Bounded source b) variants.Misfit same h judged = absurd same
-      by_reading Misfit (variants.Answered question answer) same h judged = absurd same
-      by_reading Misfit (variants.Coded question answer code) same h judged = absurd same
-      by_reading Misfit (variants.Derived question answer origins) same h judged = absurd same
-      by_reading Misfit (variants.Factored question best) same h judged = absurd same
-      by_reading Misfit (variants.Bounded question bounds) same h judged = absurd same
-      by_reading Misfit variants.Misfit same h judged = record { verdict = Skipped; is = read_verdict line Misfit Skipped h refl; told = judged }
-
   -- the line about what was read is that of each line that reads so
   pub report_is_judged : (reported : Reported) (r : Result L E) → IfOk r (λ j. IsJudgedReport k reported (text j) (invalid j))
       → IfOk r (λ j. IsJudgedWhereRead k (Ok reported) (text j) (invalid j))
-  report_is_judged reported (Ok j) judged = λ line h. line_is_judged line reported j h judged
+  report_is_judged reported (Ok j) judged = λ line h. line_is_judged k line (text j) (invalid j) reported h judged
   report_is_judged reported (Err e) judged = tt
 
   -- that of a line which reads so

@@ -130,21 +130,28 @@ fn both_verdict(
 fn least_verdict(
     alloc: Global,
     problem: &Problem,
-    sides: SideRows<'_>,
-    factor: CertifiedFactor<'_>,
+    sides: &SideRows<'_>,
+    factor: &CertifiedFactor<'_>,
     point: &Point,
 ) -> Result<FactorVerdict, RowStop>
-    requires sides { AreSideRows problem.now sides.left.now sides.right.now }
+    requires sides { AreSideRows problem.now sides.now.left.now sides.now.right.now }
     requires complete { length point.now ≡ size_of problem.now.space }
-    ensures verdict { Gives result (least_verdict problem.now sides.left.now sides.right.now factor.num.now factor.den.now (certificate_view factor.proof.now) point.now) }
+    ensures verdict { Gives result (least_verdict problem.now sides.now.left.now sides.now.right.now factor.now.num.now factor.now.den.now (certificate_view factor.now.proof.now) point.now) }
     ensures over { IfOk result (IsFactorVerdictOver (size_of problem.now.space + 1)) }
 {
     if *factor.den < 1 {
         return Ok(FactorVerdict::BelowOne { den: *factor.den });
     }
-    let SideRows { left, right } = sides;
-    let row = side_row(alloc, problem.space(), left, right, factor.num, factor.den)?;
-    let negated = side_row(alloc, problem.space(), left, right, &-1, &0)?;
+    let space = problem.space();
+    let row = side_row(
+        alloc,
+        space,
+        sides.left,
+        sides.right,
+        factor.num,
+        factor.den,
+    )?;
+    let negated = side_row(alloc, space, sides.left, sides.right, &-1, &0)?;
     Ok(factor_verdict(problem, &row, &negated, factor.proof, point))
 }
 
@@ -152,12 +159,12 @@ fn least_verdict(
 fn never_verdict(
     alloc: Global,
     problem: &Problem,
-    sides: SideRows<'_>,
+    sides: &SideRows<'_>,
     point: &Point,
 ) -> Result<FactorVerdict, RowStop>
-    requires sides { AreSideRows problem.now sides.left.now sides.right.now }
+    requires sides { AreSideRows problem.now sides.now.left.now sides.now.right.now }
     requires complete { length point.now ≡ size_of problem.now.space }
-    ensures verdict { Gives result (never_verdict problem.now sides.left.now sides.right.now point.now) }
+    ensures verdict { Gives result (never_verdict problem.now sides.now.left.now sides.now.right.now point.now) }
     ensures over { IfOk result (IsFactorVerdictOver (size_of problem.now.space + 1)) }
 {
     let negated = side_row(alloc, problem.space(), sides.left, sides.right, &0, &1)?;
@@ -168,20 +175,27 @@ fn never_verdict(
 fn unbounded_verdict(
     alloc: Global,
     problem: &Problem,
-    sides: SideRows<'_>,
-    factor: CertifiedFactor<'_>,
+    sides: &SideRows<'_>,
+    factor: &CertifiedFactor<'_>,
     below: &Certificate,
 ) -> Result<FactorVerdict, RowStop>
-    requires { AreSideRows problem.now sides.left.now sides.right.now }
-    ensures verdict { Gives result (unbounded_verdict problem.now sides.left.now sides.right.now factor.num.now factor.den.now (certificate_view factor.proof.now) (certificate_view below.now)) }
+    requires { AreSideRows problem.now sides.now.left.now sides.now.right.now }
+    ensures verdict { Gives result (unbounded_verdict problem.now sides.now.left.now sides.now.right.now factor.now.num.now factor.now.den.now (certificate_view factor.now.proof.now) (certificate_view below.now)) }
     ensures over { IfOk result (IsFactorVerdictOver (size_of problem.now.space + 1)) }
 {
     if *factor.den < 1 {
         return Ok(FactorVerdict::BelowOne { den: *factor.den });
     }
-    let SideRows { left, right } = sides;
-    let row = side_row(alloc, problem.space(), left, right, factor.num, factor.den)?;
-    let negated = side_row(alloc, problem.space(), left, right, &-1, &0)?;
+    let space = problem.space();
+    let row = side_row(
+        alloc,
+        space,
+        sides.left,
+        sides.right,
+        factor.num,
+        factor.den,
+    )?;
+    let negated = side_row(alloc, space, sides.left, sides.right, &-1, &0)?;
     Ok(both_verdict(problem, &row, &negated, factor.proof, below))
 }
 
@@ -205,12 +219,12 @@ fn verdict_or_wide(given: Result<FactorVerdict, RowStop>) -> Result<FactorVerdic
 pub fn best_verdict(
     alloc: Global,
     problem: &Problem,
-    sides: SideRows<'_>,
+    sides: &SideRows<'_>,
     best: &Best,
 ) -> Result<Option<FactorVerdict>, AllocError>
-    requires sides { AreSideRows problem.now sides.left.now sides.right.now }
+    requires sides { AreSideRows problem.now sides.now.left.now sides.now.right.now }
     requires complete { IsComplete (size_of problem.now.space) (best_view best.now) }
-    ensures verdict { IfOk result (λ v. v ≡ best_verdict problem.now sides.left.now sides.right.now (best_view best.now)) }
+    ensures verdict { IfOk result (λ v. v ≡ best_verdict problem.now sides.now.left.now sides.now.right.now (best_view best.now)) }
     ensures over { IfOk result (λ o. (v : FactorVerdict) → o ≡ Some v → IsFactorVerdictOver (size_of problem.now.space + 1) v) }
 {
     let given = match best {
@@ -223,7 +237,7 @@ pub fn best_verdict(
             alloc,
             problem,
             sides,
-            CertifiedFactor { num, den, proof },
+            &CertifiedFactor { num, den, proof },
             point,
         ),
         Best::Never(point) => never_verdict(alloc, problem, sides, point),
@@ -236,7 +250,7 @@ pub fn best_verdict(
             alloc,
             problem,
             sides,
-            CertifiedFactor { num, den, proof },
+            &CertifiedFactor { num, den, proof },
             below,
         ),
         Best::Undecided(_) => return Ok(None),

@@ -268,7 +268,7 @@ fn best_line(
         left: &left,
         right: &right,
     };
-    match best_verdict(alloc, &problem, rows, best)? {
+    match best_verdict(alloc, &problem, &rows, best)? {
         Some(verdict) => factor_line(alloc, k, problem_names(question), &verdict),
         None => skipped_line(alloc, k),
     }

@@ -29,7 +29,8 @@ returns-then-not-is_valid c =
     let invalid : is_valid v ≡ false = search rules in
     let verdict : bounds_verdict q b ≡ v = sym (c.parts_verdict-verdict.ensures.verdict
     ∙ ap (λ x. parts_verdict x b) (one_problem (under_all_lines q) p c.in_ok-problem.ensures)) in
-    bounds_told (λ j. j.text.items) (λ j. j.invalid) c.args.k q b (Judged q.names v) c.verdict_line.result (refl, verdict, invalid) c.verdict_line.ensures
+    bounds_told (λ j. j.text.items) (λ j. j.invalid) c.args.k q b (Judged q.names v) c.verdict_line.result (refl, verdict, invalid)
+    (rw c.names.ensures.value at c.verdict_line.ensures)
 
 pub returns : goal.returns
 returns c =

@@ -33,4 +33,5 @@ returns c =
     let verdict : IsDerivedVerdict q a ws (Judged q.names v) = ap (Judged q.names)
     (c.proofs_verdict-verdict.ensures.verdict ∙ ap (λ ts. proofs_verdict p ts ws) (sym rows)
     ∙ ap (λ x. proofs_verdict x (rows_of a) ws) (one_problem (under_all_lines q) p c.in_ok-problem.ensures)) in
-    derived_told (λ j. j.text.items) (λ j. j.invalid) c.args.k q a ws (Judged q.names v) c.verdict_line.result verdict c.verdict_line.ensures
+    derived_told (λ j. j.text.items) (λ j. j.invalid) c.args.k q a ws (Judged q.names v) c.verdict_line.result verdict
+    (rw c.names.ensures.value at c.verdict_line.ensures)
