@@ -149,6 +149,7 @@ fn yes_line(
     requires fits { HasQuestionShape question.now.body (Yes (map certificate_view proofs.now)) }
     ensures { IfOk result (λ j. IsJudgedAnswer k question.now.body (Yes (map certificate_view proofs.now)) j.text.items j.invalid) }
 {
+    question.facts();
     let problem = problem(alloc, question)?;
     let rows = target_rows(alloc, relation_of(question), problem.space())?;
     let verdict = proofs_verdict(&problem, rows.as_slice(), proofs);
@@ -166,6 +167,7 @@ fn no_line(
     requires fits { HasQuestionShape question.now.body (No back point.now) }
     ensures { IfOk result (λ j. IsJudgedAnswer k question.now.body (No back point.now) j.text.items j.invalid) }
 {
+    question.facts();
     let problem = problem(alloc, question)?;
     let rows = target_rows(alloc, relation_of(question), problem.space())?;
     let verdict = point_verdict(&problem, rows.as_slice(), back, point);
@@ -262,6 +264,7 @@ fn best_line(
     requires fits { HasFactorShape question.now.body (best_view best.now) }
     ensures { IfOk result (λ j. IsLineOf k (factor_line_verdict question.now.body (best_view best.now)) j.text.items j.invalid) }
 {
+    question.facts();
     let problem = problem(alloc, question)?;
     let (left, right) = sides(alloc, relation_of(question), problem.space())?;
     let rows = SideRows {
