@@ -38,7 +38,7 @@ pub record ShowsBehind (p : FeasibilityProblem Rational) (b t : SimplexTable Rat
 
 -- the share of row q in a common multiple of the denominators
 abbrev pub share_of : ℕ → List WholeRowView → ℕ → ℕ
-share_of multiple rows q = multiple / (whole_row_at rows q).bottom
+share_of multiple rows q = multiple / (whole_row_at rows q).denominator
 
 -- whether row i moved
 abbrev pub has_moved : List Bool → ℕ → Bool
@@ -82,7 +82,7 @@ pub record AreMovedEntries (terms : Terms) (rows : List WholeRowView) (moved : L
 pub record IsCommonMultiple (rows : List WholeRowView) (moved : List Bool) (k multiple : ℕ) : Type 0 where
   pub some : 0 < multiple
   pub low : multiple < 2 ^ 63
-  pub each : (q : ℕ) → q < k → has_moved moved q ≡ true → (whole_row_at rows q).bottom ∣ multiple
+  pub each : (q : ℕ) → q < k → has_moved moved q ≡ true → (whole_row_at rows q).denominator ∣ multiple
 
 -- a column suits each row below a height that stays behind
 abbrev pub SuitsBehind : Terms → List WholeRowView → List Bool → ℕ → Type 0
@@ -124,7 +124,7 @@ pub record AreRanked (rows : List WholeRowView) (basis : List ℕ) (moved : List
 
 -- bounds on the numbers and the denominators of the rows that stay behind
 abbrev pub AreBaseBounds : ℕ → ℕ → List WholeRowView → List Bool → ℕ → Type 0
-AreBaseBounds most low rows moved k = (i : ℕ) → i < k → has_moved moved i ≡ false → AreAtMost (whole_row_at rows i).numbers most × ((whole_row_at rows i).bottom ≤ low)
+AreBaseBounds most low rows moved k = (i : ℕ) → i < k → has_moved moved i ≡ false → AreAtMost (whole_row_at rows i).numbers most × ((whole_row_at rows i).denominator ≤ low)
 
 -- no row from `from` up to `to`, `to` excluded, moved
 pub record IsNextMoved (moved : List Bool) (height from to : ℕ) : Type 0 where
@@ -159,16 +159,16 @@ pub record AreShortened (old new : List WholeRowView) : Type 0 where
 
 -- new is old less the multiple of row q that makes its entry at the column of terms 0, where row q has the entry 1
 abbrev pub IsLessRow : Terms → ℕ → List WholeRowView → ℕ → WholeRowView → WholeRowView → Type 0
-IsLessRow terms limit rows q old new = IsUpdated (length (whole_row_at rows q).numbers) limit old (whole_row_at rows q) (value terms (number_at old.numbers)) (pos (whole_row_at rows q).bottom) new
+IsLessRow terms limit rows q old new = IsUpdated (length (whole_row_at rows q).numbers) limit old (whole_row_at rows q) (value terms (number_at old.numbers)) (pos (whole_row_at rows q).denominator) new
 
 -- new is old less the multiple of row q, which moved, that makes its entry at the basic column of row q 0
 abbrev pub IsLessMoved : List Terms → ℕ → List WholeRowView → List ℕ → ℕ → WholeRowView → WholeRowView → Type 0
-IsLessMoved columns limit rows basis q old new = IsWholeRowReduced (length basis + 1) limit old (whole_row_at rows q) (value (slice_index_or columns (slice_index_or basis q 0) []) (number_at old.numbers)) (pos (whole_row_at rows q).bottom) new
+IsLessMoved columns limit rows basis q old new = IsWholeRowReduced (length basis + 1) limit old (whole_row_at rows q) (value (slice_index_or columns (slice_index_or basis q 0) []) (number_at old.numbers)) (pos (whole_row_at rows q).denominator) new
 
 -- row is row r up to date, for any tables that the rows show
 abbrev pub IsUpToDate : List Terms → ℕ → List WholeRowView → List ℕ → List Bool → ℕ → WholeRowView → Type 0
 IsUpToDate columns limit rows basis moved r row = (p : FeasibilityProblem Rational) (b t : SimplexTable Rational) → ShowsBehind p b t columns limit rows basis (has_moved moved)
-    → IsRow (length basis + 1) limit (λ k. t.entry r (length columns + k)) row.numbers row.bottom
+    → IsRow (length basis + 1) limit (λ k. t.entry r (length columns + k)) row.numbers row.denominator
 
 -- the two lists of rows agree on those that moved
 abbrev pub AgreeOnMoved : List WholeRowView → List WholeRowView → List Bool → Type 0
@@ -260,10 +260,10 @@ pub record AreShares (norm : ℕ) (rows : List WholeRowView) (moved : List Bool)
   pub common : IsCommonMultiple rows moved k multiple
   pub bounds : BoundsMovedShares norm rows moved multiple k bound
 
--- new_multiple is a multiple of multiple and of bottom; new_bound is the sum of bound and entry, each times its share in new_multiple
-pub record AddsShare (multiple bound bottom entry new_multiple new_bound : ℕ) : Type 0 where
+-- new_multiple is a multiple of multiple and of denominator; new_bound is the sum of bound and entry, each times its share in new_multiple
+pub record AddsShare (multiple bound denominator entry new_multiple new_bound : ℕ) : Type 0 where
   pub some : 0 < new_multiple
   pub low : new_multiple < 2 ^ 63
   pub old : multiple ∣ new_multiple
-  pub own : bottom ∣ new_multiple
-  pub bound_is : new_bound ≡ bound * (new_multiple / multiple) + entry * (new_multiple / bottom)
+  pub own : denominator ∣ new_multiple
+  pub bound_is : new_bound ≡ bound * (new_multiple / multiple) + entry * (new_multiple / denominator)

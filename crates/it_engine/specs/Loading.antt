@@ -67,7 +67,7 @@ pub record IsReadRow (coordinates : List ℕ) (target : Terms) (limit i : ℕ) (
   pub length_is : length row.numbers ≡ length coordinates + 1
   pub each : (generators : List Terms) (k : ℕ) → k < length coordinates + 1
       → IsShortWhole limit ((start_of coordinates generators target).entry i (length generators + k)) (number_at row.numbers k)
-  pub bottom_is : row.bottom ≡ 1
+  pub denominator_is : row.denominator ≡ 1
 
 -- the first count rows, whole numbers within the limit
 abbrev pub AreReadRows : List ℕ → Terms → ℕ → ℕ → List WholeRowView → Type 0

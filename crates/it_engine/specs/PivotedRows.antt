@@ -31,8 +31,8 @@ AreUsable width limit rows = (i : ℕ) → i < length rows → IsUsable width li
 
 -- new is old, the leaving row, divided by its entry p
 abbrev pub IsWholeRowDivided : ℕ → ℕ → WholeRowView → ℤ → WholeRowView → Type 0
-IsWholeRowDivided width limit old p new = (g : ℕ → Rational) (w : Rational) → IsRow width limit g old.numbers old.bottom → IsRatio w p old.bottom
-    → IsRow width limit (λ k. times (g k) (inverse w)) new.numbers new.bottom
+IsWholeRowDivided width limit old p new = (g : ℕ → Rational) (w : Rational) → IsRow width limit g old.numbers old.denominator → IsRatio w p old.denominator
+    → IsRow width limit (λ k. times (g k) (inverse w)) new.numbers new.denominator
 
 -- row i is updated in a step in which own leaves, whose entry is p
 abbrev pub IsRowUpdated : ℕ → List WholeRowView → List ℤ → WholeRowView → ℤ → ℕ → List WholeRowView → Type 0

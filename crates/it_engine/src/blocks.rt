@@ -115,11 +115,11 @@ pub fn row_at(order: &[usize], k: usize) -> usize
 
 /// The denominator of row `i`.
 #[inline]
-pub fn bottom_at(rows: &[WholeRow], i: usize) -> u64
+pub fn denominator_at(rows: &[WholeRow], i: usize) -> u64
     requires { i < length rows.now }
-    ensures { result ≡ (whole_row_at rows.now i).bottom }
+    ensures { result ≡ (whole_row_at rows.now i).denominator }
 {
-    rows[i].bottom()
+    rows[i].denominator()
 }
 
 /// A bound on the numbers of row `i`.

@@ -8,18 +8,18 @@ ghost use Rattle.it_vectors.specs.Sizes.{AreShort};
 ghost use Rattle.it_whole.specs.WholeRows.{IsUsable};
 ghost use Rattle.it_engine.specs.Tables.{whole_row_at};
 
-use crate::blocks::{Block, Moves, Run, basic_column, bottom_at, moved_at, row_at};
+use crate::blocks::{Block, Moves, Run, basic_column, denominator_at, moved_at, row_at};
 use it_vectors::is_zero;
 use it_whole::{Column, Leaving, WholeRow};
 
 /// The number that represents 1 in row `q`: its denominator. `None` unless that is below 2^63.
 fn unit_at(rows: &[WholeRow], q: usize) -> Option<i64>
     requires { q < length rows.now }
-    ensures { IfSome result (λ unit. unit ≡ pos (whole_row_at rows.now q).bottom) }
+    ensures { IfSome result (λ unit. unit ≡ pos (whole_row_at rows.now q).denominator) }
 {
-    let bottom = bottom_at(rows, q);
-    if bottom < 1 << 63 {
-        Some(bottom as i64)
+    let denominator = denominator_at(rows, q);
+    if denominator < 1 << 63 {
+        Some(denominator as i64)
     } else {
         None
     }
@@ -204,7 +204,7 @@ pub fn bring_all(rows: &mut [WholeRow], run: &Run<'_>, moves: &Moves<'_>, room: 
 #[inline]
 fn shorten_row(rows: &mut [WholeRow], q: usize)
     requires q { q < length rows.old }
-    requires some { 0 < (whole_row_at rows.old q).bottom }
+    requires some { 0 < (whole_row_at rows.old q).denominator }
     requires short { AreShort (whole_row_at rows.old q).numbers }
     ensures { AreShortened rows.old rows.new }
 {

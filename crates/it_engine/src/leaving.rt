@@ -9,7 +9,7 @@ ghost use Rattle.it_engine.specs.Tables.{whole_row_at};
 ghost use Rattle.it_space.specs.Sums.{number_at};
 
 use crate::blocks::{
-    Block, basic_column, bottom_at, closer_most_at, is_above_at, moved_at, row_at,
+    Block, basic_column, closer_most_at, denominator_at, is_above_at, moved_at, row_at,
 };
 use crate::choice::{is_above_zero, right_side};
 use crate::shares::share_at;
@@ -50,7 +50,9 @@ fn more_bound(rows: &[WholeRow], moved: &[bool], i: usize, bound: u64) -> u64
     if moved_at(moved, i) {
         bound
     } else {
-        bound.max(closer_most_at(rows, i)).max(bottom_at(rows, i))
+        bound
+            .max(closer_most_at(rows, i))
+            .max(denominator_at(rows, i))
     }
 }
 
@@ -133,7 +135,7 @@ fn less_moved(
     requires basis { q < length block.now.basis.now }
     requires entered { slice_index_or block.now.basis.now q 0 < length columns.now }
     requires entries { q < length entries.now }
-    requires some { 0 < (whole_row_at block.now.rows.now q).bottom }
+    requires some { 0 < (whole_row_at block.now.rows.now q).denominator }
     requires low { multiple < 2 ^ 63 }
     ensures { OnTrue result (TakesRow columns.now block.now.rows.now block.now.basis.now entries.now multiple q combined.old combined.new) }
 {
@@ -181,7 +183,7 @@ pub fn combine_columns(
     requires order { AreMovedInOrder block.now.moved.now (length block.now.basis.now) block.now.order.now }
     requires entered { HaveEntered columns.now block.now.basis.now block.now.moved.now }
     requires entries { length block.now.basis.now ≤ length entries.now }
-    requires some { (i : ℕ) → i < length block.now.rows.now → 0 < (whole_row_at block.now.rows.now i).bottom }
+    requires some { (i : ℕ) → i < length block.now.rows.now → 0 < (whole_row_at block.now.rows.now i).denominator }
     requires low { multiple < 2 ^ 63 }
     ensures { OnTrue result (combined.new ≡ column_behind columns.now block.now.rows.now block.now.basis.now block.now.moved.now entries.now multiple column) }
 {

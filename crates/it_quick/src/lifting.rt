@@ -329,10 +329,13 @@ fn excesses(
 fn common_denominator(weights: &[ColumnWeight]) -> Option<u64> {
     let mut all: u64 = 1;
     for weight in weights {
-        if weight.bottom == 0 {
+        if weight.denominator == 0 {
             return None;
         }
-        all = short_product(all, weight.bottom / common_divisor(weight.bottom, all))?;
+        all = short_product(
+            all,
+            weight.denominator / common_divisor(weight.denominator, all),
+        )?;
     }
     Some(all)
 }
@@ -361,8 +364,10 @@ fn generator_weights(
 ) -> Result<Totals, RowFault> {
     let mut all = Totals::zeros(alloc, generator_count(problem) as usize)?;
     for weight in weights {
-        if weight.bottom != 0 {
-            let amount = i128::from(scale / weight.bottom).wrapping_mul(i128::from(weight.number));
+        if weight.denominator != 0 {
+            let amount = i128::from(scale / weight.denominator).wrapping_mul(i128::from(
+                weight.number,
+            ));
             let n = problem.space().variables;
             add_column(alloc, &mut all, n, closed, weight.column, amount)?;
         }

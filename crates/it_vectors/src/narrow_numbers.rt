@@ -574,13 +574,13 @@ fn end_of_part(from: usize, length: usize) -> usize
     }
 }
 
-/// The greatest common divisor of the numbers of `row` and the denominator `bottom`.
-pub fn divisor(row: &[i32], bottom: u64) -> Divisor
-    requires { 0 < bottom }
+/// The greatest common divisor of the numbers of `row` and the denominator `denominator`.
+pub fn divisor(row: &[i32], denominator: u64) -> Divisor
+    requires { 0 < denominator }
     ensures numbers { DividesAll result.value row.now }
-    ensures bottom { result.value ∣ bottom }
+    ensures denominator { result.value ∣ denominator }
 {
-    let mut shared = Divisor::new(bottom);
+    let mut shared = Divisor::new(denominator);
     let mut from = 0;
     while from < row.len() {
         if shared.is_one() {

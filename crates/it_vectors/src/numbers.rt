@@ -279,13 +279,13 @@ pub fn combine(
     }
 }
 
-/// The greatest common divisor of the numbers of `row` and the denominator `bottom`.
-pub fn divisor(row: &[i64], bottom: u64) -> Divisor
-    requires { 0 < bottom }
+/// The greatest common divisor of the numbers of `row` and the denominator `denominator`.
+pub fn divisor(row: &[i64], denominator: u64) -> Divisor
+    requires { 0 < denominator }
     ensures numbers { DividesAll result.value row.now }
-    ensures bottom { result.value ∣ bottom }
+    ensures denominator { result.value ∣ denominator }
 {
-    let mut shared = Divisor::new(bottom);
+    let mut shared = Divisor::new(denominator);
     for k in 0..row.len() {
         if shared.is_one() {
             return shared;

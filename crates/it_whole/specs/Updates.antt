@@ -13,8 +13,9 @@ pub record IsLeaving (limit : ℕ) (row : WholeRowView) (p : ℤ) : Type 0 where
 -- new is old less the multiple of the leaving row own that makes the entry z of old at the column 0, where own has the entry p
 abbrev pub IsWholeRowReduced : ℕ → ℕ → WholeRowView → WholeRowView → ℤ → ℤ → WholeRowView → Type 0
 IsWholeRowReduced width limit old own z p new = (f g : ℕ → Rational) (x w : Rational)
-    → IsRow width limit f old.numbers old.bottom → IsRow width limit g own.numbers own.bottom → IsRatio x z old.bottom → IsRatio w p own.bottom
-    → IsRow width limit (λ k. plus (f k) (minus (times (g k) (times x (inverse w))))) new.numbers new.bottom
+    → IsRow width limit f old.numbers old.denominator → IsRow width limit g own.numbers own.denominator
+    → IsRatio x z old.denominator → IsRatio w p own.denominator
+    → IsRow width limit (λ k. plus (f k) (minus (times (g k) (times x (inverse w))))) new.numbers new.denominator
 
 -- new is old reduced as above, and usable; where z is 0, old is unchanged
 pub record IsUpdated (width limit : ℕ) (old own : WholeRowView) (z p : ℤ) (new : WholeRowView) : Type 0 where
@@ -28,8 +29,8 @@ pub record IsShortened (old new : WholeRowView) : Type 0 where
   pub some : 0 < shared
   pub length_is : length new.numbers ≡ length old.numbers
   pub entries : (k : ℕ) → k < length old.numbers → number_at new.numbers k *ℤ pos shared ≡ number_at old.numbers k
-  pub bottom_is : new.bottom * shared ≡ old.bottom
+  pub denominator_is : new.denominator * shared ≡ old.denominator
 
 -- new is old divided by its entry p: its numbers over p, divided by a common divisor
 abbrev pub IsQuotient : WholeRowView → ℤ → WholeRowView → Type 0
-IsQuotient old p new = IsShortened record { numbers = old.numbers; bottom = unsigned_abs p } new
+IsQuotient old p new = IsShortened record { numbers = old.numbers; denominator = unsigned_abs p } new

@@ -22,7 +22,7 @@ use std::marker::Model;
 #[derive(Drop)]
 pub struct NarrowRow {
     numbers: Vec<i32>,
-    bottom: u64,
+    denominator: u64,
     // a bound on the absolute values of the numbers; kept so that a step mostly needs no pass over them
     most: u64,
     // where the stretches begin outside of which the row is 0, and whether that is known: it is for a leaving row and a shortened one
@@ -38,21 +38,21 @@ impl Model for NarrowRow {
 
     ghost Value = { WholeRowView };
 
-    ghost view = { λ r. record { numbers = r.numbers.items; bottom = r.bottom } };
+    ghost view = { λ r. record { numbers = r.numbers.items; denominator = r.denominator } };
 
     ghost invariant = { λ r. (AreAtMost r.numbers.items r.most) × (OnTrue r.noted (AreStretches r.numbers.items r.starts.items)) };
 }
 
 impl NarrowRow {
-    /// The row of `numbers` over the denominator `bottom`; `None` if a number is above `limit` in absolute value.
+    /// The row of `numbers` over the denominator `denominator`; `None` if a number is above `limit` in absolute value.
     pub fn from_numbers(
         alloc: Global,
         numbers: &[i64],
-        bottom: u64,
+        denominator: u64,
         limit: u64,
     ) -> Result<Option<NarrowRow>, AllocError>
         requires limit { limit < 2 ^ 31 }
-        ensures row { IfOk result (λ o. IfSome o (λ row. row ≡ record { numbers = numbers.now; bottom = bottom })) }
+        ensures row { IfOk result (λ o. IfSome o (λ row. row ≡ record { numbers = numbers.now; denominator = denominator })) }
         ensures small { IfOk result (λ o. IfSome o (λ row. AreAtMost numbers.now limit)) }
     {
         let mut short = Vec::with_capacity(alloc, numbers.len())?;
@@ -67,7 +67,7 @@ impl NarrowRow {
         let starts = Vec::with_capacity(alloc, numbers.len() / STRETCH + 1)?;
         Ok(Some(NarrowRow {
             numbers: short,
-            bottom,
+            denominator,
             most,
             starts,
             noted: false,
@@ -84,10 +84,10 @@ impl NarrowRow {
     }
 
     /// The denominator.
-    pub fn bottom(&self) -> u64
-        ensures { result ≡ self.now.bottom }
+    pub fn denominator(&self) -> u64
+        ensures { result ≡ self.now.denominator }
     {
-        self.bottom
+        self.denominator
     }
 
     /// A bound on the absolute values of the numbers.
@@ -126,18 +126,18 @@ impl NarrowRow {
 
     /// Puts the row over the denominator 1, if the denominator is found to divide all numbers; else `false`, and the row is unchanged.
     fn divide_out(&mut self) -> bool
-        requires some { 0 < self.old.bottom }
+        requires some { 0 < self.old.denominator }
         ensures shortened { OnTrue result (IsShortened self.old self.new) }
         ensures kept { OnFalse result (self.new ≡ self.old) }
     {
-        if self.bottom >= 1 << 31 {
+        if self.denominator >= 1 << 31 {
             return false;
         }
         self.noted = false;
-        if !divide_at_once(self.numbers.as_mut_slice(), self.bottom as i32) {
+        if !divide_at_once(self.numbers.as_mut_slice(), self.denominator as i32) {
             return false;
         }
-        self.bottom = 1;
+        self.denominator = 1;
         self.most = greatest_size(self.numbers.as_slice());
         true
     }
@@ -145,25 +145,25 @@ impl NarrowRow {
     /// Puts the row over its least denominator.
     #[inline(never)]
     fn put_in_lowest_terms(&mut self)
-        requires some { 0 < self.old.bottom }
+        requires some { 0 < self.old.denominator }
         ensures { IsShortened self.old self.new }
     {
-        if self.bottom == 1 || self.divide_out() {
+        if self.denominator == 1 || self.divide_out() {
             return;
         }
-        let shared = divisor(self.numbers.as_slice(), self.bottom);
+        let shared = divisor(self.numbers.as_slice(), self.denominator);
         if shared.is_one() {
             return;
         }
         self.noted = false;
         divide(self.numbers.as_mut_slice(), &shared);
-        self.bottom = shared.size_quotient(self.bottom);
+        self.denominator = shared.size_quotient(self.denominator);
         self.most = greatest_size(self.numbers.as_slice());
     }
 
     /// Puts the row over its least denominator, and computes the stretches outside of which it is 0.
     pub fn shorten(&mut self)
-        requires some { 0 < self.old.bottom }
+        requires some { 0 < self.old.denominator }
         ensures { IsShortened self.old self.new }
     {
         self.put_in_lowest_terms();
@@ -190,20 +190,20 @@ impl NarrowRow {
         Subtrahend::new(self.numbers.as_slice(), self.known_starts(), self.most)
     }
 
-    /// Multiplies the numbers by `a`, subtracts `b` times those of the leaving row `own`, and puts them over `bottom`. `false` if the
+    /// Multiplies the numbers by `a`, subtracts `b` times those of the leaving row `own`, and puts them over `denominator`. `false` if the
     /// bounds of the two rows don't show that all results stay within `limit`: then the row is unchanged.
-    fn combine(&mut self, own: &NarrowRow, a: i64, b: i64, bottom: u64, limit: u64) -> bool
+    fn combine(&mut self, own: &NarrowRow, a: i64, b: i64, denominator: u64, limit: u64) -> bool
         requires even { length self.old.numbers ≡ length own.now.numbers }
         requires limit { limit < 2 ^ 31 }
         ensures combined { OnTrue result (IsCombined (length own.now.numbers) limit self.old.numbers own.now.numbers a b self.new.numbers) }
-        ensures bottom { OnTrue result (self.new.bottom ≡ bottom) }
+        ensures denominator { OnTrue result (self.new.denominator ≡ denominator) }
         ensures kept { OnFalse result (self.new ≡ self.old) }
     {
         let by = own.as_subtrahend();
         self.noted = false;
         match combine(self.numbers.as_mut_slice(), &by, a, b, self.most, limit) {
             Some(most) => {
-                self.bottom = bottom;
+                self.denominator = denominator;
                 self.most = most;
                 true
             }
@@ -219,7 +219,7 @@ impl NarrowRow {
         requires limit { limit < 2 ^ 31 }
         ensures one { OnTrue result (a ≡ pos 1) }
         ensures combined { OnTrue result (IsCombined (length own.now.numbers) limit self.old.numbers own.now.numbers (pos 1) b self.new.numbers) }
-        ensures bottom { OnTrue result (self.new.bottom ≡ self.old.bottom) }
+        ensures denominator { OnTrue result (self.new.denominator ≡ self.old.denominator) }
         ensures kept { OnFalse result (self.new ≡ self.old) }
     {
         let by = own.as_subtrahend();
@@ -252,24 +252,24 @@ impl NarrowRow {
         )
     }
 
-    /// Replaces the row by the numbers of `room` over the denominator `bottom`, divided by a common divisor. `false` if a number is
+    /// Replaces the row by the numbers of `room` over the denominator `denominator`, divided by a common divisor. `false` if a number is
     /// above `limit`: then nothing is known of the row.
     #[inline(never)]
-    fn take_shortened(&mut self, room: &mut [i64], bottom: u64, limit: u64) -> bool
+    fn take_shortened(&mut self, room: &mut [i64], denominator: u64, limit: u64) -> bool
         requires even { length self.old.numbers ≡ length room.old }
         requires short { AreShort room.old }
-        requires some { 0 < bottom }
+        requires some { 0 < denominator }
         requires limit { limit < 2 ^ 31 }
         ensures room { length room.new ≡ length room.old }
-        ensures shortened { OnTrue result (IsShortened record { numbers = room.old; bottom = bottom } self.new) }
+        ensures shortened { OnTrue result (IsShortened record { numbers = room.old; denominator = denominator } self.new) }
         ensures small { OnTrue result (AreAtMost self.new.numbers limit) }
     {
         self.noted = false;
-        let left = shorten_to(self.numbers.as_mut_slice(), room, bottom, limit);
+        let left = shorten_to(self.numbers.as_mut_slice(), room, denominator, limit);
         self.most = greatest_size(self.numbers.as_slice());
         match left {
-            Some(bottom) => {
-                self.bottom = bottom;
+            Some(denominator) => {
+                self.denominator = denominator;
                 true
             }
             None => false,
@@ -301,17 +301,17 @@ impl NarrowRow {
         if self.subtract_multiple(own, a, b, limit) {
             return true;
         }
-        let Some(bottom) = short_product(self.bottom(), a.unsigned_abs()) else {
+        let Some(denominator) = short_product(self.denominator(), a.unsigned_abs()) else {
             return false;
         };
-        if self.combine(own, a, b, bottom, limit) {
+        if self.combine(own, a, b, denominator, limit) {
             return true;
         }
         // the numbers may pass the limit until they are put over the least denominator
         if !self.combine_to(own, room, a, b) {
             return false;
         }
-        self.take_shortened(room, bottom, limit)
+        self.take_shortened(room, denominator, limit)
     }
 
     /// Updates the row in a step in which `own` leaves, whose entry at the entering column is `pivot`; this row's entry there is `entry`.
@@ -338,7 +338,7 @@ impl NarrowRow {
         if !self.reduce(own, room, entry, pivot, limit) {
             return false;
         }
-        if is_large(self.bottom()) {
+        if is_large(self.denominator()) {
             self.put_in_lowest_terms();
         }
         true
@@ -351,7 +351,7 @@ impl NarrowRow {
     {
         let mut row = NarrowRow {
             numbers: self.numbers,
-            bottom: pivot.unsigned_abs(),
+            denominator: pivot.unsigned_abs(),
             most: self.most,
             starts: self.starts,
             noted: false,

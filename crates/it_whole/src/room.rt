@@ -80,22 +80,22 @@ pub fn combine_to(room: &mut [i64], row: &[i32], by: &[i32], most_by: u64, a: i6
     true
 }
 
-/// Divides the numbers of `room` and the denominator `bottom` by a common divisor, and writes the numbers to `row`. Returns the new
+/// Divides the numbers of `room` and the denominator `denominator` by a common divisor, and writes the numbers to `row`. Returns the new
 /// denominator; `None` if a number is above `limit` in absolute value, and then nothing is known of `row`.
-pub fn shorten_to(row: &mut [i32], room: &mut [i64], bottom: u64, limit: u64) -> Option<u64>
+pub fn shorten_to(row: &mut [i32], room: &mut [i64], denominator: u64, limit: u64) -> Option<u64>
     requires even { length row.old ≡ length room.old }
     requires short { AreShort room.old }
-    requires some { 0 < bottom }
+    requires some { 0 < denominator }
     requires limit { limit < 2 ^ 31 }
     ensures row { length row.new ≡ length row.old }
     ensures room { length room.new ≡ length room.old }
-    ensures shortened { IfSome result (λ left. IsShortened record { numbers = room.old; bottom = bottom } record { numbers = row.new; bottom = left }) }
+    ensures shortened { IfSome result (λ left. IsShortened record { numbers = room.old; denominator = denominator } record { numbers = row.new; denominator = left }) }
     ensures small { IfSome result (λ left. AreAtMost row.new limit) }
 {
-    let shared = divisor(room, bottom);
+    let shared = divisor(room, denominator);
     divide(room, &shared);
     if write_back(row, room, limit) {
-        Some(shared.size_quotient(bottom))
+        Some(shared.size_quotient(denominator))
     } else {
         None
     }

@@ -63,7 +63,7 @@ impl WholeRow {
     /// The row of `numbers` in 64 bits, over the denominator 1. It allocates nothing.
     pub fn from_numbers(numbers: Vec<i64>) -> WholeRow
         ensures numbers { result.numbers ≡ numbers.items }
-        ensures bottom { result.bottom ≡ 1 }
+        ensures denominator { result.denominator ≡ 1 }
     {
         WholeRow {
             row: AnyRow::Wide(WideRow::from_numbers(numbers)),
@@ -73,7 +73,7 @@ impl WholeRow {
     /// A row without numbers. It allocates nothing.
     pub fn empty(alloc: Global) -> WholeRow
         ensures numbers { result.numbers ≡ [] }
-        ensures bottom { result.bottom ≡ 1 }
+        ensures denominator { result.denominator ≡ 1 }
     {
         WholeRow {
             row: AnyRow::Wide(WideRow::empty(alloc)),
@@ -90,7 +90,7 @@ impl WholeRow {
         match &self.row {
             AnyRow::Narrow(_) => Ok(None),
             AnyRow::Wide(row) => {
-                match NarrowRow::from_numbers(alloc, row.numbers(), row.bottom(), limit)? {
+                match NarrowRow::from_numbers(alloc, row.numbers(), row.denominator(), limit)? {
                     Some(row) => Ok(Some(WholeRow {
                         row: AnyRow::Narrow(row),
                     })),
@@ -121,21 +121,21 @@ impl WholeRow {
     }
 
     /// The denominator.
-    pub fn bottom(&self) -> u64
-        ensures { result ≡ self.now.bottom }
+    pub fn denominator(&self) -> u64
+        ensures { result ≡ self.now.denominator }
     {
         match &self.row {
-            AnyRow::Narrow(row) => row.bottom(),
-            AnyRow::Wide(row) => row.bottom(),
+            AnyRow::Narrow(row) => row.denominator(),
+            AnyRow::Wide(row) => row.denominator(),
         }
     }
 
     /// The number that represents 1 in the row: its denominator.
     pub fn unit(&self) -> i64
-        requires { self.now.bottom < 2 ^ 63 }
-        ensures { result ≡ pos self.now.bottom }
+        requires { self.now.denominator < 2 ^ 63 }
+        ensures { result ≡ pos self.now.denominator }
     {
-        self.bottom() as i64
+        self.denominator() as i64
     }
 
     /// Sets `next` to the next places where the row isn't 0, and returns `true`; for a row in 32 bits, which keeps its stretches itself,
@@ -246,7 +246,7 @@ impl WholeRow {
 
     /// Puts the row over its least denominator.
     pub fn shorten(&mut self)
-        requires some { 0 < self.old.bottom }
+        requires some { 0 < self.old.denominator }
         requires short { AreShort self.old.numbers }
         ensures { IsShortened self.old self.new }
     {

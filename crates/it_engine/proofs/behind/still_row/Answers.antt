@@ -28,7 +28,7 @@ returns-clause-leaves c = leaves_if_some c.args.run.now.columns.now c.args.block
     c.args.run.now.limit c.args.base.now.bound c.args.base.now.bound c.args.run.now.norm c.in_ok-shares.shares.bound c.requires.norm
     c.requires.column (entries_are (goal.at.returns-clause-leaves c).In_ok-shares) c.in_ok-shares.ensures.common
     c.in_ok-shares.ensures.bounds
-    c.if-not-are_short.ensures.numbers c.if-not-are_short.ensures.bottoms c.requires.bound c.requires.engine.rows_are
+    c.if-not-are_short.ensures.numbers c.if-not-are_short.ensures.denominators c.requires.bound c.requires.engine.rows_are
     c.combine_columns.new.combined c.if-not-combine_columns.ensures c.first_to_leave.result c.first_to_leave.ensures
 
 pub returns-clause-noted : goal.returns-clause-noted

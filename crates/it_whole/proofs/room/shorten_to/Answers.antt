@@ -9,6 +9,6 @@ returns-then-write_back-clause-shortened c = record {
   length_is = c.write_back.ensures.length ∙ c.requires.even;
   entries = λ k l. ap (λ (z : ℤ). z *ℤ pos c.divisor-shared.result.value)
       (c.if-write_back.ensures.entries k (omega (arith, l, c.divide.ensures.length))) ∙ c.divide.ensures.entries k l;
-  bottom_is = ap (λ b. b * c.divisor-shared.result.value) c.size_quotient.ensures
-      ∙ div-mul_cancel c.divisor-shared.result.value c.divisor-shared.ensures.bottom;
+  denominator_is = ap (λ b. b * c.divisor-shared.result.value) c.size_quotient.ensures
+      ∙ div-mul_cancel c.divisor-shared.result.value c.divisor-shared.ensures.denominator;
 }

@@ -25,17 +25,17 @@ own_factor_is c =
     simp to_z-of_z at c.lowest_terms-a.ensures.entry
 
 -- what represents the denominator
-product_is : (c : In-Some) → c.bottom.result * c.unsigned_abs.result ≡ c.args.self.now.bottom * unsigned_abs c.lowest_terms-a.result.0
+product_is : (c : In-Some) → c.denominator.result * c.unsigned_abs.result ≡ c.args.self.now.denominator * unsigned_abs c.lowest_terms-a.result.0
 product_is c =
     let fa : FitsSigned w64 c.lowest_terms-a.result.0 = search rules in
-    ap₂ (λ x y. x * y) (c.bottom.ensures ∙ ap (λ (r : WholeRowView). r.bottom) c.if-subtract_multiple.ensures.kept)
+    ap₂ (λ x y. x * y) (c.denominator.ensures ∙ ap (λ (r : WholeRowView). r.denominator) c.if-subtract_multiple.ensures.kept)
     (c.unsigned_abs.ensures.value ∙ ap unsigned_abs (to_z-of_z fa))
 
-bottom_is : (c : In-Some) → c.in-Some.bottom ≡ c.args.self.now.bottom * unsigned_abs c.lowest_terms-a.result.0
-bottom_is c = c.in-Some.ensures.1 ∙ product_is c
+denominator_is : (c : In-Some) → c.in-Some.denominator ≡ c.args.self.now.denominator * unsigned_abs c.lowest_terms-a.result.0
+denominator_is c = c.in-Some.ensures.1 ∙ product_is c
 
-bottom_is_low : (c : In-Some) → c.args.self.now.bottom * unsigned_abs c.lowest_terms-a.result.0 < 2 ^ 63
-bottom_is_low c = subst (λ (k : ℕ). k < 2 ^ 63) (product_is c) c.in-Some.ensures.0
+denominator_is_low : (c : In-Some) → c.args.self.now.denominator * unsigned_abs c.lowest_terms-a.result.0 < 2 ^ 63
+denominator_is_low c = subst (λ (k : ℕ). k < 2 ^ 63) (product_is c) c.in-Some.ensures.0
 
 pub returns-then-subtract_multiple-clause-less : goal.returns-then-subtract_multiple-clause-less
 returns-then-subtract_multiple-clause-less c =
@@ -49,7 +49,7 @@ returns-then-subtract_multiple-clause-less c =
     let one = simp to_z-of_z at c.if-subtract_multiple.ensures.one in
     multiple_reduced (length c.args.own.now.numbers) c.args.limit c.args.self.now c.args.own.now c.subtract_multiple.new.self c.args.entry
     c.args.pivot c.lowest_terms-a.result.0 c.lowest_terms-a.result.1 c.requires.pivot
-    a one combined c.if-subtract_multiple.ensures.bottom b
+    a one combined c.if-subtract_multiple.ensures.denominator b
 
 pub returns-then-subtract_multiple-clause-usable : goal.returns-then-subtract_multiple-clause-usable
 returns-then-subtract_multiple-clause-usable c =
@@ -62,7 +62,7 @@ returns-then-subtract_multiple-clause-usable c =
     let one = simp to_z-of_z at c.if-subtract_multiple.ensures.one in
     multiple_usable (length c.args.own.now.numbers) c.args.limit c.args.self.now c.args.own.now c.subtract_multiple.new.self c.args.entry
     c.args.pivot c.lowest_terms-a.result.0 c.lowest_terms-a.result.1 c.requires.pivot
-    a one combined c.if-subtract_multiple.ensures.bottom c.requires.row
+    a one combined c.if-subtract_multiple.ensures.denominator c.requires.row
 
 pub returns-then-combine-clause-less : goal.returns-then-combine-clause-less
 returns-then-combine-clause-less c =
@@ -74,7 +74,7 @@ returns-then-combine-clause-less c =
     c.if-subtract_multiple.ensures.kept (simp to_z-of_z at c.if-combine.ensures.combined) in
     less_row (length c.args.own.now.numbers) c.args.limit c.args.self.now c.args.own.now c.combine.new.self c.args.entry c.args.pivot
     c.lowest_terms-a.result.0 c.lowest_terms-a.result.1 c.requires.pivot
-    (factor_is d) (own_factor_is d) combined (c.if-combine.ensures.bottom ∙ bottom_is d) (bottom_is_low d)
+    (factor_is d) (own_factor_is d) combined (c.if-combine.ensures.denominator ∙ denominator_is d) (denominator_is_low d)
 
 pub returns-then-combine-clause-usable : goal.returns-then-combine-clause-usable
 returns-then-combine-clause-usable c =
@@ -86,7 +86,7 @@ returns-then-combine-clause-usable c =
     c.if-subtract_multiple.ensures.kept (simp to_z-of_z at c.if-combine.ensures.combined) in
     combined_usable (length c.args.own.now.numbers) c.args.limit c.args.self.now c.args.own.now c.combine.new.self c.args.entry c.args.pivot
     c.lowest_terms-a.result.0 c.lowest_terms-a.result.1 c.requires.pivot
-    (factor_is d) c.requires.row combined (c.if-combine.ensures.bottom ∙ bottom_is d)
+    (factor_is d) c.requires.row combined (c.if-combine.ensures.denominator ∙ denominator_is d)
 
 -- the row that the numbers in 64 bits are formed of is the one at the beginning
 combined_in_room : (c : Else-not-combine_to) → IsCombined (length c.args.own.now.numbers) 9223372036854775807 c.args.self.now.numbers c.args.own.now.numbers
@@ -109,7 +109,7 @@ take_shortened-requires-clause-short c = λ k l.
 pub take_shortened-requires-clause-some : goal.take_shortened-requires-clause-some
 take_shortened-requires-clause-some c =
     let d = (goal.at.take_shortened-requires-clause-some c).In-Some in
-    subst (λ (k : ℕ). 0 < k) (sym (bottom_is d)) (mul-pos c.requires.row.some
+    subst (λ (k : ℕ). 0 < k) (sym (denominator_is d)) (mul-pos c.requires.row.some
     (factor_some c.args.pivot c.args.entry c.lowest_terms-a.result.0 c.requires.pivot (factor_is d)))
 
 by_test : (b : Bool) {P Q R : Type 0} → OnTrue b P → OnTrue b Q → (P → Q → R) → OnTrue b R
@@ -122,8 +122,8 @@ returns-clause-less c =
     by_test c.take_shortened.result c.take_shortened.ensures.shortened c.take_shortened.ensures.small
     (λ s m. shortened_reduced (length c.args.own.now.numbers) c.args.limit c.args.self.now c.args.own.now c.take_shortened.new.self
     c.args.entry c.args.pivot c.lowest_terms-a.result.0 c.lowest_terms-a.result.1 c.requires.pivot
-    (factor_is d) c.in-Some.bottom c.requires.limit (bottom_is d) c.combine_to.new.room
-    (combined_in_room (goal.at.returns-clause-less c).Else-not-combine_to) s m (own_factor_is d) (bottom_is_low d))
+    (factor_is d) c.in-Some.denominator c.requires.limit (denominator_is d) c.combine_to.new.room
+    (combined_in_room (goal.at.returns-clause-less c).Else-not-combine_to) s m (own_factor_is d) (denominator_is_low d))
 
 pub returns-clause-usable : goal.returns-clause-usable
 returns-clause-usable c =
@@ -131,5 +131,5 @@ returns-clause-usable c =
     by_test c.take_shortened.result c.take_shortened.ensures.shortened c.take_shortened.ensures.small
     (λ s m. room_usable (length c.args.own.now.numbers) c.args.limit c.args.self.now c.args.own.now c.take_shortened.new.self c.args.entry
     c.args.pivot c.lowest_terms-a.result.0 c.lowest_terms-a.result.1 c.requires.pivot
-    (factor_is d) c.in-Some.bottom c.requires.limit (bottom_is d) c.combine_to.new.room
+    (factor_is d) c.in-Some.denominator c.requires.limit (denominator_is d) c.combine_to.new.room
     (combined_in_room (goal.at.returns-clause-usable c).Else-not-combine_to) s m c.requires.row)

@@ -29,18 +29,18 @@ returns-in-Some-combine-clause-less c =
     = simp to_z-of_z at c.lowest_terms-a.ensures.entry in
     let u : c.unsigned_abs.result ≡ unsigned_abs c.lowest_terms-a.result.0 = c.unsigned_abs.ensures.value ∙ ap unsigned_abs (to_z-of_z fa) in
     let combined = simp (to_z-of_z, c.as_subtrahend-by.ensures, c.as_mut_slice.ensures.value) at c.in-Some-combine.ensures.combined in
-    let bottom = c.in-Some.ensures in
+    let denominator = c.in-Some.ensures in
     let v = c.self.view_is in
     let d = (goal.at.returns-in-Some-combine-clause-less c).In-Some-combine in
     subst (λ (new : List ℤ). IsWholeRowReduced (length c.args.own.now.numbers) c.args.limit c.args.self.now c.args.own.now c.args.entry
-    c.args.pivot record { numbers = new; bottom = c.in-Some.bottom }) (sym (numbers_are_written d))
+    c.args.pivot record { numbers = new; denominator = c.in-Some.denominator }) (sym (numbers_are_written d))
     (less_row (length c.args.own.now.numbers) c.args.limit c.args.self.now c.args.own.now
-    record { numbers = c.combine.new.row; bottom = c.in-Some.bottom } c.args.entry c.args.pivot
+    record { numbers = c.combine.new.row; denominator = c.in-Some.denominator } c.args.entry c.args.pivot
     c.lowest_terms-a.result.0 c.lowest_terms-a.result.1 c.requires.pivot a b
     (subst (λ (xs : List ℤ). IsCombined (length c.args.own.now.numbers) c.args.limit xs c.args.own.now.numbers
     c.lowest_terms-a.result.0 c.lowest_terms-a.result.1 c.combine.new.row) (ap (λ (r : WholeRowView). r.numbers) v) combined)
-    (bottom.1 ∙ ap₂ (λ x y. x * y) (ap (λ (r : WholeRowView). r.bottom) v) u)
-    (subst (λ (k : ℕ). k < 2 ^ 63) (ap₂ (λ x y. x * y) (ap (λ (r : WholeRowView). r.bottom) v) u) bottom.0))
+    (denominator.1 ∙ ap₂ (λ x y. x * y) (ap (λ (r : WholeRowView). r.denominator) v) u)
+    (subst (λ (k : ℕ). k < 2 ^ 63) (ap₂ (λ x y. x * y) (ap (λ (r : WholeRowView). r.denominator) v) u) denominator.0))
 
 pub returns-in-Some-combine-clause-usable : goal.returns-in-Some-combine-clause-usable
 returns-in-Some-combine-clause-usable c =
@@ -50,14 +50,14 @@ returns-in-Some-combine-clause-usable c =
     let a : c.lowest_terms-a.result.0 ≡ int_quotient c.args.pivot (gcd (unsigned_abs c.args.pivot) (unsigned_abs c.args.entry))
     = simp to_z-of_z at c.lowest_terms-a.ensures.pivot in
     let u : c.unsigned_abs.result ≡ unsigned_abs c.lowest_terms-a.result.0 = c.unsigned_abs.ensures.value ∙ ap unsigned_abs (to_z-of_z fa) in
-    let bottom = c.in-Some.ensures in
+    let denominator = c.in-Some.ensures in
     let combined = c.in-Some-combine.ensures.combined in
     let len : length c.as_subtrahend-by.result ≡ length c.args.own.now.numbers = ap length c.as_subtrahend-by.ensures in
     let d = (goal.at.returns-in-Some-combine-clause-usable c).In-Some-combine in
-    subst (λ (new : List ℤ). IsUsable (length c.args.own.now.numbers) c.args.limit record { numbers = new; bottom = c.in-Some.bottom })
+    subst (λ (new : List ℤ). IsUsable (length c.args.own.now.numbers) c.args.limit record { numbers = new; denominator = c.in-Some.denominator })
     (sym (numbers_are_written d)) record {
       length_is = combined.length_is ∙ len;
-      some = subst (λ (k : ℕ). 0 < k) (sym (bottom.1 ∙ ap₂ (λ x y. x * y) (ap (λ (r : WholeRowView). r.bottom) c.self.view_is) u))
+      some = subst (λ (k : ℕ). 0 < k) (sym (denominator.1 ∙ ap₂ (λ x y. x * y) (ap (λ (r : WholeRowView). r.denominator) c.self.view_is) u))
           (mul-pos c.requires.row.some (factor_some c.args.pivot c.args.entry c.lowest_terms-a.result.0 c.requires.pivot a));
       small = λ k l. combined.small k (omega (arith, l, len));
     }
