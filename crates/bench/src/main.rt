@@ -15,6 +15,7 @@
 #![tactic(auto)]
 
 ghost use Rattle.std.specs.Prelude.{◌≤◌, length};
+ghost use Rattle.it_syntax.specs.Lines.{most_text_bytes};
 
 mod fractions;
 mod output;
@@ -45,7 +46,7 @@ pub struct Task<'a> {
 
 /// The number of questions of a file.
 fn count(alloc: Global, file: &[u8]) -> usize
-    requires { length file.now ≤ 1048577 }
+    requires { length file.now ≤ most_text_bytes }
 {
     match questions(alloc, file) {
         Ok(questions) => questions.len(),
@@ -55,7 +56,7 @@ fn count(alloc: Global, file: &[u8]) -> usize
 
 /// Reads a question file again and again, and writes its bytes and its questions.
 fn reading(alloc: Global, out: &mut Output, file: &[u8], task: &Task<'_>)
-    requires { length file.now ≤ 1048577 }
+    requires { length file.now ≤ most_text_bytes }
 {
     let mut questions = 0;
     for _ in 0..task.turns {
@@ -112,7 +113,7 @@ fn on_questions(
     file: &[u8],
     task: &Task<'_>,
 ) -> Result<(), AllocError>
-    requires { length file.now ≤ 1048577 }
+    requires { length file.now ≤ most_text_bytes }
 {
     match questions(alloc, file) {
         Ok(questions) if kernel == "questions" || kernel == "targets" => {

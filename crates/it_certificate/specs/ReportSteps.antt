@@ -22,6 +22,7 @@ use Rattle.it_sharing.specs.Sharings.{SharingView, made_question, maximal_count,
 use Rattle.it_certificate.specs.declared.types.Reported.{Reported}
 use Rattle.it_certificate.specs.Reports.{IsReported, ReadsAs, Reading}
 use Rattle.it_certificate.specs.Sources.{AsksOnly, IsMakeable, IsSourceOf, Source, Copies, asked, source_key}
+use Rattle.it_syntax.specs.Lines.{most_text_bytes}
 
 -- the number of forms that a demand of this kind says to be at least 0
 abbrev pub form_count : Kind → ℕ
@@ -50,8 +51,8 @@ IsOnly qs None = length qs ≡ 1 → ⊥
 
 -- what the reader of a text as exactly one question gave
 abbrev pub GivesOnly : List ℕ → Result QuestionView Refusal → Type 0
-GivesOnly text (Ok q) = (length text ≤ 1048577) × IsFile text (q ∷ [])
-GivesOnly text (Err Shape) = (q : QuestionView) → length text ≤ 1048577 → IsFile text (q ∷ []) → ⊥
+GivesOnly text (Ok q) = (length text ≤ most_text_bytes) × IsFile text (q ∷ [])
+GivesOnly text (Err Shape) = (q : QuestionView) → length text ≤ most_text_bytes → IsFile text (q ∷ []) → ⊥
 GivesOnly text (Err Memory) = Unit {0}
 
 -- what the reader of bytes as a file with a head gave: the file's only question with the copies

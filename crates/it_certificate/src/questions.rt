@@ -21,13 +21,13 @@ fn single_question(questions: Vec<Question>) -> Option<Question>
     }
 }
 
-/// The question that a text of at most 1048577 bytes reads as, if it reads as exactly one.
+/// The question that a text of at most 1,048,577 bytes reads as, if it reads as exactly one.
 pub fn question_of(alloc: Global, text: &str) -> Result<Question, Refusal>
     ensures reading { GivesOnly text.now result }
     ensures limits { IfOk result (λ q. IsQuestion q.body) }
 {
     let bytes = text.as_bytes();
-    if bytes.len() > 1048577 {
+    if bytes.len() > 1_048_577 {
         return Err(Refusal::Shape);
     }
     match questions(alloc, bytes) {

@@ -59,13 +59,13 @@ fn made_from(alloc: Global, sharing: &Sharing) -> Result<Question, Refusal>
     }
 }
 
-/// The question that at most 1048576 bytes make, if they are a sharing file of few sets.
+/// The question that at most 1,048,576 bytes make, if they are a sharing file of few sets.
 #[tactic(auto, using(crate::proofs::SourceLemmas::made_long, crate::proofs::SourceLemmas::made_by_file))]
 fn made_of(alloc: Global, bytes: &[u8]) -> Result<Question, Refusal>
     ensures reading { GivesMade bytes.now result }
     ensures limits { IfOk result (λ q. IsQuestion q.body) }
 {
-    if bytes.len() > 1048576 {
+    if bytes.len() > 1_048_576 {
         return Err(Refusal::Shape);
     }
     match sharing(alloc, bytes) {
@@ -105,13 +105,13 @@ fn extended(alloc: Global, copies: &[CopyLine], questions: &[Question]) -> Resul
     }
 }
 
-/// The only question of at most 1048577 bytes with the copies that their head asks for.
+/// The only question of at most 1,048,577 bytes with the copies that their head asks for.
 #[tactic(auto, using(crate::proofs::SourceLemmas::copied_long, crate::proofs::SourceLemmas::copied_by_file))]
 fn copied(alloc: Global, bytes: &[u8]) -> Result<Question, Refusal>
     ensures reading { GivesCopied bytes.now result }
     ensures limits { IfOk result (λ q. IsQuestion q.body) }
 {
-    if bytes.len() > 1048577 {
+    if bytes.len() > 1_048_577 {
         return Err(Refusal::Shape);
     }
     match copy_file(alloc, bytes) {

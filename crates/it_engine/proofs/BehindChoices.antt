@@ -119,7 +119,7 @@ module _ (columns : List Terms) (rows : List WholeRowView) (basis : List ℕ) (m
       (combined : Terms) (combined_is : combined ≡ column_less_moved columns rows basis moved entries multiple c (length basis)) where
     shares_whole : (q : ℕ) → q < length basis → has_moved moved q ≡ true → (whole_row_at rows q).denominator * share_of multiple rows q ≡ multiple
     shares_whole q l e = mul_comm (whole_row_at rows q).denominator (share_of multiple rows q)
-      ∙ div-mul_cancel (whole_row_at rows q).denominator (multiple_is.each q l e)
+        ∙ div-mul_cancel (whole_row_at rows q).denominator (multiple_is.each q l e)
 
     module _ (p : FeasibilityProblem Rational) (b t : SimplexTable Rational) (s : ShowsBehind p b t columns limit rows basis (has_moved moved)) where
       number_enters : (i : ℕ) → T.number_now p b t columns limit rows basis (has_moved moved) s i c

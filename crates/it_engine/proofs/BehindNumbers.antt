@@ -156,7 +156,7 @@ added_in_place multiple bound denominator entry share new_multiple new_bound som
 
 -- and one that doesn't: the least common multiple
 pub added_over_both : (multiple bound denominator entry divisor wider grown new_multiple new_bound : ℕ)
-  → 0 < multiple → 0 < denominator → divisor ≡ gcd multiple denominator
+    → 0 < multiple → 0 < denominator → divisor ≡ gcd multiple denominator
     → (wider < 2 ^ 63) × (wider ≡ multiple * (denominator / divisor)) × (grown ≡ bound * (denominator / divisor))
     → (new_multiple ≡ wider) × (new_bound ≡ grown + entry * (wider / denominator))
     → AddsShare multiple bound denominator entry new_multiple new_bound

@@ -65,11 +65,11 @@ module _ (p : FeasibilityProblem Rational) (b t : SimplexTable Rational) (column
 
   pub moved_named : (i j : ℕ) → i ≤ m → j ≤ n + m → moved i ≡ true → IsRatio (t.entry i j) (number_now i j) (denominator_now i)
   moved_named i j hi hj e = subst (λ (d : Bool). IsRatio (cond d (t.entry i j) (b.entry i j)) (number_now i j) (denominator_now i))
-    e (mixed_is_over.named i j hi hj)
+      e (mixed_is_over.named i j hi hj)
 
   pub base_named : (i j : ℕ) → i ≤ m → j ≤ n + m → moved i ≡ false → IsRatio (b.entry i j) (number_now i j) (denominator_now i)
   base_named i j hi hj e = subst (λ (d : Bool). IsRatio (cond d (t.entry i j) (b.entry i j)) (number_now i j) (denominator_now i))
-    e (mixed_is_over.named i j hi hj)
+      e (mixed_is_over.named i j hi hj)
 
   pub right_named : (i : ℕ) → i < m → IsRatio (t.entry i (n + m)) (number_at (whole_row_at rows i).numbers m) (denominator_now i)
   right_named i hi = by_move (moved i) ((s.shows.row i (omega (arith, hi))).named m (omega arith))

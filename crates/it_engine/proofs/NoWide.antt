@@ -72,9 +72,9 @@ module _ (m n : ℕ) (t : SimplexTable Rational) (number : ℕ → ℕ → ℤ) 
 
       quotient_fits : (i : ℕ) → i ≤ m → IsNarrow (Q.times (t.entry i c) (Q.inverse (t.entry r c)))
       quotient_fits i hi = narrow_by (Q.times (t.entry i c) (Q.inverse (t.entry r c))) (number i c *ℤ pos (denominator r))
-        (denominator i * p) (product_above_zero i hi)
+          (denominator i * p) (product_above_zero i hi)
           (quotient_of_names (t.entry i c) (t.entry r c) (number i c) p (denominator i) (denominator r)
-            (o.some i hi) (o.some r hr) hp (o.named i c hi hc) own_entry)
+          (o.some i hi) (o.some r hr) hp (o.named i c hi hc) own_entry)
           (half_within (number i c *ℤ pos (denominator r)) (half_product (number i c) (pos (denominator r)) (o.short i c hi hc) (o.low r hr)))
           (over_within i hi)
 

@@ -1,5 +1,5 @@
 -- No public clause cites this module: rows that stay as they were in an earlier table of the run, the base, until they are brought up to date.
-use Rattle.std.specs.Prelude.{◌≡◌, ℕ, zero, suc, ◌+◌, ◌*◌, ◌/◌, ◌<◌, ◌≤◌, ◌^◌, ◌++◌, Bool, true, false, cond, ◌≢◌, ℤ, pos, negsuc, ◌*ℤ◌, neg_ℤ, unsigned_abs, List, [], length, slice_index_or, slice_set, Option, Some, None}
+use Rattle.std.specs.Prelude.{◌≡◌, ℕ, zero, suc, ◌+◌, ◌*◌, ◌/◌, ◌<◌, ◌≤◌, ◌++◌, Bool, true, false, cond, ◌≢◌, ℤ, pos, negsuc, ◌*ℤ◌, neg_ℤ, unsigned_abs, List, [], length, slice_index_or, slice_set, Option, Some, None}
 use Rattle.std.specs.List.{All, Contains}
 use Rattle.std.specs.Option.{IfSome}
 use Prim.Native.Nat.{◌∣◌}
@@ -20,6 +20,7 @@ use Rattle.it_whole.specs.ColumnTerms.{multiple_of_terms, Suits}
 use Rattle.it_whole.specs.WholeRows.{IsUsable, IsRow, WholeRowView}
 use Rattle.it_whole.specs.Updates.{IsShortened, IsUpdated, IsWholeRowReduced}
 use Rattle.it_engine.specs.Tables.{AreStartColumns, ShowsTable, whole_row_at}
+use Rattle.it_number.specs.Limit.{signed_limit}
 
 -- the table with the rows of t that moved and its basic columns, and all other rows from the base b
 abbrev pub mixed_table : (ℕ → Bool) → SimplexTable Rational → SimplexTable Rational → SimplexTable Rational
@@ -29,7 +30,7 @@ mixed_table moved b t = record { entry = λ i j. cond (moved i) (t.entry i j) (b
 pub record ShowsBehind (p : FeasibilityProblem Rational) (b t : SimplexTable Rational) (columns : List Terms) (limit : ℕ) (rows : List WholeRowView) (basis : List ℕ) (moved : ℕ → Bool) : Type 0 where
   pub norm : ℕ
   pub some : 1 ≤ norm
-  pub fit : norm * limit < 2 ^ 63
+  pub fit : norm * limit < signed_limit
   pub behind : IsBehind field_ℚ (length basis) (length columns) p b t moved
   pub cost : moved (length basis) ≡ true
   pub entered : (q : ℕ) → q < length basis → moved q ≡ true → t.basis q < length columns
@@ -81,7 +82,7 @@ pub record AreMovedEntries (terms : Terms) (rows : List WholeRowView) (moved : L
 -- multiple is a common multiple of the denominators of the rows below k that moved, below 2 ^ 63
 pub record IsCommonMultiple (rows : List WholeRowView) (moved : List Bool) (k multiple : ℕ) : Type 0 where
   pub some : 0 < multiple
-  pub low : multiple < 2 ^ 63
+  pub low : multiple < signed_limit
   pub each : (q : ℕ) → q < k → has_moved moved q ≡ true → (whole_row_at rows q).denominator ∣ multiple
 
 -- a column suits each row below a height that stays behind
@@ -263,7 +264,7 @@ pub record AreShares (norm : ℕ) (rows : List WholeRowView) (moved : List Bool)
 -- new_multiple is a multiple of multiple and of denominator; new_bound is the sum of bound and entry, each times its share in new_multiple
 pub record AddsShare (multiple bound denominator entry new_multiple new_bound : ℕ) : Type 0 where
   pub some : 0 < new_multiple
-  pub low : new_multiple < 2 ^ 63
+  pub low : new_multiple < signed_limit
   pub old : multiple ∣ new_multiple
   pub own : denominator ∣ new_multiple
   pub bound_is : new_bound ≡ bound * (new_multiple / multiple) + entry * (new_multiple / denominator)

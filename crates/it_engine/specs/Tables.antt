@@ -1,5 +1,5 @@
 -- No public clause cites this module: tables of whole numbers over one denominator a row.
-use Rattle.std.specs.Prelude.{◌≡◌, ℕ, ◌+◌, ◌<◌, ◌≤◌, ◌^◌, ℤ, List, [], length, slice_index_or, All}
+use Rattle.std.specs.Prelude.{◌≡◌, ℕ, ◌+◌, ◌<◌, ◌≤◌, ℤ, List, [], length, slice_index_or, All}
 use Rattle.it_rational.specs.Rational.{Rational, times, IsRatio}
 use Rattle.it_rational.proofs.RationalLaws.{ring_ℚ}
 use Rattle.it_space.specs.Rows.{Terms, row_mass}
@@ -9,12 +9,13 @@ use Rattle.it_tableau.specs.SimplexTables.{SimplexTable, FeasibilityProblem, sta
 use Rattle.it_run.specs.RowValues.{rational_value}
 use Rattle.it_vectors.specs.Sizes.{AreAtMost, IsShort}
 use Rattle.it_whole.specs.WholeRows.{IsRow, WholeRowView}
+use Rattle.it_number.specs.Limit.{signed_limit}
 
 -- each entry of the table, the right sides and the cost row included, is a whole number over the denominator of its row, and all
 -- these numbers are short
 pub record IsTableOver (m n : ℕ) (t : SimplexTable Rational) (number : ℕ → ℕ → ℤ) (denominator : ℕ → ℕ) : Type 0 where
   pub some : (i : ℕ) → i ≤ m → 0 < denominator i
-  pub low : (i : ℕ) → i ≤ m → denominator i < 2 ^ 63
+  pub low : (i : ℕ) → i ≤ m → denominator i < signed_limit
   pub named : (i j : ℕ) → i ≤ m → j ≤ n + m → IsRatio (t.entry i j) (number i j) (denominator i)
   pub short : (i j : ℕ) → i ≤ m → j ≤ n + m → IsShort (number i j)
 

@@ -1,5 +1,5 @@
 //! Blocks of degenerate steps: their rows, which of these moved since the block began, and working space.
-ghost use Rattle.std.specs.Prelude.{◌≡◌, ◌+◌, ◌<◌, ◌≤◌, ◌^◌, ℕ, pos, [], length, cond, false, true, slice_index_or, slice_set, IfOk, OnOk};
+ghost use Rattle.std.specs.Prelude.{◌≡◌, ◌+◌, ◌<◌, ◌≤◌, ℕ, pos, [], length, cond, false, true, slice_index_or, slice_set, IfOk, OnOk};
 ghost use Rattle.std.specs.Bool.{OnFalse, OnTrue};
 ghost use Rattle.it_engine.specs.Behind.{AreMovedEntries, AreMovedInOrder, has_moved};
 ghost use Rattle.it_whole.specs.ColumnTerms.{Suits};
@@ -9,6 +9,7 @@ ghost use Rattle.it_engine.specs.PivotedRows.{SuitsAll};
 ghost use Rattle.it_vectors.specs.Sizes.{AreAtMost};
 ghost use Rattle.it_engine.specs.Tables.{whole_row_at};
 ghost use Rattle.it_space.specs.Sums.{number_at};
+ghost use Rattle.it_number.specs.Limit.{signed_limit};
 
 use crate::choice::is_above_zero;
 use it_whole::{Column, WholeRow};
@@ -78,7 +79,7 @@ pub struct Notes {
 impl Notes {
     /// Working space for `height` rows and the cost row.
     pub fn new(alloc: Global, height: usize) -> Result<Notes, AllocError>
-        requires { height < 2 ^ 63 }
+        requires { height < signed_limit }
         ensures { IfOk result (HasRoom height) }
     {
         let next = Vec::from_elem(alloc, 0, height + 2)?;

@@ -1,5 +1,5 @@
 //! Bringing rows that stayed behind up to date.
-ghost use Rattle.std.specs.Prelude.{◌≡◌, ◌+◌, ◌<◌, ◌^◌, ℕ, pos, length, false, true, slice_index_or};
+ghost use Rattle.std.specs.Prelude.{◌≡◌, ◌+◌, ◌<◌, ℕ, pos, length, false, true, slice_index_or};
 ghost use Rattle.std.specs.Bool.{OnTrue};
 ghost use Rattle.std.specs.Option.{IfSome};
 ghost use Rattle.it_engine.specs.Behind.{AreBrought, AreMovedInOrder, AreMovedUsable, AreShortened, has_moved, HaveEntered, IsBrought, IsLessMoved, IsLessRow, IsRowBrought};
@@ -7,6 +7,7 @@ ghost use Rattle.it_engine.specs.PivotedRows.{AreFitting, AreUsable, IsFitting};
 ghost use Rattle.it_vectors.specs.Sizes.{AreShort};
 ghost use Rattle.it_whole.specs.WholeRows.{IsUsable};
 ghost use Rattle.it_engine.specs.Tables.{whole_row_at};
+ghost use Rattle.it_number.specs.Limit.{signed_limit};
 
 use crate::blocks::{Block, Moves, Run, basic_column, denominator_at, moved_at, row_at};
 use it_vectors::is_zero;
@@ -41,7 +42,7 @@ fn take_off(
     requires own { IsUsable (length (whole_row_at rows.now q).numbers) limit (whole_row_at rows.now q) }
     requires column { IsFitting (length (whole_row_at rows.now q).numbers) limit column.now }
     requires room { length room.old ≡ length (whole_row_at rows.now q).numbers }
-    requires limit { limit < 2 ^ 63 }
+    requires limit { limit < signed_limit }
     ensures room { length room.new ≡ length room.old }
     ensures updated { OnTrue result (IsLessRow column.now limit rows.now q row.old row.new) }
 {
@@ -80,7 +81,7 @@ fn take_off_moved(
     requires rows { AreMovedUsable run.now.limit block.now.rows.now block.now.moved.now }
     requires columns { AreFitting (length block.now.rows.now) run.now.limit run.now.columns.now }
     requires room { length room.old ≡ length block.now.rows.now }
-    requires limit { run.now.limit < 2 ^ 63 }
+    requires limit { run.now.limit < signed_limit }
     ensures room { length room.new ≡ length room.old }
     ensures less { OnTrue result (IsLessMoved run.now.columns.now run.now.limit block.now.rows.now block.now.basis.now q row.old row.new) }
     ensures usable { OnTrue result (IsUsable (length block.now.rows.now) run.now.limit row.new) }
@@ -104,7 +105,7 @@ fn bring_row(row: &mut WholeRow, run: &Run<'_>, block: &Block<'_>, room: &mut [i
     requires rows { AreMovedUsable run.now.limit block.now.rows.now block.now.moved.now }
     requires columns { AreFitting (length block.now.rows.now) run.now.limit run.now.columns.now }
     requires room { length room.old ≡ length block.now.rows.now }
-    requires limit { run.now.limit < 2 ^ 63 }
+    requires limit { run.now.limit < signed_limit }
     ensures room { length room.new ≡ length room.old }
     ensures brought { OnTrue result (IsBrought run.now.columns.now run.now.limit block.now.rows.now block.now.basis.now block.now.moved.now row.old row.new) }
     ensures usable { OnTrue result (IsUsable (length block.now.rows.now) run.now.limit row.new) }
@@ -134,7 +135,7 @@ fn bring(
     requires rows { AreUsable (length rows.old) run.now.limit rows.old }
     requires columns { AreFitting (length rows.old) run.now.limit run.now.columns.now }
     requires room { length room.old ≡ length rows.old }
-    requires limit { run.now.limit < 2 ^ 63 }
+    requires limit { run.now.limit < signed_limit }
     ensures room { length room.new ≡ length room.old }
     ensures brought { OnTrue result (IsRowBrought run.now.columns.now run.now.limit rows.old moves.now.basis.now moves.now.moved.now r rows.new) }
 {
@@ -166,7 +167,7 @@ pub fn bring_if_behind(
     requires rows { AreUsable (length rows.old) run.now.limit rows.old }
     requires columns { AreFitting (length rows.old) run.now.limit run.now.columns.now }
     requires room { length room.old ≡ length rows.old }
-    requires limit { run.now.limit < 2 ^ 63 }
+    requires limit { run.now.limit < signed_limit }
     ensures room { length room.new ≡ length room.old }
     ensures brought { OnTrue result (has_moved moves.now.moved.now r ≡ false
         → IsRowBrought run.now.columns.now run.now.limit rows.old moves.now.basis.now moves.now.moved.now r rows.new) }
@@ -187,7 +188,7 @@ pub fn bring_all(rows: &mut [WholeRow], run: &Run<'_>, moves: &Moves<'_>, room: 
     requires rows { AreUsable (length rows.old) run.now.limit rows.old }
     requires columns { AreFitting (length rows.old) run.now.limit run.now.columns.now }
     requires room { length room.old ≡ length rows.old }
-    requires limit { run.now.limit < 2 ^ 63 }
+    requires limit { run.now.limit < signed_limit }
     ensures room { length room.new ≡ length room.old }
     ensures brought { OnTrue result (AreBrought run.now.columns.now run.now.limit
         rows.old moves.now.basis.now moves.now.moved.now (length moves.now.basis.now) rows.new) }
@@ -216,7 +217,7 @@ fn shorten_row(rows: &mut [WholeRow], q: usize)
 pub fn shorten_moved(rows: &mut [WholeRow], order: &[usize], limit: u64)
     requires rows { AreUsable (length rows.old) limit rows.old }
     requires order { (k : ℕ) → k < length order.now → slice_index_or order.now k 0 < length rows.old }
-    requires limit { limit < 2 ^ 63 }
+    requires limit { limit < signed_limit }
     ensures { AreShortened rows.old rows.new }
 {
     for k in 0..order.len() {

@@ -1,5 +1,5 @@
 //! The leaving row of a degenerate step.
-ghost use Rattle.std.specs.Prelude.{◌≡◌, ◌+◌, ◌<◌, ◌≤◌, ◌^◌, ◌*ℤ◌, neg_ℤ, ℕ, pos, Bool, List, [], length, false, slice_index_or, IfOk};
+ghost use Rattle.std.specs.Prelude.{◌≡◌, ◌+◌, ◌<◌, ◌≤◌, ◌*ℤ◌, neg_ℤ, ℕ, pos, Bool, List, [], length, false, slice_index_or, IfOk};
 ghost use Rattle.std.specs.Bool.{OnFalse, OnTrue};
 ghost use Rattle.std.specs.Option.{IfSome};
 ghost use Rattle.it_engine.specs.Behind.{AreBaseBounds, AreMovedInOrder, AreRanked, AreStillRows, column_behind, ComesBefore, has_moved, HasZeroRatio, HaveEntered, IsFirstOf, MayLeave, SuitsBehind, TakesRow};
@@ -7,6 +7,7 @@ ghost use Rattle.it_whole.specs.ColumnTerms.{multiple_of_terms};
 ghost use Rattle.it_engine.specs.Choosing.{right_side_of};
 ghost use Rattle.it_engine.specs.Tables.{whole_row_at};
 ghost use Rattle.it_space.specs.Sums.{number_at};
+ghost use Rattle.it_number.specs.Limit.{signed_limit};
 
 use crate::blocks::{
     Block, basic_column, closer_most_at, denominator_at, is_above_at, moved_at, row_at,
@@ -136,7 +137,7 @@ fn less_moved(
     requires entered { slice_index_or block.now.basis.now q 0 < length columns.now }
     requires entries { q < length entries.now }
     requires some { 0 < (whole_row_at block.now.rows.now q).denominator }
-    requires low { multiple < 2 ^ 63 }
+    requires low { multiple < signed_limit }
     ensures { OnTrue result (TakesRow columns.now block.now.rows.now block.now.basis.now entries.now multiple q combined.old combined.new) }
 {
     let entry = read(entries, q);
@@ -151,7 +152,7 @@ fn less_moved(
 
 /// The negated product of `entry` and `share`; `None` unless it is below 2^63 in absolute value.
 fn taken_times(entry: i64, share: u64) -> Option<i64>
-    requires { share < 2 ^ 63 }
+    requires { share < signed_limit }
     ensures { IfSome result (λ z. z ≡ neg_ℤ (entry *ℤ pos share)) }
 {
     let taken = narrow(product(entry, share as i64), LARGEST)?;
@@ -161,7 +162,7 @@ fn taken_times(entry: i64, share: u64) -> Option<i64>
 /// Sets the combined column to `multiple` times `column`, which enters; `false` if a number is too large or allocation fails.
 fn begin_combined(combined: &mut Column, columns: &[Column], column: usize, multiple: u64) -> bool
     requires column { column < length columns.now }
-    requires low { multiple < 2 ^ 63 }
+    requires low { multiple < signed_limit }
     ensures { OnTrue result (combined.new ≡ multiple_of_terms (pos multiple) (slice_index_or columns.now column [])) }
 {
     combined.clear();
@@ -184,7 +185,7 @@ pub fn combine_columns(
     requires entered { HaveEntered columns.now block.now.basis.now block.now.moved.now }
     requires entries { length block.now.basis.now ≤ length entries.now }
     requires some { (i : ℕ) → i < length block.now.rows.now → 0 < (whole_row_at block.now.rows.now i).denominator }
-    requires low { multiple < 2 ^ 63 }
+    requires low { multiple < signed_limit }
     ensures { OnTrue result (combined.new ≡ column_behind columns.now block.now.rows.now block.now.basis.now block.now.moved.now entries.now multiple column) }
 {
     if !begin_combined(combined, columns, column, multiple) {

@@ -1,5 +1,5 @@
 //! The pivot.
-ghost use Rattle.std.specs.Prelude.{◌≡◌, ◌≢◌, ℕ, ◌+◌, ◌<◌, ◌^◌, ◌≤ℤ◌, pos, length, Some};
+ghost use Rattle.std.specs.Prelude.{◌≡◌, ◌≢◌, ℕ, ◌+◌, ◌<◌, ◌≤ℤ◌, pos, length, Some};
 ghost use Rattle.std.specs.Bool.{OnTrue};
 ghost use Rattle.std.specs.Option.{IfSome};
 ghost use Rattle.it_engine.specs.Choosing.{best_row, entry_of};
@@ -12,6 +12,7 @@ ghost use Rattle.it_engine.specs.Engine.{HasSpace};
 ghost use Rattle.it_engine.specs.Tables.{whole_row_at};
 ghost use Rattle.it_engine.specs.PivotedRows.{AreWholeRowsPivoted, AreUsable, IsFitting, IsRowUpdated};
 ghost use Rattle.it_space.specs.Sums.{number_at};
+ghost use Rattle.it_number.specs.Limit.{signed_limit};
 
 use crate::blocks::{Run, Scratch};
 use crate::choice::{leaving_row, note_entries};
@@ -34,7 +35,7 @@ pub fn pivot(
     requires entries { length entries.now ≡ length rows.old }
     requires short { AreShort entries.now }
     requires positive { pos 1 ≤ℤ number_at entries.now r }
-    requires limit { run.now.limit < 2 ^ 63 }
+    requires limit { run.now.limit < signed_limit }
     ensures pivoted { OnTrue result (AreWholeRowsPivoted (length rows.old) run.now.limit rows.old (number_at entries.now) r rows.new) }
     ensures scratch { HasSpace (length rows.old) scratch.new }
 {
@@ -117,7 +118,7 @@ pub fn pivot_moved(
     requires entries { length entries.now ≡ length rows.old }
     requires short { AreShort entries.now }
     requires positive { pos 1 ≤ℤ number_at entries.now r }
-    requires limit { run.now.limit < 2 ^ 63 }
+    requires limit { run.now.limit < signed_limit }
     ensures pivoted { OnTrue result (AreWholeRowsPivoted (length rows.old) run.now.limit rows.old (number_at entries.now) r rows.new) }
     ensures scratch { HasSpace (length rows.old) scratch.new }
 {
@@ -161,7 +162,7 @@ pub fn enter(
     requires scratch { HasSpace (length rows.old) scratch.old }
     requires entries { length entries.old ≡ length rows.old }
     requires column { IsFitting (length rows.old) run.now.limit column.now }
-    requires limit { run.now.limit < 2 ^ 63 }
+    requires limit { run.now.limit < signed_limit }
     ensures leaves { IfSome result (λ r. best_row column.now rows.old basis.now (length basis.now) ≡ Some r) }
     ensures within { IfSome result (λ r. r < length basis.now) }
     ensures pivoted { IfSome result (λ r. AreWholeRowsPivoted (length rows.old) run.now.limit rows.old (entry_of column.now rows.old) r rows.new) }

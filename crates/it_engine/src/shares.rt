@@ -1,9 +1,10 @@
 //! A common multiple of the denominators of the rows that moved, and a bound on the sum of their entries over it.
-ghost use Rattle.std.specs.Prelude.{◌≡◌, ◌+◌, ◌*◌, ◌<◌, ◌≤◌, ◌^◌, ℕ, length, true};
+ghost use Rattle.std.specs.Prelude.{◌≡◌, ◌+◌, ◌*◌, ◌<◌, ◌≤◌, ℕ, length, true};
 ghost use Rattle.std.specs.Bool.{OnTrue};
 ghost use Rattle.std.specs.Option.{IfSome};
 ghost use Rattle.it_engine.specs.Behind.{AddsShare, AreMovedInOrder, AreShares, has_moved, share_of};
 ghost use Rattle.it_engine.specs.Tables.{whole_row_at};
+ghost use Rattle.it_number.specs.Limit.{signed_limit};
 
 use crate::blocks::{Block, denominator_at, most_at, row_at};
 use it_vectors::{common_divisor, short_product, short_sum};
@@ -51,7 +52,7 @@ fn with_share(shares: Shares, entry: u64, share: u64) -> Option<Shares>
 
 /// The multiple and the bound, both times `factor`. `None` unless both are below 2^63.
 fn times_factor(shares: Shares, factor: u64) -> Option<Shares>
-    ensures { IfSome result (λ s. (s.multiple < 2 ^ 63) × (s.multiple ≡ shares.multiple * factor) × (s.bound ≡ shares.bound * factor)) }
+    ensures { IfSome result (λ s. (s.multiple < signed_limit) × (s.multiple ≡ shares.multiple * factor) × (s.bound ≡ shares.bound * factor)) }
 {
     let multiple = short_product(shares.multiple, factor)?;
     let bound = short_product(shares.bound, factor)?;
@@ -62,7 +63,7 @@ fn times_factor(shares: Shares, factor: u64) -> Option<Shares>
 /// which then stays. `None` if a number isn't below 2^63.
 fn with_other_row(shares: Shares, denominator: u64, entry: u64) -> Option<Shares>
     requires some { 0 < shares.multiple }
-    requires low { shares.multiple < 2 ^ 63 }
+    requires low { shares.multiple < signed_limit }
     requires denominator { 0 < denominator }
     ensures { IfSome result (λ s. AddsShare shares.multiple shares.bound denominator entry s.multiple s.bound) }
 {
@@ -78,7 +79,7 @@ fn with_other_row(shares: Shares, denominator: u64, entry: u64) -> Option<Shares
 #[inline]
 fn with_row(shares: Shares, denominator: u64, entry: u64) -> Option<Shares>
     requires some { 0 < shares.multiple }
-    requires low { shares.multiple < 2 ^ 63 }
+    requires low { shares.multiple < signed_limit }
     requires denominator { 0 < denominator }
     ensures { IfSome result (λ s. AddsShare shares.multiple shares.bound denominator entry s.multiple s.bound) }
 {
@@ -125,8 +126,8 @@ pub fn shares_of_moved(block: &Block<'_>, norm: u64) -> Option<Shares>
 /// Whether the numbers of the rows that stay behind are below 2^63 at every column, though they aren't formed: by a bound `most` on the
 /// rows' numbers, a bound `low` on their denominators, and the multiple and the bound of the rows that moved.
 pub fn are_short(most: u64, low: u64, multiple: u64, norm: u64, shares: u64) -> bool
-    ensures numbers { OnTrue result (norm * most * multiple + norm * most * shares < 2 ^ 63) }
-    ensures denominators { OnTrue result (low * multiple < 2 ^ 63) }
+    ensures numbers { OnTrue result (norm * most * multiple + norm * most * shares < signed_limit) }
+    ensures denominators { OnTrue result (low * multiple < signed_limit) }
 {
     let Some(all) = short_product(norm, most) else {
         return false;

@@ -96,7 +96,7 @@ fn visit(
     rest: &Unvisited<'_>,
 ) -> Result<(), AllocError>
     requires few_givens { length reduction.now.givens.now.constraints ≤ most_system_rows }
-    requires few { length reduced.old.kept.items + length rest.now.after.now < 65535 }
+    requires few { length reduced.old.kept.items + length rest.now.after.now < most_system_rows }
     requires next { IsOver (size_of reduction.now.givens.now.space) rest.now.next.now }
     requires kept { AreRowsUpTo (size_of reduction.now.givens.now.space) (map (λ k. k.0) reduced.old.kept.items) }
     requires after { AreRowsUpTo (size_of reduction.now.givens.now.space) rest.now.after.now }

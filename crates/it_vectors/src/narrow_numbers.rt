@@ -9,7 +9,7 @@ ghost use Rattle.it_vectors.specs.Quotients.{IsExact, IsSharedPart, IsTold, like
 ghost use Rattle.it_vectors.specs.Places.{IsNextPlace};
 ghost use Rattle.it_vectors.specs.Combinations.{IsBound, IsCombined};
 ghost use Rattle.it_vectors.specs.Divisors.{DividesAll};
-ghost use Rattle.it_vectors.specs.Stretches.{AreStretches};
+ghost use Rattle.it_vectors.specs.Stretches.{AreStretches, stretch_length};
 ghost use Rattle.it_vectors.specs.StretchesUpTo.{AreStretchesUpTo};
 ghost use Rattle.it_space.specs.Sums.{number_at};
 ghost use Rattle.it_vectors.specs.Sizes.{AreAtMost};
@@ -147,8 +147,8 @@ fn is_null(row: &[i32], k: usize) -> bool
 /// Whether the numbers of the stretch that begins at place `from` are all 0. The loop has no early exit, so that it is vectorized.
 #[inline]
 fn is_null_stretch(row: &[i32], from: usize) -> bool
-    requires { from + 8 ≤ length row.now }
-    ensures { OnTrue result ((k : ℕ) → from ≤ k → k < from + 8 → number_at row.now k ≡ pos 0) }
+    requires { from + stretch_length ≤ length row.now }
+    ensures { OnTrue result ((k : ℕ) → from ≤ k → k < from + stretch_length → number_at row.now k ≡ pos 0) }
 {
     let mut all = true;
     for k in from..from + STRETCH {
@@ -181,9 +181,9 @@ fn note_place(starts: &mut Vec<usize>, k: usize) -> bool
 /// Appends place `k` to `starts`, unless `row` is 0 in the stretch that begins there; `false` if allocation fails.
 #[inline]
 fn note_stretch(row: &[i32], k: usize, starts: &mut Vec<usize>) -> bool
-    requires stretch { k + 8 ≤ length row.now }
+    requires stretch { k + stretch_length ≤ length row.now }
     requires noted { AreStretchesUpTo row.now starts.old.items k }
-    ensures { OnTrue result (AreStretchesUpTo row.now starts.new.items (k + 8)) }
+    ensures { OnTrue result (AreStretchesUpTo row.now starts.new.items (k + stretch_length)) }
 {
     is_null_stretch(row, k) || note_place(starts, k)
 }
@@ -238,10 +238,10 @@ fn subtract_part(row: &mut [i32], by: &[i32], from: usize, to: usize, b: i32)
 /// rules overflow out.
 #[inline(always)]
 fn stretch_less_product(row: &[i32], by: &[i32], from: usize, b: i32) -> [i32; STRETCH]
-    requires row { from + 8 ≤ length row.now }
-    requires by { from + 8 ≤ length by.now }
-    requires bound { (k : ℕ) → from ≤ k → k < from + 8 → unsigned_abs (number_at row.now k) + unsigned_abs (number_at by.now k *ℤ b) < 2 ^ 31 }
-    ensures { (k : ℕ) → k < 8 → number_at result k ≡ number_at row.now (from + k) +ℤ neg_ℤ (number_at by.now (from + k) *ℤ b) }
+    requires row { from + stretch_length ≤ length row.now }
+    requires by { from + stretch_length ≤ length by.now }
+    requires bound { (k : ℕ) → from ≤ k → k < from + stretch_length → unsigned_abs (number_at row.now k) + unsigned_abs (number_at by.now k *ℤ b) < 2 ^ 31 }
+    ensures { (k : ℕ) → k < stretch_length → number_at result k ≡ number_at row.now (from + k) +ℤ neg_ℤ (number_at by.now (from + k) *ℤ b) }
 {
     let mut numbers = [0; STRETCH];
     for k in 0..STRETCH {
@@ -253,11 +253,11 @@ fn stretch_less_product(row: &[i32], by: &[i32], from: usize, b: i32) -> [i32; S
 /// Overwrites the stretch of `row` that begins at place `from` with `numbers`.
 #[inline(always)]
 fn write_stretch(row: &mut [i32], from: usize, numbers: &[i32; STRETCH])
-    requires { from + 8 ≤ length row.old }
+    requires { from + stretch_length ≤ length row.old }
     ensures length { length row.new ≡ length row.old }
     ensures before { (k : ℕ) → k < from → number_at row.new k ≡ number_at row.old k }
-    ensures stretch { (k : ℕ) → k < 8 → number_at row.new (from + k) ≡ number_at numbers.now k }
-    ensures after { (k : ℕ) → from + 8 ≤ k → number_at row.new k ≡ number_at row.old k }
+    ensures stretch { (k : ℕ) → k < stretch_length → number_at row.new (from + k) ≡ number_at numbers.now k }
+    ensures after { (k : ℕ) → from + stretch_length ≤ k → number_at row.new k ≡ number_at row.old k }
 {
     for k in 0..STRETCH {
         row[from + k] = numbers[k];
@@ -269,12 +269,12 @@ fn write_stretch(row: &mut [i32], from: usize, numbers: &[i32; STRETCH])
 #[inline(always)]
 fn subtract_stretch(row: &mut [i32], by: &[i32], from: usize, b: i32)
     requires even { length row.old ≡ length by.now }
-    requires stretch { from + 8 ≤ length by.now }
-    requires bound { (k : ℕ) → from ≤ k → k < from + 8 → unsigned_abs (number_at row.old k) + unsigned_abs (number_at by.now k *ℤ b) < 2 ^ 31 }
+    requires stretch { from + stretch_length ≤ length by.now }
+    requires bound { (k : ℕ) → from ≤ k → k < from + stretch_length → unsigned_abs (number_at row.old k) + unsigned_abs (number_at by.now k *ℤ b) < 2 ^ 31 }
     ensures length { length row.new ≡ length row.old }
     ensures before { (k : ℕ) → k < from → number_at row.new k ≡ number_at row.old k }
-    ensures part { (k : ℕ) → from ≤ k → k < from + 8 → number_at row.new k ≡ number_at row.old k +ℤ neg_ℤ (number_at by.now k *ℤ b) }
-    ensures after { (k : ℕ) → from + 8 ≤ k → number_at row.new k ≡ number_at row.old k }
+    ensures part { (k : ℕ) → from ≤ k → k < from + stretch_length → number_at row.new k ≡ number_at row.old k +ℤ neg_ℤ (number_at by.now k *ℤ b) }
+    ensures after { (k : ℕ) → from + stretch_length ≤ k → number_at row.new k ≡ number_at row.old k }
 {
     let numbers = stretch_less_product(row, by, from, b);
     write_stretch(row, from, &numbers);

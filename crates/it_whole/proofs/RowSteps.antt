@@ -111,7 +111,7 @@ less_row width limit old own new z (pos p) a b hp ea eb c d l = λ f g x w rf rg
     (quotient_some (p / gcd p (unsigned_abs z)) (gcd p (unsigned_abs z)) p product_is_whole entry_some) product_is_whole
     (ap (λ b. b *ℤ pos (gcd p (unsigned_abs z))) eb ∙ over_back z (gcd p (unsigned_abs z)) divisor_is_greatest.1)
     (subst (λ (a : ℤ). IsCombined width limit old.numbers own.numbers a b new.numbers) ea c)
-      (subst (λ (a : ℤ). old.denominator * unsigned_abs a < 2 ^ 63) ea l))
+    (subst (λ (a : ℤ). old.denominator * unsigned_abs a < 2 ^ 63) ea l))
   where
     entry_some : 0 < p
     entry_some = omega (arith, ints, hp)
@@ -131,5 +131,11 @@ kept_row width limit old own p = λ f g x w rf rg ex ew. row_stays width limit f
 
 -- a row is itself over the same denominator
 pub same_shortened : (row : WholeRowView) → IsShortened row row
-same_shortened row = record { shared = 1; some = omega arith; length_is = refl; entries = λ k l. times_one
-  (number_at row.numbers k); denominator_is = omega arith }
+same_shortened row = record {
+  shared = 1;
+  some = omega arith;
+  length_is = refl;
+  entries = λ k l. times_one
+      (number_at row.numbers k);
+  denominator_is = omega arith;
+}

@@ -1,7 +1,8 @@
 -- Columns as lists of terms: multiples of them, submodularity, and the rows at which they are priced.
-use Rattle.std.specs.Prelude.{◌≡◌, ℕ, ◌*◌, ◌<◌, ◌≤◌, ◌^◌, ℤ, pos, negsuc, ◌*ℤ◌, unsigned_abs, List, length, map, slice_index_or, All}
+use Rattle.std.specs.Prelude.{◌≡◌, ℕ, ◌*◌, ◌<◌, ◌≤◌, ℤ, pos, negsuc, ◌*ℤ◌, unsigned_abs, List, length, map, slice_index_or, All}
 use Rattle.it_space.specs.Rows.{Terms, row_mass}
 use Rattle.it_space.specs.Sums.{number_at}
+use Rattle.it_number.specs.Limit.{signed_limit}
 
 -- a term times a factor
 abbrev pub multiple_of_term : ℤ → ℕ × ℤ → ℕ × ℤ
@@ -21,7 +22,7 @@ pub record IsSubmodular (terms : Terms) : Type 0 where
 
 -- no sum of the column's terms at the row's numbers is above 2 ^ 63 - 1 in absolute value
 abbrev pub IsPriceable : Terms → List ℤ → Type 0
-IsPriceable terms numbers = (limit : ℕ) × ((k : ℕ) → k < length numbers → unsigned_abs (number_at numbers k) ≤ limit) × (row_mass terms * limit < 2 ^ 63)
+IsPriceable terms numbers = (limit : ℕ) × ((k : ℕ) → k < length numbers → unsigned_abs (number_at numbers k) ≤ limit) × (row_mass terms * limit < signed_limit)
 
 -- the column's terms are at places of the row, and its entry in the row is short
 pub record Suits (terms : Terms) (numbers : List ℤ) : Type 0 where

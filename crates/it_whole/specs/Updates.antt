@@ -1,14 +1,15 @@
 -- A step of the simplex method on a row, stated for the rational numbers that the row represents.
-use Rattle.std.specs.Prelude.{◌≡◌, ℕ, ◌*◌, ◌<◌, ◌^◌, ℤ, pos, ◌*ℤ◌, ◌≤ℤ◌, unsigned_abs, length}
+use Rattle.std.specs.Prelude.{◌≡◌, ℕ, ◌*◌, ◌<◌, ℤ, pos, ◌*ℤ◌, ◌≤ℤ◌, unsigned_abs, length}
 use Rattle.it_rational.specs.Rational.{Rational, plus, times, minus, inverse, IsRatio}
 use Rattle.it_space.specs.Sums.{number_at}
 use Rattle.it_whole.specs.WholeRows.{IsRow, IsUsable, WholeRowView}
+use Rattle.it_number.specs.Limit.{signed_limit}
 
 -- a row that may leave in a step: it is usable, its entry p at the entering column is above 0, and the limit on numbers is short
 pub record IsLeaving (limit : ℕ) (row : WholeRowView) (p : ℤ) : Type 0 where
   pub usable : IsUsable (length row.numbers) limit row
   pub positive : pos 1 ≤ℤ p
-  pub limit_is : limit < 2 ^ 63
+  pub limit_is : limit < signed_limit
 
 -- new is old less the multiple of the leaving row own that makes the entry z of old at the column 0, where own has the entry p
 abbrev pub IsWholeRowReduced : ℕ → ℕ → WholeRowView → WholeRowView → ℤ → ℤ → WholeRowView → Type 0

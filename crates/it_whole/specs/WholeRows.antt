@@ -1,7 +1,8 @@
 -- Rows of whole numbers over one denominator.
-use Rattle.std.specs.Prelude.{◌≡◌, ℕ, ◌<◌, ◌≤◌, ◌^◌, ℤ, unsigned_abs, List, length}
+use Rattle.std.specs.Prelude.{◌≡◌, ℕ, ◌<◌, ◌≤◌, ℤ, unsigned_abs, List, length}
 use Rattle.it_rational.specs.Rational.{Rational, IsRatio}
 use Rattle.it_space.specs.Sums.{number_at}
+use Rattle.it_number.specs.Limit.{signed_limit}
 
 -- the contracts' view of a row of whole numbers over one denominator
 pub record WholeRowView : Type 0 where
@@ -12,7 +13,7 @@ pub record WholeRowView : Type 0 where
 pub record IsRow (width limit : ℕ) (f : ℕ → Rational) (row : List ℤ) (denominator : ℕ) : Type 0 where
   pub length_is : length row ≡ width
   pub some : 0 < denominator
-  pub low : denominator < 2 ^ 63
+  pub low : denominator < signed_limit
   pub named : (k : ℕ) → k < width → IsRatio (f k) (number_at row k) denominator
   pub small : (k : ℕ) → k < width → unsigned_abs (number_at row k) ≤ limit
 

@@ -1,10 +1,11 @@
 //! The columns of the start.
-ghost use Rattle.std.specs.Prelude.{◌≡◌, ◌+◌, ◌<◌, ◌^◌, ◌++◌, ◌∷◌, [], length, pos, slice_index_or, OnOk, SomeIff};
+ghost use Rattle.std.specs.Prelude.{◌≡◌, ◌+◌, ◌<◌, ◌++◌, ◌∷◌, [], length, pos, slice_index_or, OnOk, SomeIff};
 ghost use Rattle.std.specs.Bool.{OnTrue};
 ghost use Rattle.it_whole.specs.ColumnTerms.{multiple_of_term, multiple_of_terms, IsSubmodular, Suits};
 ghost use Rattle.it_space.specs.Rows.{value, row_mass};
 ghost use Rattle.it_whole.specs.Combinations.{IsPriced};
 ghost use Rattle.it_space.specs.Sums.{number_at};
+ghost use Rattle.it_number.specs.Limit.{signed_limit};
 
 use crate::narrow_rows::NarrowRow;
 use crate::rows::{AnyRow, WholeRow};
@@ -123,7 +124,7 @@ impl Column {
 
     /// The sum of the absolute values of the entries; `None` unless it is below 2^63.
     pub fn weight(&self) -> Option<u64>
-        ensures { SomeIff result (row_mass self.now < 2 ^ 63) (row_mass self.now) }
+        ensures { SomeIff result (row_mass self.now < signed_limit) (row_mass self.now) }
     {
         let mut sum: u64 = 0;
         for i in 0..self.size() {

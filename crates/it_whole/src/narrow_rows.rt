@@ -8,6 +8,7 @@ ghost use Rattle.it_vectors.specs.Combinations.{IsCombined};
 ghost use Rattle.it_vectors.specs.Stretches.{AreStretches};
 ghost use Rattle.it_whole.specs.WholeRows.{IsUsable};
 ghost use Rattle.it_whole.specs.Updates.{IsWholeRowReduced, IsQuotient, IsShortened, IsUpdated};
+ghost use Rattle.it_number.specs.Limit.{signed_limit};
 
 use crate::room::{combine_to, shorten_to};
 use it_vectors::narrow_numbers::{
@@ -290,7 +291,7 @@ impl NarrowRow {
         requires row { IsUsable (length own.now.numbers) limit self.old }
         requires own { IsUsable (length own.now.numbers) limit own.now }
         requires room { length room.old ≡ length own.now.numbers }
-        requires entry { unsigned_abs entry < 2 ^ 63 }
+        requires entry { unsigned_abs entry < signed_limit }
         requires pivot { pos 1 ≤ℤ pivot }
         requires limit { limit < 2 ^ 31 }
         ensures room { length room.new ≡ length room.old }
@@ -328,7 +329,7 @@ impl NarrowRow {
         requires row { IsUsable (length own.now.numbers) limit self.old }
         requires own { IsUsable (length own.now.numbers) limit own.now }
         requires room { length room.old ≡ length own.now.numbers }
-        requires entry { unsigned_abs entry < 2 ^ 63 }
+        requires entry { unsigned_abs entry < signed_limit }
         requires some { ¬ (entry ≡ pos 0) }
         requires pivot { pos 1 ≤ℤ pivot }
         requires limit { limit < 2 ^ 31 }

@@ -8,6 +8,7 @@ ghost use Rattle.it_space.specs.Sums.{number_at};
 ghost use Rattle.it_vectors.specs.Combinations.{IsCombined};
 ghost use Rattle.it_vectors.specs.Sizes.{AreAtMost, AreShort};
 ghost use Rattle.it_whole.specs.Updates.{IsShortened};
+ghost use Rattle.it_number.specs.Limit.{signed_limit};
 
 use it_vectors::narrow_numbers::{bound, greatest_size, narrow_number, read};
 use it_vectors::numbers::{divide, divisor, plain_difference};
@@ -20,7 +21,7 @@ const LARGEST: u64 = i64::MAX as u64;
 fn wide_number(row: &[i32], by: &[i32], k: usize, a: i64, b: i64) -> i64
     requires k_row { k < length row.now }
     requires k_by { k < length by.now }
-    requires bound { unsigned_abs (number_at row.now k *ℤ a) + unsigned_abs (number_at by.now k *ℤ b) < 2 ^ 63 }
+    requires bound { unsigned_abs (number_at row.now k *ℤ a) + unsigned_abs (number_at by.now k *ℤ b) < signed_limit }
     ensures { result ≡ number_at row.now k *ℤ a +ℤ neg_ℤ (number_at by.now k *ℤ b) }
 {
     plain_difference(i64::from(read(row, k)), a, i64::from(read(by, k)), b)
@@ -30,7 +31,7 @@ fn wide_number(row: &[i32], by: &[i32], k: usize, a: i64, b: i64) -> i64
 fn fill(room: &mut [i64], row: &[i32], by: &[i32], a: i64, b: i64)
     requires even { length row.now ≡ length by.now }
     requires room { length room.old ≡ length by.now }
-    requires bound { (k : ℕ) → k < length by.now → unsigned_abs (number_at row.now k *ℤ a) + unsigned_abs (number_at by.now k *ℤ b) < 2 ^ 63 }
+    requires bound { (k : ℕ) → k < length by.now → unsigned_abs (number_at row.now k *ℤ a) + unsigned_abs (number_at by.now k *ℤ b) < signed_limit }
     ensures length { length room.new ≡ length room.old }
     ensures entries { (k : ℕ) → k < length by.now → number_at room.new k ≡ number_at row.now k *ℤ a +ℤ neg_ℤ (number_at by.now k *ℤ b) }
 {

@@ -8,6 +8,7 @@ ghost use Rattle.it_vectors.specs.Places.{AreNextPlaces};
 ghost use Rattle.it_whole.specs.WholeRows.{IsUsable};
 ghost use Rattle.it_whole.specs.Updates.{IsLeaving, IsQuotient, IsShortened, IsUpdated};
 ghost use Rattle.it_whole.specs.Widths.{row_of};
+ghost use Rattle.it_number.specs.Limit.{signed_limit};
 
 use crate::narrow_rows::NarrowRow;
 use crate::wide_rows::WideRow;
@@ -132,7 +133,7 @@ impl WholeRow {
 
     /// The number that represents 1 in the row: its denominator.
     pub fn unit(&self) -> i64
-        requires { self.now.denominator < 2 ^ 63 }
+        requires { self.now.denominator < signed_limit }
         ensures { result ≡ pos self.now.denominator }
     {
         self.denominator() as i64
@@ -198,7 +199,7 @@ impl WholeRow {
         requires leaving { IsLeaving limit leaving.now.row.now leaving.now.entry }
         requires places { OnTrue leaving.now.noted (AreNextPlaces leaving.now.row.now.numbers leaving.now.next.now) }
         requires room { length room.old ≡ length leaving.now.row.now.numbers }
-        requires entry { unsigned_abs entry < 2 ^ 63 }
+        requires entry { unsigned_abs entry < signed_limit }
         ensures room { length room.new ≡ length room.old }
         ensures updated { OnTrue result (IsUpdated (length leaving.now.row.now.numbers) limit self.old leaving.now.row.now entry leaving.now.entry self.new) }
     {
@@ -221,7 +222,7 @@ impl WholeRow {
         requires leaving { IsLeaving limit leaving.now.row.now leaving.now.entry }
         requires places { OnTrue leaving.now.noted (AreNextPlaces leaving.now.row.now.numbers leaving.now.next.now) }
         requires room { length room.old ≡ length leaving.now.row.now.numbers }
-        requires entry { unsigned_abs entry < 2 ^ 63 }
+        requires entry { unsigned_abs entry < signed_limit }
         requires some { ¬ (entry ≡ pos 0) }
         ensures room { length room.new ≡ length room.old }
         ensures updated { OnTrue result (IsUpdated (length leaving.now.row.now.numbers) limit self.old leaving.now.row.now entry leaving.now.entry self.new) }

@@ -1,11 +1,12 @@
 //! Rows of numbers in 64 bits.
-ghost use Rattle.std.specs.Prelude.{◌≡◌, ◌+◌, ◌<◌, ◌^◌, ◌≤ℤ◌, [], unsigned_abs, length, pos};
+ghost use Rattle.std.specs.Prelude.{◌≡◌, ◌+◌, ◌<◌, ◌≤ℤ◌, [], unsigned_abs, length, pos};
 ghost use Rattle.std.specs.Bool.{OnTrue};
 ghost use Rattle.it_space.specs.Sums.{number_at};
 ghost use Rattle.it_vectors.specs.Sizes.{AreAtMost, AreShort};
 ghost use Rattle.it_vectors.specs.Places.{AreNextPlaces};
 ghost use Rattle.it_whole.specs.WholeRows.{IsUsable};
 ghost use Rattle.it_whole.specs.Updates.{IsWholeRowReduced, IsQuotient, IsShortened, IsUpdated};
+ghost use Rattle.it_number.specs.Limit.{signed_limit};
 
 use it_vectors::numbers::{Subtrahend, combine, divide, divisor, greatest_size, note_places};
 use it_vectors::{lowest_terms, short_product};
@@ -139,9 +140,9 @@ impl WideRow {
         requires row { IsUsable (length own.now.numbers) limit self.old }
         requires own { IsUsable (length own.now.numbers) limit own.now }
         requires places { AreNextPlaces own.now.numbers next.now }
-        requires entry { unsigned_abs entry < 2 ^ 63 }
+        requires entry { unsigned_abs entry < signed_limit }
         requires pivot { pos 1 ≤ℤ pivot }
-        requires limit { limit < 2 ^ 63 }
+        requires limit { limit < signed_limit }
         ensures less { OnTrue result (IsWholeRowReduced (length own.now.numbers) limit self.old own.now entry pivot self.new) }
         ensures usable { OnTrue result (IsUsable (length own.now.numbers) limit self.new) }
     {
@@ -177,10 +178,10 @@ impl WideRow {
         requires row { IsUsable (length own.now.numbers) limit self.old }
         requires own { IsUsable (length own.now.numbers) limit own.now }
         requires places { AreNextPlaces own.now.numbers next.now }
-        requires entry { unsigned_abs entry < 2 ^ 63 }
+        requires entry { unsigned_abs entry < signed_limit }
         requires some { ¬ (entry ≡ pos 0) }
         requires pivot { pos 1 ≤ℤ pivot }
-        requires limit { limit < 2 ^ 63 }
+        requires limit { limit < signed_limit }
         ensures { OnTrue result (IsUpdated (length own.now.numbers) limit self.old own.now entry pivot self.new) }
     {
         if !self.reduce(own, next, entry, pivot, limit) {

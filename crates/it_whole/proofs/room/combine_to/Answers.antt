@@ -1,6 +1,5 @@
-use Rattle.std.proofs.Common.{◌≤◌, ◌<◌, ◌+◌, ◌*◌, ◌*ℤ◌, ◌∙◌, ℕ, ℤ, pos, length, unsigned_abs, FitsSigned, to_z-of_z, w64, ap, sym, subst, arith}
+use Rattle.std.proofs.Common.{◌≤◌, ◌<◌, ◌+◌, ◌*◌, ◌∙◌, ℕ, ℤ, length, unsigned_abs, FitsSigned, to_z-of_z, w64, ap, sym, subst, arith}
 use Rattle.it_space.specs.Sums.{number_at}
-use native.Mathlib.Nat.{div-mul_cancel}
 use Rattle.it_vectors.specs.Combinations.{IsBound}
 use Rattle.it_vectors.proofs.Bounds.{sizes, numbers_at_most}
 use Rattle.it_whole.proofs.room.combine_to.Goals as goal

@@ -1,4 +1,4 @@
-use Rattle.std.proofs.Common.{◌*◌, ◌*ℤ◌, ◌∙◌, ℤ, pos, ap, sym, arith}
+use Rattle.std.proofs.Common.{◌*◌, ◌*ℤ◌, ◌∙◌, ℤ, pos, ap, arith}
 use native.Mathlib.Nat.{div-mul_cancel}
 use Rattle.it_whole.proofs.room.shorten_to.Goals as goal
 
