@@ -1,7 +1,6 @@
 //! The columns of faults.
 ghost use Rattle.std.specs.Prelude.{◌≡◌, ◌≤◌, ◌-◌, length};
-ghost use Rattle.it_syntax.specs.Lines.{column_after, column_at};
-ghost use Rattle.it_syntax.specs.Lines.{most_text_bytes};
+ghost use Rattle.it_syntax.specs.Lines.{column_after, column_at, most_text_bytes};
 
 use crate::rest::Rest;
 
