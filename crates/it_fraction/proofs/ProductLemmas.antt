@@ -82,11 +82,11 @@ module _ (a : ℤ) (b : ℕ) (c : ℤ) (d : ℕ) (hb : 0 < b) (hd : 0 < d) (la :
   pub product-is : quotient (product_numerator a b c d) (product_denominator a b c d) ≡ quotient (a *ℤ c) (b * d)
   product-is =
       quotient_is (product_numerator a b c d) (product_numerator a b c d) (product_denominator a b c d)
-        (product_denominator a b c d) product-some product-some product-lowest refl
+      (product_denominator a b c d) product-some product-some product-lowest refl
       ∙ sym (quotient_is (product_numerator a b c d) (a *ℤ c) (product_denominator a b c d) (b * d) (mul-pos hb hd) product-some product-lowest cross_products)
 
   pub product-narrow : IsNarrow (quotient (a *ℤ c) (b * d)) ↔ (IsWithin (product_numerator a b c d) × IsWithin (pos (product_denominator a b c d)))
   product-narrow =
       let parts = quotient_parts (product_numerator a b c d) (a *ℤ c) (product_denominator a b c d) (b * d)
-        (mul-pos hb hd) product-some product-lowest cross_products in
+      (mul-pos hb hd) product-some product-lowest cross_products in
       rw (parts.0, parts.1) (λ p. p, λ p. p)

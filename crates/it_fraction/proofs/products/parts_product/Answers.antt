@@ -72,8 +72,11 @@ returns c =
     let numerator = numerator_is g.In_ok-numerator ∙ product_is g.After-signed_quotient-right in
     let denominator = c.in_ok-denominator.ensures.1 ∙ rest_is g.After-quotient-2 in
     let n = product-narrow c.args.a c.args.b c.args.c c.args.d c.requires.b_some c.requires.d_some c.requires.left c.requires.right in (
-      n.1 (rw (← numerator, c.in_ok-numerator.ensures.1) c.in_ok-numerator.ensures.0, rw
-        (← denominator, c.in_ok-denominator.ensures.1) c.in_ok-denominator.ensures.0),
+      n.1 (
+        rw (← numerator, c.in_ok-numerator.ensures.1) c.in_ok-numerator.ensures.0,
+        rw
+            (← denominator, c.in_ok-denominator.ensures.1) c.in_ok-denominator.ensures.0,
+      ),
       (simp to_z-of_z at c.in_lowest_terms.ensures) ∙ ap₂ quotient numerator denominator
           ∙ product-is c.args.a c.args.b c.args.c c.args.d c.requires.b_some c.requires.d_some c.requires.left c.requires.right,
     )

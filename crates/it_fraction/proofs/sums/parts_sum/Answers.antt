@@ -38,7 +38,7 @@ numerator_is : (c : After-signed_quotient) → c.signed_quotient.result ≡ int_
 numerator_is c = let ft : FitsSigned w128 c.in_ok-total.total = search rules in simp to_z-of_z at c.signed_quotient.ensures
 
 parts : (c : In_ok-denominator)
-  → AreSteps c.args.a c.args.b c.args.c c.args.d c.in_ok-left.left c.in_ok-right.right c.in_ok-total.total c.common_divisor-rest.result
+    → AreSteps c.args.a c.args.b c.args.c c.args.d c.in_ok-left.left c.in_ok-right.right c.in_ok-total.total c.common_divisor-rest.result
     → c.in_ok-denominator.denominator ≡ (c.args.b / gcd c.args.b c.args.d) * (c.args.d / c.common_divisor-rest.result)
     → AreParts c.args.a c.args.b c.args.c c.args.d (int_quotient c.in_ok-total.total c.common_divisor-rest.result) c.in_ok-denominator.denominator
 parts c s e = steps-parts _ _ _ _ _ _ _ _ _ s e c.requires.b_some c.requires.d_some c.requires.left c.requires.right
