@@ -91,16 +91,16 @@ module _ (p : ProblemView) (f : Form) (t : Terms) (row : IsRowOf p.space f t) (e
 
 -- ---- the row of a form's negation
 
-turned_up_to : (size : ℕ) (ts : Terms) → IsOver size ts → IsOver size (negated_terms ts)
-turned_up_to size [] u = All-nil (λ (t : ℕ × ℤ). (1 ≤ t.0) × (t.0 ≤ size))
-turned_up_to size (t ∷ ts) u = All-cons (λ (t : ℕ × ℤ). (1 ≤ t.0) × (t.0 ≤ size)) (t.0, neg_ℤ t.1) (negated_terms ts)
-    (All-head (λ (t : ℕ × ℤ). (1 ≤ t.0) × (t.0 ≤ size)) t ts u) (turned_up_to size ts
+negated_up_to : (size : ℕ) (ts : Terms) → IsOver size ts → IsOver size (negated_terms ts)
+negated_up_to size [] u = All-nil (λ (t : ℕ × ℤ). (1 ≤ t.0) × (t.0 ≤ size))
+negated_up_to size (t ∷ ts) u = All-cons (λ (t : ℕ × ℤ). (1 ≤ t.0) × (t.0 ≤ size)) (t.0, neg_ℤ t.1) (negated_terms ts)
+    (All-head (λ (t : ℕ × ℤ). (1 ≤ t.0) × (t.0 ≤ size)) t ts u) (negated_up_to size ts
     (All-tail (λ (t : ℕ × ℤ). (1 ≤ t.0) × (t.0 ≤ size)) t ts u))
 
 pub row_negation : (s : Space) (f : Form) (t u : Terms) → u ≡ negated_terms t → IsRowOf s f t → IsRowOf s (negation f) u
 row_negation s f t u e h = subst (IsRowOf s (negation f)) (sym e) (record {
   same = λ p z. value-negated_terms t p ∙ ap neg_ℤ (h.same p z);
-  coordinates = turned_up_to (size_of s) t h.coordinates;
+  coordinates = negated_up_to (size_of s) t h.coordinates;
   canonical = ascends-negated_terms 0 t h.canonical;
   small = small-negated_terms t h.small;
 })

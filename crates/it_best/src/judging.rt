@@ -11,7 +11,7 @@ ghost use Rattle.it_best.specs.Factors.{HasNoFactor, IsPoint, ground_of};
 ghost use Rattle.it_best.specs.Numbers.{weights_certificate};
 ghost use Rattle.it_best.specs.PhaseSteps.{CertifyBelow, CertifyFactor, SideValuesFit, side_values};
 
-use crate::numbers::{certificate, turned_point, whole_point};
+use crate::numbers::{certificate, negated_point, whole_point};
 use crate::sides::Sides;
 use it_check::{Verdict, check_no, check_yes};
 use it_columns::opposite_row;
@@ -154,7 +154,7 @@ pub fn never_point(alloc: Global, sides: &Sides<'_>, values: &[Fraction]) -> Res
     ensures wide { IfErr result (λ f. f ≡ RowFault.Wide → ¬ (NeverFits sides.now.problem sides.now.left sides.now.right values.now)) }
 {
     sides.facts();
-    let point = turned_point(alloc, sides.space(), values)?;
+    let point = negated_point(alloc, sides.space(), values)?;
     check_point(alloc, sides, sides.right(), &point)?;
     side_values(sides, &point)?;
     Ok(point)

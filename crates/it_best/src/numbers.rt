@@ -179,19 +179,19 @@ pub fn whole_point(alloc: Global, space: Space, numbers: &[Fraction]) -> Result<
 }
 
 /// The negated values.
-fn turned_values(alloc: Global, values: &[i128]) -> Result<Vec<i128>, AllocError>
+fn negated_values(alloc: Global, values: &[i128]) -> Result<Vec<i128>, AllocError>
     requires { All IsWithin values.now }
     ensures { IfOk result (λ v. v.items ≡ map neg_ℤ values.now) }
 {
-    let mut turned = Vec::new(alloc);
+    let mut negated = Vec::new(alloc);
     for value in values {
-        turned.push(-*value)?;
+        negated.push(-*value)?;
     }
-    Ok(turned)
+    Ok(negated)
 }
 
 /// The point with the negated values of `whole_point`. `Wide` as for `whole_values`.
-pub fn turned_point(alloc: Global, space: Space, numbers: &[Fraction]) -> Result<Point, RowFault>
+pub fn negated_point(alloc: Global, space: Space, numbers: &[Fraction]) -> Result<Point, RowFault>
     requires space { IsSpace space }
     requires complete { length numbers.now ≡ size_of space }
     ensures value { IfOk result (λ p. p ≡ map neg_ℤ (scaled_point numbers.now)) }
@@ -199,8 +199,8 @@ pub fn turned_point(alloc: Global, space: Space, numbers: &[Fraction]) -> Result
     ensures wide { IfErr result (λ f. f ≡ RowFault.Wide → ¬ (NumbersFit numbers.now)) }
 {
     let values = whole_values(alloc, numbers)?;
-    let turned = turned_values(alloc, values.as_slice())?;
-    Ok(Point::new(space, turned))
+    let negated = negated_values(alloc, values.as_slice())?;
+    Ok(Point::new(space, negated))
 }
 
 /// The factor: the first number.

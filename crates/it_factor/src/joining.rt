@@ -41,11 +41,11 @@ fn combined_values(
     Ok(values)
 }
 
-/// `point`, if the left side is 0 there and the check finds that it meets the problem and that the right side is above 0. `turned` is
+/// `point`, if the left side is 0 there and the check finds that it meets the problem and that the right side is above 0. `negated` is
 /// the negation of the right side's row.
-fn judged(sides: &Sides<'_>, turned: &Row, point: Point) -> Option<Point>
+fn judged(sides: &Sides<'_>, negated: &Row, point: Point) -> Option<Point>
     requires sides { AreSides sides.now.problem.now sides.now.left.now sides.now.right.now }
-    requires turned { turned.now ≡ negated_terms sides.now.right.now }
+    requires negated { negated.now ≡ negated_terms sides.now.right.now }
     requires complete { length point ≡ size_of sides.now.problem.now.space }
     ensures { IfSome result (HasNoFactor (ground_of sides.now.problem.now) (value sides.now.left.now) (value sides.now.right.now)) }
 {
@@ -55,7 +55,7 @@ fn judged(sides: &Sides<'_>, turned: &Row, point: Point) -> Option<Point>
     if zero != 0 {
         return None;
     }
-    match check_no(sides.problem, turned, &point) {
+    match check_no(sides.problem, negated, &point) {
         Verdict::Valid => Some(point),
         _ => None,
     }
@@ -88,7 +88,7 @@ pub fn joined(
     if values.len() != sides.problem.size() as usize {
         return Ok(None);
     }
-    let turned = opposite_row(alloc, sides.right)?;
+    let negated = opposite_row(alloc, sides.right)?;
     let point = Point::new(sides.problem.space(), values);
-    Ok(judged(sides, &turned, point))
+    Ok(judged(sides, &negated, point))
 }

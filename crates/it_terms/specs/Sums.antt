@@ -26,11 +26,11 @@ pub record IsPlus (old new : List ℤ) (form : Form) : Type 0 where
 abbrev pub constraint_value : List Constraint → (ℕ → ℤ) → ℕ → ℤ
 constraint_value cs p i = (forms_of (map of_constraint cs)).form i p
 
--- the row of the space is the left side of the relation less its right side, negated if `turned`, plus the constraints with
+-- the row of the space is the left side of the relation less its right side, negated if `negated`, plus the constraints with
 -- weights `ws`
-pub record IsExcess (s : Space) (r : RelationView) (turned : Bool) (cs : List Constraint) (ws : List (ℕ × ℤ)) (row : Terms) : Type 0 where
+pub record IsExcess (s : Space) (r : RelationView) (negated : Bool) (cs : List Constraint) (ws : List (ℕ × ℤ)) (row : Terms) : Type 0 where
   pub coordinates : IsOver (size_of s) row
-  pub same : AreSame (value row) (λ p. signed_by turned (side_form s.variables r r.left p -ℤ side_form s.variables r r.right p) +ℤ combination ws (constraint_value cs p))
+  pub same : AreSame (value row) (λ p. signed_by negated (side_form s.variables r r.left p -ℤ side_form s.variables r r.right p) +ℤ combination ws (constraint_value cs p))
 
 -- a weight by the index of its constraint, where `count` generators come before the constraints
 abbrev pub by_constraint : ℕ → ℕ × ℤ → ℕ × ℤ

@@ -1,6 +1,6 @@
 //! Multiples of relations and of a question's constraints, in the terms of their lines. They are judged by the equation in
 //! which they stand.
-use crate::finding::turned;
+use crate::finding::negated;
 use crate::untold::Untold;
 use it_fraction::lcm;
 use it_problems::Origin;
@@ -65,8 +65,8 @@ pub fn put_relation(out: &mut Vec<Term>, relation: &Relation, times: i128) -> Re
     let left = relation.left.terms.as_slice();
     let right = relation.right.terms.as_slice();
     let multiple = with_denominators(with_denominators(1, left)?, right)?;
-    let signed = turned(times, relation.sign == Sign::AtMost)?;
-    let opposite = turned(signed, true)?;
+    let signed = negated(times, relation.sign == Sign::AtMost)?;
+    let opposite = negated(signed, true)?;
     if signed < 0 {
         put_side(out, right, multiple, opposite)?;
         put_side(out, left, multiple, signed)
@@ -120,7 +120,7 @@ fn put_independence(
         put_atom(out, Atom::Entropy { of: *member, given }, times)?;
     }
     let of = union_of(members);
-    put_atom(out, Atom::Entropy { of, given }, turned(times, true)?)
+    put_atom(out, Atom::Entropy { of, given }, negated(times, true)?)
 }
 
 /// Appends `times` times the form that part `part` of `given` demands to be at least 0, or to be 0; parts are counted from 1.

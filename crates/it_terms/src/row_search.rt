@@ -4,7 +4,7 @@ ghost use Rattle.std.specs.Prelude.{◌≤◌};
 ghost use Rattle.it_space.specs.Spaces.{most_variables};
 
 use crate::closed::{ClosedTerm, Closures, size};
-use crate::finding::{Found, own_sum, term_of, turned};
+use crate::finding::{Found, negated, own_sum, term_of};
 use crate::folding::{Notation, atom_of};
 use crate::measures::{Measure, own_spelling};
 use crate::row_judging::closed_row;
@@ -113,7 +113,7 @@ impl Part {
 
     /// Adds `times` times `term`.
     fn add(&mut self, closures: &Closures, term: &ClosedTerm, times: i128) -> Result<(), Untold> {
-        let opposite = turned(times, true)?;
+        let opposite = negated(times, true)?;
         self.add_at(place_of(closures, term.first), times)?;
         self.add_at(place_of(closures, term.given), opposite)?;
         if term.first != term.second {
@@ -280,7 +280,7 @@ pub fn closed_terms(
 fn least_number(terms: &[(u32, i128)]) -> Result<i128, Untold> {
     let mut least = i128::MAX;
     for term in terms {
-        least = least.min(turned(term.1, term.1 < 0)?);
+        least = least.min(negated(term.1, term.1 < 0)?);
     }
     Ok(least)
 }
@@ -297,7 +297,7 @@ fn pair_with(
     let mut rest = Part {
         terms: Vec::from_slice(alloc, part.terms.as_slice())?,
     };
-    rest.add(closures, first, turned(times, true)?)?;
+    rest.add(closures, first, negated(times, true)?)?;
     let Some((more, second)) = single(closures, rest.terms.as_slice()) else {
         return Ok(None);
     };
@@ -336,7 +336,7 @@ fn pair_sum(
     part: &Part,
 ) -> Result<Option<Vec<Term>>, Untold> {
     let times = least_number(part.terms.as_slice())?;
-    let opposite = turned(times, true)?;
+    let opposite = negated(times, true)?;
     let mut best = None;
     for first in terms {
         let plus = pair_with(alloc, closures, measures, part, first, times)?;

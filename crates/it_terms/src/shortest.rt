@@ -5,7 +5,7 @@ ghost use Rattle.it_space.specs.Spaces.{IsSpace, most_variables};
 ghost use Rattle.it_demand.specs.Coefficients.{largest};
 
 use crate::closed::{ClosedTerm, Closures};
-use crate::finding::{common_multiple, term_of, turned, weights_of};
+use crate::finding::{common_multiple, negated, term_of, weights_of};
 use crate::folding::vanishes;
 use crate::untold::Untold;
 use it_columns::opposite_row;
@@ -410,7 +410,7 @@ fn put_times(
         found.terms.push(term)?;
     } else if column - terms < columns.constraints.len() {
         let (number, negative) = columns.constraints[column - terms];
-        let weight = turned(times, negative)?;
+        let weight = negated(times, negative)?;
         found.weights.push((number, weight))?;
     }
     Ok(())

@@ -4,7 +4,7 @@ use Rattle.it_space.specs.Rows.{Terms, IsOver}
 use Rattle.it_space.specs.Spaces.{size_of}
 use Rattle.it_check.specs.Meaning.{CertifiesRow}
 use Rattle.it_prove.specs.ProofViews.{IsSettled, Yes}
-use Rattle.it_best.proofs.JudgeSteps.{turned_certifies}
+use Rattle.it_best.proofs.JudgeSteps.{negated_certifies}
 use Rattle.it_best.proofs.RowLemmas.{negated_up}
 use Rattle.it_factor.proofs.quick.first.Goals as goal
 
@@ -18,4 +18,4 @@ returns-in-Some-Yes c =
     let q = c.args.sides.now.problem.now in
     let w = certificate_view c.in-Some-Yes.below in
     let settled : IsSettled q c.in_ok-row.row (Yes w) = search rules in
-    turned_certifies q c.args.sides.now.left.now w (subst (λ (row : Terms). CertifiesRow q row w) c.in_ok-row.ensures settled.0.0)
+    negated_certifies q c.args.sides.now.left.now w (subst (λ (row : Terms). CertifiesRow q row w) c.in_ok-row.ensures settled.0.0)
