@@ -1,5 +1,6 @@
 //! Mode `bench`: a generated question file, and how many of its answers are of each kind.
-ghost use Rattle.std.specs.Prelude.{◌≤◌, ◌<◌, ◌^◌, ℕ, List, [], map, IfOk};
+ghost use Rattle.std.specs.Prelude.{◌≤◌, ◌<◌, ◌^◌, ℕ, List, [], map, All, IfOk};
+ghost use Rattle.it_question.specs.Limits.{IsQuestion};
 ghost use Rattle.it_question.specs.Files.{IsFile};
 ghost use Rattle.it_gen.specs.GeneratedFiles.{generated_file};
 ghost use Rattle.it_cli.specs.Counts.{AreCounted, IsBenchLine, no_counts};
@@ -60,7 +61,8 @@ fn generated_questions(alloc: Global, seed: u32, count: u32) -> Result<Vec<Quest
     requires seed { seed < 2 ^ 31 }
     requires some { 1 ≤ count }
     requires few { count ≤ 1000 }
-    ensures { IfOk result (λ qs. IsFile (generated_file seed count) qs.items) }
+    ensures read { IfOk result (λ qs. IsFile (generated_file seed count) qs.items) }
+    ensures limits { IfOk result (λ qs. All (λ q. IsQuestion q.body) qs.items) }
 {
     let bytes = questions_of(alloc, seed, count)?;
     generated_is_file();
