@@ -101,7 +101,7 @@ fn put_new(measures: &mut Vec<Measure>, found: Option<Measure>) -> Result<(), Al
     Ok(())
 }
 
-/// Whether the token number `at` stands right after a number. The measure of such a term isn't taken.
+/// Whether the token number `at` stands right after a number, as in `2H(X)`. Such a measure isn't taken.
 fn is_joined(tokens: &[Token], at: usize) -> bool {
     match tokens.split_at(at.min(tokens.len())) {
         ([.., number], [word, ..]) => {
