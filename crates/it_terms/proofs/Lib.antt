@@ -12,3 +12,4 @@ pub mod SignLemmas
 pub mod RowLemmas
 pub mod PieceLemmas
 pub mod OriginLemmas
+pub mod AtomLemmas

@@ -27,7 +27,9 @@ fn with_atom(term: &Term, atom: Atom) -> Term {
 }
 
 /// `atom` as a term: once, with a plus.
-fn once(atom: Atom) -> Term {
+pub fn once(atom: Atom) -> Term
+    ensures { result ≡ record { negative = false; number = 1; denominator = 1; atom = atom } }
+{
     Term {
         negative: false,
         number: 1,
