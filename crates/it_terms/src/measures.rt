@@ -1,11 +1,12 @@
 //! The entropies and mutual informations that a question's lines have, each as its author spelled it.
 ghost use Rattle.std.specs.Prelude.{◌≤◌, IfOk, length};
+ghost use Rattle.it_space.specs.Spaces.{IsSpace};
 ghost use Rattle.it_syntax.specs.Meaning.{IsAtomOf};
 
 use crate::equations::side_row;
 use crate::reading::LONGEST_TEXT;
 use crate::substituting::once;
-use it_space::Row;
+use it_space::{Row, Space};
 use it_syntax::rest::{Piece, Rest, Stop};
 use it_syntax::types::{Atom, Code, Token, TokenKind};
 use it_syntax::{Names, entropy, line_tokens, mutual_information};
@@ -59,6 +60,25 @@ fn spelling(alloc: Global, rest: Rest<'_>, left: usize) -> Result<Vec<u8>, Alloc
     Ok(spelling)
 }
 
+/// The measure that `atom` is, with this spelling.
+fn measure_of(
+    alloc: Global,
+    atom: Atom,
+    spelling: Vec<u8>,
+    space: Space,
+) -> Result<Measure, AllocError>
+    requires space { IsSpace space }
+    requires within { IsAtomOf space.variables space.rates atom }
+{
+    let term = once(atom);
+    let row = side_row(alloc, &[term], 1, space)?;
+    Ok(Measure {
+        atom,
+        spelling,
+        row,
+    })
+}
+
 /// The measure at the front of `rest`, None where none is read there under these names.
 fn measure_at(alloc: Global, rest: Rest<'_>, names: &Names) -> Result<Option<Measure>, AllocError>
     requires { 1 ≤ length names.now.variables }
@@ -69,12 +89,8 @@ fn measure_at(alloc: Global, rest: Rest<'_>, names: &Names) -> Result<Option<Mea
     match atom(word, &mut after, names) {
         Ok(atom) => {
             let spelling = spelling(alloc, rest, after.tokens.len())?;
-            let row = side_row(alloc, &[once(atom)], 1, names.space())?;
-            Ok(Some(Measure {
-                atom,
-                spelling,
-                row,
-            }))
+            let measure = measure_of(alloc, atom, spelling, names.space())?;
+            Ok(Some(measure))
         }
         Err(Stop::Fault(_)) => Ok(None),
         Err(Stop::Memory) => Err(AllocError),
