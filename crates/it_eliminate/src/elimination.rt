@@ -2,11 +2,11 @@
 ghost use Rattle.std.specs.Prelude.{◌≡◌, ◌+◌, ◌^◌, ◌<◌, All, IfErr, IfOk, [], ◌∷◌};
 ghost use Rattle.it_problems.specs.Problems.{IsSystem};
 ghost use Rattle.it_space.specs.Spaces.{IsSpace};
-ghost use Rattle.it_eliminate.specs.declared.types.Eliminated.TheVariants.{Region};
 ghost use Rattle.it_eliminate.specs.Elimination.{Region as RegionOf, EliminationEnds, ordered_rows};
 ghost use Rattle.it_eliminate.specs.Views.{StopsBy, SystemEnds};
-ghost use Rattle.it_eliminate.specs.Projections.{IsProjection, RegionIsProjection};
+ghost use Rattle.it_eliminate.specs.Projections.{IsProjection, RegionIsProjection, system_of};
 
+use crate::copying::copied_rows;
 use crate::ordered::{ordered_rows, row_list};
 use crate::pairs::next_list;
 use crate::types::{Eliminated, Stop};
@@ -27,8 +27,10 @@ pub fn eliminate(
     ensures ends { IfOk result (SystemEnds system.now rows rates.now) }
     ensures region { IfOk result (RegionIsProjection system.now rates.now) }
 {
-    match system_after(alloc, system, rates, rows) {
-        Ok(region) => Ok(Eliminated::Region(region)),
+    let space = system.space;
+    let own = copied_rows(alloc, system.rows.as_slice())?;
+    match rows_after(alloc, space, own, rates, rows) {
+        Ok(left) => Ok(Eliminated::Region(System { space, rows: left })),
         Err(Stop::Rows { rate }) => Ok(Eliminated::Rows { rate }),
         Err(Stop::Wide { rate }) => Ok(Eliminated::Wide { rate }),
         Err(Stop::Memory) => Err(AllocError),
@@ -45,28 +47,27 @@ pub fn step(alloc: Global, system: &System, rate: u8, rows: usize) -> Result<Eli
     eliminate(alloc, system, [rate].as_slice(), rows)
 }
 
-/// The system that is left after the elimination of `rates`, or why that stops, as `eliminate` has it.
-pub fn system_after(
+/// The rows over `space` that are left of `rows` after the elimination of `rates`, or why that stops, as `eliminate` has it. After a
+/// rate there may be `most` rows.
+pub fn rows_after(
     alloc: Global,
-    system: &System,
+    space: Space,
+    rows: Vec<Row>,
     rates: &[u8],
-    rows: usize,
-) -> Result<System, Stop>
-    requires system { IsSystem system.now }
-    requires rates { All (λ r. r < system.now.space.rates) rates.now }
-    ensures ends { IfOk result (λ s. SystemEnds system.now rows rates.now (Region s)) }
-    ensures region { IfOk result (IsProjection system.now rates.now) }
-    ensures stop { IfErr result (StopsBy (EliminationEnds (2 ^ system.now.space.variables) rows (ordered_rows system.now.rows.items) rates.now)) }
+    most: usize,
+) -> Result<Vec<Row>, Stop>
+    requires system { IsSystem (system_of space rows) }
+    requires rates { All (λ r. r < space.rates) rates.now }
+    ensures ends { IfOk result (λ v. EliminationEnds (2 ^ space.variables) most (ordered_rows rows.items) rates.now (RegionOf v.items)) }
+    ensures region { IfOk result (λ v. IsProjection (system_of space rows) rates.now (system_of space v)) }
+    ensures stop { IfErr result (StopsBy (EliminationEnds (2 ^ space.variables) most (ordered_rows rows.items) rates.now)) }
 {
-    let ordered = ordered_rows(alloc, system.rows.as_slice())?;
+    let ordered = ordered_rows(alloc, rows)?;
     let mut current = row_list(alloc, ordered)?;
     for rate in rates {
-        current = after_rate(alloc, current.as_slice(), system.space, *rate, rows)?;
+        current = after_rate(alloc, current.as_slice(), space, *rate, most)?;
     }
-    Ok(System {
-        space: system.space,
-        rows: current,
-    })
+    Ok(current)
 }
 
 /// The rows in order after the elimination of `rate`, if they are at most `most`.

@@ -58,13 +58,13 @@ pub fn row_list(alloc: Global, rows: IndexSet<Vec<(u32, i128)>>) -> Result<Vec<R
 }
 
 /// `rows` in order, in lowest terms, without zero rows and duplicates.
-pub fn ordered_rows(alloc: Global, rows: &[Row]) -> Result<IndexSet<Vec<(u32, i128)>>, AllocError>
-    ensures rows { IfOk result (λ s. rows_of s.keys ≡ ordered_rows rows.now) }
+pub fn ordered_rows(alloc: Global, rows: Vec<Row>) -> Result<IndexSet<Vec<(u32, i128)>>, AllocError>
+    ensures rows { IfOk result (λ s. rows_of s.keys ≡ ordered_rows rows.items) }
     ensures canonical { IfOk result (λ s. Every IsCanonical (rows_of s.keys)) }
 {
     let mut ordered = IndexSet::new(alloc);
     for row in rows {
-        put_lowest(&mut ordered, row.copy(alloc)?)?;
+        put_lowest(&mut ordered, row)?;
     }
     Ok(ordered)
 }

@@ -181,14 +181,16 @@ IsBrought columns limit rows basis moved old new = (whole : List WholeRowView) (
     → IsUpToDate columns limit whole basis moved r new
 
 -- row r is brought up to date, and all others stay
-pub record IsRowBrought (columns : List Terms) (limit : ℕ) (old : List WholeRowView) (basis : List ℕ) (moved : List Bool) (r : ℕ) (new : List WholeRowView) : Type 0 where
+pub record IsRowBrought (columns : List Terms) (limit : ℕ) (old : List WholeRowView) (basis : List ℕ) (moved : List Bool) (r : ℕ)
+    (new : List WholeRowView) : Type 0 where
   pub same_length : length new ≡ length old
   pub others : (i : ℕ) → i ≢ r → whole_row_at new i ≡ whole_row_at old i
   pub own : IsBrought columns limit old basis moved (whole_row_at old r) (whole_row_at new r)
   pub usable : IsUsable (length old) limit (whole_row_at new r)
 
 -- the first k rows are up to date
-pub record AreBrought (columns : List Terms) (limit : ℕ) (old : List WholeRowView) (basis : List ℕ) (moved : List Bool) (k : ℕ) (new : List WholeRowView) : Type 0 where
+pub record AreBrought (columns : List Terms) (limit : ℕ) (old : List WholeRowView) (basis : List ℕ) (moved : List Bool) (k : ℕ)
+    (new : List WholeRowView) : Type 0 where
   pub same_length : length new ≡ length old
   pub kept : AgreeOnMoved old new moved
   pub rest : (i : ℕ) → k ≤ i → whole_row_at new i ≡ whole_row_at old i
@@ -215,7 +217,8 @@ pub record IsStillChoice (columns : List Terms) (limit : ℕ) (rows : List Whole
   pub leaves : LeavesStill columns limit rows basis moved c r
 
 -- a degenerate step with column c and row r was made, for any tables that the rows show; other rows that stay behind are unchanged
-pub record IsBehindStep (columns : List Terms) (limit : ℕ) (old : List WholeRowView) (basis : List ℕ) (moved : List Bool) (c r : ℕ) (new : List WholeRowView) : Type 0 where
+pub record IsBehindStep (columns : List Terms) (limit : ℕ) (old : List WholeRowView) (basis : List ℕ) (moved : List Bool) (c r : ℕ)
+    (new : List WholeRowView) : Type 0 where
   pub engine : IsSafe columns limit new (slice_set basis r c)
   pub kept : (i : ℕ) → i < length old → i ≢ r → has_moved moved i ≡ false → whole_row_at new i ≡ whole_row_at old i
   pub made : (p : FeasibilityProblem Rational) (b t : SimplexTable Rational) → ShowsBehind p b t columns limit old basis (has_moved moved) → entering_column rationals (length basis) (length columns) t ≡ c
@@ -236,7 +239,8 @@ pub record AreStillSteps (columns : List Terms) (limit : ℕ) (old : List WholeR
       → (s : SimplexTable Rational) × ShowsBehind p b s columns limit new new_basis (has_moved new_moved) × StepsLead (length basis) (length columns) k t s
 
 -- k steps were made, for any table that the engine showed
-pub record AreEngineSteps (columns : List Terms) (limit : ℕ) (old : List WholeRowView) (basis : List ℕ) (k : ℕ) (new : List WholeRowView) (new_basis : List ℕ) : Type 0 where
+pub record AreEngineSteps (columns : List Terms) (limit : ℕ) (old : List WholeRowView) (basis : List ℕ) (k : ℕ) (new : List WholeRowView)
+    (new_basis : List ℕ) : Type 0 where
   pub engine : IsSafe columns limit new new_basis
   pub height : length new_basis ≡ length basis
   pub made : (p : FeasibilityProblem Rational) (t : SimplexTable Rational) → Represents p t columns limit old basis

@@ -17,15 +17,15 @@ use crate::blocks::{
 };
 use crate::bringing::{bring_all, bring_if_behind, shorten_moved};
 use crate::choice::{entering_column, is_above_zero, right_side};
-use crate::giving_up::GaveUp;
 use crate::leaving::{Base, begin_base, combine_columns, first_to_leave};
 use crate::pivots::pivot_moved;
 use crate::shares::{are_short, shares_of_moved};
 use it_vectors::{is_zero, read};
-use it_whole::{Column, WholeRow};
+use it_whole::{Column, GaveUp, WholeRow};
+use std::alloc::AllocError;
 
-/// The row that leaves at a degenerate step in which `column` enters. `None` if the step isn't degenerate, if the numbers of the rows
-/// that stay behind may be too large, or if allocation fails.
+/// The row that leaves at a degenerate step in which `column` enters. `None` if the step isn't degenerate, or if the numbers of the rows
+/// that stay behind may be too large.
 fn still_row(
     block: &Block<'_>,
     run: &Run<'_>,
@@ -33,7 +33,7 @@ fn still_row(
     combined: &mut Column,
     column: usize,
     base: &Base,
-) -> Option<usize>
+) -> Result<Option<usize>, AllocError>
     requires engine { IsSafe run.now.columns.now run.now.limit block.now.rows.now block.now.basis.now }
     requires moved { length block.now.moved.now ≡ length block.now.rows.now }
     requires order { AreMovedInOrder block.now.moved.now (length block.now.basis.now) block.now.order.now }
@@ -44,12 +44,14 @@ fn still_row(
     requires ranked { AreRanked block.now.rows.now block.now.basis.now block.now.moved.now (length block.now.basis.now) base.now.ranked.items }
     requires norm { IsNorm run.now.columns.now run.now.norm }
     ensures entries { length entries.new ≡ length entries.old }
-    ensures within { IfSome result (λ r. r < length block.now.basis.now) }
-    ensures leaves { IfSome result (λ r. LeavesStill run.now.columns.now run.now.limit block.now.rows.now block.now.basis.now block.now.moved.now column r) }
-    ensures noted { IfSome result (λ r. AreMovedEntries (slice_index_or run.now.columns.now column []) block.now.rows.now block.now.moved.now entries.new) }
+    ensures within { IfOk result (λ found. IfSome found (λ r. r < length block.now.basis.now)) }
+    ensures leaves { IfOk result (λ found. IfSome found (LeavesStill run.now.columns.now run.now.limit block.now.rows.now block.now.basis.now block.now.moved.now column)) }
+    ensures noted { IfOk result (λ found. IfSome found (λ r. AreMovedEntries (slice_index_or run.now.columns.now column []) block.now.rows.now block.now.moved.now entries.new)) }
 {
     note_moved_entries(&run.columns[column], block, entries);
-    let shares = shares_of_moved(block, run.norm)?;
+    let Some(shares) = shares_of_moved(block, run.norm) else {
+        return Ok(None);
+    };
     if !are_short(
         base.bound,
         base.bound,
@@ -57,9 +59,9 @@ fn still_row(
         run.norm,
         shares.bound,
     ) {
-        return None;
+        return Ok(None);
     }
-    if !combine_columns(
+    match combine_columns(
         combined,
         run.columns,
         block,
@@ -67,20 +69,21 @@ fn still_row(
         column,
         shares.multiple,
     ) {
-        return None;
+        Ok(()) => Ok(first_to_leave(block, base.ranked.as_slice(), entries, combined)),
+        Err(GaveUp::TooLarge) => Ok(None),
+        Err(GaveUp::Memory) => Err(AllocError),
     }
-    first_to_leave(block, base.ranked.as_slice(), entries, combined)
 }
 
-/// The entering column and the leaving row of the next step, if it is degenerate. `None` otherwise, or if no step is left, if the
-/// numbers of the rows that stay behind may be too large, or if allocation fails.
+/// The entering column and the leaving row of the next step, if it is degenerate. `None` otherwise, or if no step is left, or if the
+/// numbers of the rows that stay behind may be too large.
 fn still_choice(
     block: &Block<'_>,
     run: &Run<'_>,
     entries: &mut [i64],
     combined: &mut Column,
     base: &Base,
-) -> Option<(usize, usize)>
+) -> Result<Option<(usize, usize)>, AllocError>
     requires engine { IsSafe run.now.columns.now run.now.limit block.now.rows.now block.now.basis.now }
     requires moved { length block.now.moved.now ≡ length block.now.rows.now }
     requires order { AreMovedInOrder block.now.moved.now (length block.now.basis.now) block.now.order.now }
@@ -90,16 +93,20 @@ fn still_choice(
     requires ranked { AreRanked block.now.rows.now block.now.basis.now block.now.moved.now (length block.now.basis.now) base.now.ranked.items }
     requires norm { IsNorm run.now.columns.now run.now.norm }
     ensures entries { length entries.new ≡ length entries.old }
-    ensures choice { IfSome result (λ x. IsStillChoice run.now.columns.now run.now.limit block.now.rows.now block.now.basis.now block.now.moved.now x.0 x.1) }
-    ensures noted { IfSome result (λ x. AreMovedEntries (slice_index_or run.now.columns.now x.0 []) block.now.rows.now block.now.moved.now entries.new) }
+    ensures choice { IfOk result (λ found. IfSome found (λ x. IsStillChoice run.now.columns.now run.now.limit block.now.rows.now block.now.basis.now block.now.moved.now x.0 x.1)) }
+    ensures noted { IfOk result (λ found. IfSome found (λ x. AreMovedEntries (slice_index_or run.now.columns.now x.0 []) block.now.rows.now block.now.moved.now entries.new)) }
 {
     let last = block.basis.len();
     if is_zero(right_side(block.rows, last, last)) {
-        return None;
+        return Ok(None);
     }
-    let column = entering_column(run.columns, &block.rows[last])?;
-    let row = still_row(block, run, entries, combined, column, base)?;
-    Some((column, row))
+    let Some(column) = entering_column(run.columns, &block.rows[last]) else {
+        return Ok(None);
+    };
+    let Some(row) = still_row(block, run, entries, combined, column, base)? else {
+        return Ok(None);
+    };
+    Ok(Some((column, row)))
 }
 
 /// Makes `column` basic in `row`, which leaves at a degenerate step and is brought up to date first. If it gives up, nothing is known of
@@ -187,13 +194,14 @@ fn still_steps(
             moved: notes.moved.as_slice(),
             order: notes.order.as_slice(),
         };
-        let Some((column, row)) = still_choice(
+        let found = still_choice(
             &block,
             run,
             notes.entries.as_mut_slice(),
             &mut notes.combined,
             &base,
-        ) else {
+        )?;
+        let Some((column, row)) = found else {
             return Ok(k);
         };
         make_step(rows, basis, notes, run, column, row)?;

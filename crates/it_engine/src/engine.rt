@@ -12,11 +12,10 @@ ghost use Rattle.it_vectors.specs.Sizes.{AreAtMost};
 use crate::behind::make_steps;
 use crate::blocks::{Notes, Run};
 use crate::choice::entering_column;
-use crate::giving_up::GaveUp;
 use crate::loading::norm;
 use crate::pivots::enter;
 use it_vectors::is_zero;
-use it_whole::{Column, WholeRow};
+use it_whole::{Column, GaveUp, WholeRow};
 use std::alloc::{AllocError, Global};
 use std::marker::Model;
 

@@ -1,5 +1,5 @@
 //! The leaving row of a degenerate step.
-ghost use Rattle.std.specs.Prelude.{◌≡◌, ◌+◌, ◌<◌, ◌≤◌, ◌*ℤ◌, neg_ℤ, ℕ, pos, Bool, List, [], length, false, slice_index_or, IfOk};
+ghost use Rattle.std.specs.Prelude.{◌≡◌, ◌+◌, ◌<◌, ◌≤◌, ◌*ℤ◌, neg_ℤ, ℕ, pos, Bool, List, [], length, false, slice_index_or, IfOk, OnOk};
 ghost use Rattle.std.specs.Bool.{OnFalse, OnTrue};
 ghost use Rattle.std.specs.Option.{IfSome};
 ghost use Rattle.it_engine.specs.Behind.{AreBaseBounds, AreMovedInOrder, AreRanked, AreStillRows, column_behind, ComesBefore, has_moved, HasZeroRatio, HaveEntered, IsFirstOf, MayLeave, SuitsBehind, TakesRow};
@@ -15,7 +15,7 @@ use crate::blocks::{
 use crate::choice::{is_above_zero, right_side};
 use crate::shares::share_at;
 use it_vectors::{is_zero, narrow, product, read};
-use it_whole::{Column, WholeRow};
+use it_whole::{Column, GaveUp, WholeRow};
 use std::alloc::{AllocError, Global};
 
 /// The largest number of the engine, 2^63 - 1.
@@ -122,8 +122,7 @@ pub fn begin_base(
     Ok(Base { bound, ranked })
 }
 
-/// Subtracts from the combined column the basic column of row `q`, which moved, times the row's entry and its share of `multiple`;
-/// `false` if a number is too large or allocation fails.
+/// Subtracts from the combined column the basic column of row `q`, which moved, times the row's entry and its share of `multiple`.
 fn less_moved(
     combined: &mut Column,
     columns: &[Column],
@@ -131,21 +130,21 @@ fn less_moved(
     entries: &[i64],
     q: usize,
     multiple: u64,
-) -> bool
+) -> Result<(), GaveUp>
     requires rows { q < length block.now.rows.now }
     requires basis { q < length block.now.basis.now }
     requires entered { slice_index_or block.now.basis.now q 0 < length columns.now }
     requires entries { q < length entries.now }
     requires some { 0 < (whole_row_at block.now.rows.now q).denominator }
     requires low { multiple < signed_limit }
-    ensures { OnTrue result (TakesRow columns.now block.now.rows.now block.now.basis.now entries.now multiple q combined.old combined.new) }
+    ensures { OnOk result (TakesRow columns.now block.now.rows.now block.now.basis.now entries.now multiple q combined.old combined.new) }
 {
     let entry = read(entries, q);
     if is_zero(entry) {
-        return true;
+        return Ok(());
     }
     let Some(taken) = taken_times(entry, share_at(block.rows, q, multiple)) else {
-        return false;
+        return Err(GaveUp::TooLarge);
     };
     combined.add_multiple(basic_column(columns, block.basis, q), taken)
 }
@@ -159,18 +158,23 @@ fn taken_times(entry: i64, share: u64) -> Option<i64>
     Some(-taken)
 }
 
-/// Sets the combined column to `multiple` times `column`, which enters; `false` if a number is too large or allocation fails.
-fn begin_combined(combined: &mut Column, columns: &[Column], column: usize, multiple: u64) -> bool
+/// Sets the combined column to `multiple` times `column`, which enters.
+fn begin_combined(
+    combined: &mut Column,
+    columns: &[Column],
+    column: usize,
+    multiple: u64,
+) -> Result<(), GaveUp>
     requires column { column < length columns.now }
     requires low { multiple < signed_limit }
-    ensures { OnTrue result (combined.new ≡ multiple_of_terms (pos multiple) (slice_index_or columns.now column [])) }
+    ensures { OnOk result (combined.new ≡ multiple_of_terms (pos multiple) (slice_index_or columns.now column [])) }
 {
     combined.clear();
     combined.add_multiple(&columns[column], multiple as i64)
 }
 
 /// Sets the combined column to the one at which a row that stays behind has `multiple` times the number that it would have at `column`
-/// if it were up to date; `false` if a number is too large or allocation fails.
+/// if it were up to date.
 pub fn combine_columns(
     combined: &mut Column,
     columns: &[Column],
@@ -178,7 +182,7 @@ pub fn combine_columns(
     entries: &[i64],
     column: usize,
     multiple: u64,
-) -> bool
+) -> Result<(), GaveUp>
     requires column { column < length columns.now }
     requires rows { length block.now.basis.now ≤ length block.now.rows.now }
     requires order { AreMovedInOrder block.now.moved.now (length block.now.basis.now) block.now.order.now }
@@ -186,18 +190,14 @@ pub fn combine_columns(
     requires entries { length block.now.basis.now ≤ length entries.now }
     requires some { (i : ℕ) → i < length block.now.rows.now → 0 < (whole_row_at block.now.rows.now i).denominator }
     requires low { multiple < signed_limit }
-    ensures { OnTrue result (combined.new ≡ column_behind columns.now block.now.rows.now block.now.basis.now block.now.moved.now entries.now multiple column) }
+    ensures { OnOk result (combined.new ≡ column_behind columns.now block.now.rows.now block.now.basis.now block.now.moved.now entries.now multiple column) }
 {
-    if !begin_combined(combined, columns, column, multiple) {
-        return false;
-    }
+    begin_combined(combined, columns, column, multiple)?;
     for k in 0..block.order.len() {
         let q = row_at(block.order, k);
-        if !less_moved(combined, columns, block, entries, q, multiple) {
-            return false;
-        }
+        less_moved(combined, columns, block, entries, q, multiple)?;
     }
-    true
+    Ok(())
 }
 
 /// Whether there is a `best` row so far, and its basic column isn't above that of row `i`.

@@ -12,7 +12,6 @@ mod blocks;
 mod bringing;
 mod choice;
 mod engine;
-mod giving_up;
 mod leaving;
 mod loading;
 mod pivots;

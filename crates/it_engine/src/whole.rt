@@ -6,13 +6,12 @@ ghost use Rattle.it_engine.specs.Engine.{IsSafe, RepresentsSome};
 ghost use Rattle.it_engine.specs.Ends.{AnswersFrom, IsStart};
 
 use crate::engine::{Engine, EngineEnd};
-use crate::giving_up::GaveUp;
 use crate::loading::{columns, norm, rows};
 use crate::reading::{point, weights};
 use it_run::Solved;
 use it_space::Row;
 use it_tableau::{artificials, ascends};
-use it_whole::Column;
+use it_whole::{Column, GaveUp};
 use std::alloc::{AllocError, Global};
 
 /// The largest number of the engine, 2^63 - 1.

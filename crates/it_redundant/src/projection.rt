@@ -1,6 +1,7 @@
 //! Reduced elimination.
 ghost use Rattle.std.specs.Prelude.{◌≡◌, ◌<◌, ◌≤◌, [], length, map, All, IfErr, IfOk};
 ghost use Rattle.it_space.specs.Spaces.{size_of};
+ghost use Rattle.it_eliminate.specs.Projections.{system_of};
 ghost use Rattle.it_redundant.specs.ProjectionSteps.{IsAfterRate, StopsBy, region_view};
 ghost use Rattle.it_redundant.specs.Reduction.{IsSystemUnder, kept_rows, kept_view};
 ghost use Rattle.it_redundant.specs.ReducedElimination.{ReducedEnds, projected_view};
@@ -9,7 +10,7 @@ ghost use Rattle.it_space.specs.Rows.{IsOver, most_system_rows};
 
 use crate::reduction::reduce;
 use crate::types::{Projected, Reduced};
-use it_eliminate::{Stop, system_after};
+use it_eliminate::{Stop, copied_rows, rows_after};
 use it_problems::{Problem, System};
 use it_prove::Effort;
 use it_space::{Row, Space};
@@ -57,7 +58,8 @@ fn reduced_elimination(
     ensures region { IfOk result (λ r. ReducedEnds givens.now effort rows system.now.rows.items [] [] rates.now (region_view r)) }
     ensures stop { IfErr result (StopsBy (ReducedEnds givens.now effort rows system.now.rows.items [] [] rates.now)) }
 {
-    let mut reduced = after_rate(alloc, system, rates[0], givens, rows, effort)?;
+    let first = copied_rows(alloc, system.rows.as_slice())?;
+    let mut reduced = after_rate(alloc, first, rates[0], givens, rows, effort)?;
     for i in 1..rates.len() {
         reduced = after_next(alloc, reduced, rates[i], givens, rows, effort)?;
     }
@@ -82,11 +84,8 @@ fn after_next(
     ensures rows { IfOk result (λ r. All (IsOver (size_of givens.now.space)) (kept_rows (kept_view r))) }
 {
     givens.facts();
-    let system = System {
-        space: givens.space(),
-        rows: into_kept_rows(alloc, before)?,
-    };
-    let reduced = after_rate(alloc, &system, rate, givens, rows, effort)?;
+    let kept = into_kept_rows(alloc, before)?;
+    let reduced = after_rate(alloc, kept, rate, givens, rows, effort)?;
     Ok(reduced)
 }
 
@@ -113,23 +112,24 @@ pub fn kept_system(alloc: Global, space: Space, reduced: &Reduced) -> Result<Sys
     Ok(System { space, rows })
 }
 
-/// The reduction after the elimination of `rate` from `system`.
+/// The reduction after the elimination of `rate` from `rows`, which may leave at most `most` rows.
 fn after_rate(
     alloc: Global,
-    system: &System,
+    rows: Vec<Row>,
     rate: u8,
     givens: &Problem,
-    rows: usize,
+    most: usize,
     effort: Effort,
 ) -> Result<Reduced, Stop>
-    requires system { IsSystemUnder givens.now system.now }
-    requires rate { rate < system.now.space.rates }
-    requires few_rows { rows ≤ most_system_rows }
-    ensures after { IfOk result (λ r. IsAfterRate givens.now effort rows system.now.rows.items rate (region_view r)) }
-    ensures stop { IfErr result (StopsBy (IsAfterRate givens.now effort rows system.now.rows.items rate)) }
+    requires givens { IsSystemUnder givens.now (system_of givens.now.space rows) }
+    requires rate { rate < givens.now.space.rates }
+    requires few_rows { most ≤ most_system_rows }
+    ensures after { IfOk result (λ r. IsAfterRate givens.now effort most rows.items rate (region_view r)) }
+    ensures stop { IfErr result (StopsBy (IsAfterRate givens.now effort most rows.items rate)) }
     ensures rows { IfOk result (λ r. All (IsOver (size_of givens.now.space)) (kept_rows (kept_view r))) }
 {
-    let next = system_after(alloc, system, [rate].as_slice(), rows)?;
-    let reduced = reduce(alloc, &next, givens, effort)?;
+    let space = givens.space();
+    let left = rows_after(alloc, space, rows, [rate].as_slice(), most)?;
+    let reduced = reduce(alloc, &System { space, rows: left }, givens, effort)?;
     Ok(reduced)
 }

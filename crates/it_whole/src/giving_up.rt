@@ -1,7 +1,7 @@
-//! Why a run is given up.
+//! Why a run, or an operation of it, is given up.
 use std::alloc::{AllocError, AllocFailed};
 
-/// Why a run was given up. Only a number that is too large is a reason to try again with larger ones.
+/// Why a run, or an operation of it, was given up. Only a number that is too large is a reason to try again with larger ones.
 #[derive(Drop, Clone, Copy)]
 pub enum GaveUp {
     /// Allocation failed.
@@ -12,7 +12,7 @@ pub enum GaveUp {
 
 impl From<AllocError> for GaveUp {
     ghost use Rattle.std.specs.Prelude.{◌≡◌};
-    ghost use Rattle.it_engine.specs.declared.giving_up.GaveUp.TheVariants.{Memory};
+    ghost use Rattle.it_whole.specs.declared.giving_up.GaveUp.TheVariants.{Memory};
 
     ghost from_gives = { λ _ e. e ≡ Memory };
 
@@ -23,7 +23,7 @@ impl From<AllocError> for GaveUp {
 
 impl<T: Drop> From<AllocFailed<T>> for GaveUp {
     ghost use Rattle.std.specs.Prelude.{◌≡◌};
-    ghost use Rattle.it_engine.specs.declared.giving_up.GaveUp.TheVariants.{Memory};
+    ghost use Rattle.it_whole.specs.declared.giving_up.GaveUp.TheVariants.{Memory};
 
     ghost from_gives = { λ _ e. e ≡ Memory };
 
