@@ -60,20 +60,27 @@ fn spelling(alloc: Global, rest: Rest<'_>, left: usize) -> Result<Vec<u8>, Alloc
     Ok(spelling)
 }
 
+/// The row of `atom`.
+fn atom_row(alloc: Global, atom: Atom, space: Space) -> Result<Row, AllocError>
+    requires space { IsSpace space }
+    requires within { IsAtomOf space.variables space.rates atom }
+{
+    side_row(alloc, &[once(atom)], 1, space)
+}
+
 /// The measure that `atom` is, with this spelling.
 fn measure_of(
     alloc: Global,
-    atom: Atom,
+    atom: &Atom,
     spelling: Vec<u8>,
     space: Space,
 ) -> Result<Measure, AllocError>
     requires space { IsSpace space }
-    requires within { IsAtomOf space.variables space.rates atom }
+    requires within { IsAtomOf space.variables space.rates atom.now }
 {
-    let term = once(atom);
-    let row = side_row(alloc, &[term], 1, space)?;
+    let row = atom_row(alloc, *atom, space)?;
     Ok(Measure {
-        atom,
+        atom: *atom,
         spelling,
         row,
     })
@@ -89,7 +96,7 @@ fn measure_at(alloc: Global, rest: Rest<'_>, names: &Names) -> Result<Option<Mea
     match atom(word, &mut after, names) {
         Ok(atom) => {
             let spelling = spelling(alloc, rest, after.tokens.len())?;
-            let measure = measure_of(alloc, atom, spelling, names.space())?;
+            let measure = measure_of(alloc, &atom, spelling, names.space())?;
             Ok(Some(measure))
         }
         Err(Stop::Fault(_)) => Ok(None),
