@@ -1,6 +1,6 @@
 //! The lines of a containment's second region with sets substituted for its auxiliary variables. They are judged by their
 //! texts, so no clause says it here.
-ghost use Rattle.std.specs.Prelude.{◌≡◌};
+ghost use Rattle.std.specs.Prelude.{◌≡◌, false};
 
 use crate::constraints::{item_of, link, union_of};
 use crate::untold::Untold;
