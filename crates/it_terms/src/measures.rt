@@ -147,13 +147,14 @@ fn put_measures(
         return Ok(());
     }
     let found = line_tokens(alloc, line)?;
+    let tokens = found.tokens.as_slice();
     let mut rest = Rest {
         line,
-        tokens: found.tokens.as_slice(),
+        tokens,
         misspelling: found.misspelling,
     };
-    for at in 0..found.tokens.len() {
-        if !is_joined(found.tokens.as_slice(), at) {
+    for at in 0..tokens.len() {
+        if !is_joined(tokens, at) {
             let measure = measure_at(alloc, rest, names)?;
             put_new(measures, measure)?;
         }
