@@ -134,6 +134,27 @@ fn is_joined(tokens: &[Token], at: usize) -> bool {
     }
 }
 
+/// Appends the measures of the tokens of `rest` that are read under `names`, in order, unless they are there already.
+fn put_read(
+    alloc: Global,
+    measures: &mut Vec<Measure>,
+    rest: Rest<'_>,
+    names: &Names,
+) -> Result<(), AllocError>
+    requires { 1 ≤ length names.now.variables }
+{
+    let tokens = rest.tokens;
+    let mut unread = rest;
+    for at in 0..tokens.len() {
+        if !is_joined(tokens, at) {
+            let measure = measure_at(alloc, unread, names)?;
+            put_new(measures, measure)?;
+        }
+        unread = unread.front().1;
+    }
+    Ok(())
+}
+
 /// Appends the measures of `line` that are read under `names`, in the line's order, unless they are there already.
 fn put_measures(
     alloc: Global,
@@ -147,20 +168,12 @@ fn put_measures(
         return Ok(());
     }
     let found = line_tokens(alloc, line)?;
-    let tokens = found.tokens.as_slice();
-    let mut rest = Rest {
+    let rest = Rest {
         line,
-        tokens,
+        tokens: found.tokens.as_slice(),
         misspelling: found.misspelling,
     };
-    for at in 0..tokens.len() {
-        if !is_joined(tokens, at) {
-            let measure = measure_at(alloc, rest, names)?;
-            put_new(measures, measure)?;
-        }
-        rest = rest.front().1;
-    }
-    Ok(())
+    put_read(alloc, measures, rest, names)
 }
 
 /// The measures of a question's lines that are read under these names, each once, in order.
