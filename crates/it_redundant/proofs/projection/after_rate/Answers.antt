@@ -19,8 +19,8 @@ returns-in_err-left-clause-stop c =
     search (rules, stops)
 
 pub returns-clause-rows : goal.returns-clause-rows
-returns-clause-rows c = region_up c.args.givens.now c.args.effort c.args.most (system_of c.space-space.result c.args.rows) c.args.rate c.space-space.ensures.value
-    (system_of c.space-space.result c.in_ok-left.left) c.in_ok-reduced.reduced
+returns-clause-rows c = region_up c.args.givens.now c.args.effort c.args.most (system_of c.space-space.result c.args.rows) c.args.rate
+    c.space-space.ensures.value (system_of c.space-space.result c.in_ok-left.left) c.in_ok-reduced.reduced
     (subst (λ (rates : List ℕ). EliminationEnds (2 ^ c.space-space.result.variables) c.args.most (ordered_rows c.args.rows.items) rates
     (Region c.in_ok-left.left.items)) c.as_slice.ensures c.in_ok-left.ensures.ends)
     c.in_ok-reduced.ensures.reduces
