@@ -1,6 +1,6 @@
 -- The counts of mode `bench`.
 use Rattle.std.proofs.Common.{◌≡◌, ℕ, zero, suc, ◌+◌, ◌<◌, ◌≤◌, List, [], ◌∷◌, ◌++◌, length, map, drop, get_or, All, refl, sym, ap, subst, ◌∙◌, arith, false}
-use Rattle.std.proofs.lemmas.List.{drop_more, length-map, get_or-map}
+use Rattle.std.proofs.lemmas.List.{drop_more, get_or-map}
 use Rattle.std.proofs.lemmas.List.Elements.{All-head, All-tail}
 use Rattle.it_space.specs.declared.answers.Answer.{Answer}
 use Rattle.it_space.specs.Answers.{AnswerView, answer_view}
@@ -61,7 +61,7 @@ counting_more budgets plans plans_now plans_next qs i r counts answer c h e a = 
     reply_is_right = subst (λ (ps : List Plan). IsRightAnswer budgets ps r.body reply) c.learned a.right
 
     question_is_first : drop i qs ≡ r ∷ drop (i + 1) qs
-    question_is_first = drop_more qs i r (simp length-map h)
+    question_is_first = drop_more qs i r h
         ∙ ap (λ y. y ∷ drop (i + 1) qs) (sym e)
 
 nothing_left : (i : ℕ) (qs : List QuestionView) → length qs ≤ i → drop i qs ≡ []

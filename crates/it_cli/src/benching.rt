@@ -81,6 +81,7 @@ fn counts_of(
     questions: &[Question],
     boxes: &mut Vec<Box<dyn Proposer>>,
 ) -> Result<Counts, AllocError>
+    requires limits { All (λ q. IsQuestion q.body) questions.now }
     ensures { IfOk result (λ counts. AreCounted budgets (map plan boxes.old.items) [] no_counts questions.now counts) }
 {
     let mut counts = Counts::new();

@@ -1,5 +1,4 @@
 use Rattle.std.proofs.Common.{arith, ap, inr, refl, ◌∙◌}
-use Rattle.std.proofs.lemmas.List.{length-map}
 use Rattle.it_outside.specs.Causes.{next_count}
 use Rattle.it_question.specs.AsciiTexts.{IsAsciiQuestion}
 use Rattle.it_cli.proofs.RightLemmas.{all_answered, answers_more, answers_stop, first_answered, none_answered}
@@ -40,5 +39,5 @@ pub returns : goal.returns
 returns g c bytes asked = (
   c.loop-i.invariant.1,
   all_answered c.args.budgets _ _ c.args.format _ _ bytes _ c.loop-i.i asked
-      c.loop-i.invariant.0 (simp length-map (omega arith)),
+      c.loop-i.invariant.0 (omega arith),
 )

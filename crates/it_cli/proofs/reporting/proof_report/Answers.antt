@@ -6,7 +6,7 @@ use Rattle.it_cli.proofs.reporting.proof_report.Goals as goal
 pub report_json-requires : goal.report_json-requires
 report_json-requires c =
     right_is_writable (record { effort = c.args.effort; rows = 1; tries = 1 }) _
-    c.args.question.now.body c.args.question.now.body.names (answer_view c.in_ok-answered.answered.answer)
+    c.args.question.now.body c.names.result.now (answer_view c.in_ok-answered.answered.answer)
     c.in_ok-answered.ensures.answered.found c.requires.proof c.in_ok-answered.ensures.answered.right
 
 pub returns : goal.returns
@@ -15,5 +15,5 @@ returns c = record {
   right = right_alone (record { effort = c.args.effort; rows = 1; tries = 1 }) _ c.args.question.now.body
       (answer_view c.in_ok-answered.answered.answer) c.in_ok-answered.ensures.answered.found c.requires.proof
       c.in_ok-answered.ensures.answered.right;
-  is = c.in_ok-extend_from_slice.ensures.items ∙ ap (λ ys. ys ++ codes "\n") c.in_ok-line.ensures;
+  is = c.in_ok-extend_from_slice.ensures.items ∙ ap (λ ys. ys ++ codes "\n") (rw c.names.ensures.value at c.in_ok-line.ensures);
 }
