@@ -301,12 +301,12 @@ pub fn write_proof(
 }
 
 /// Appends the lines of each proof of a row, in order.
-pub fn write_proofs(
+pub fn write_proofs<'a>(
     alloc: Global,
     out: &mut Vec<u8>,
     asked: &Asked<'_>,
-    rows: &[Row],
-    proofs: &[Certificate],
+    rows: &'a [Row],
+    proofs: &'a [Certificate],
 ) -> Result<(), AllocError>
     requires origins { origins_of asked.now.constraints.now ≡ question_origins asked.now.question.now.body }
     requires there { AreListed (variable_count asked.now.question.now.body) (length asked.now.constraints.now) proofs.now }
