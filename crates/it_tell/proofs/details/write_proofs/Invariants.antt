@@ -4,4 +4,4 @@ use Rattle.it_tell.proofs.ProofLemmas.{ProofsAppended}
 use Rattle.it_tell.proofs.details.write_proofs.Given as goal
 
 abbrev pub invariant-loop-i : goal.invariant-loop-i
-invariant-loop-i l = ProofsAppended l.asked.question.body l.asked.options l.rows (map certificate_view l.proofs) l.initial.out.items l.out.items l.i
+invariant-loop-i l = ProofsAppended l.asked.question.now.body l.asked.options l.rows (map certificate_view l.proofs) l.initial.out.items l.out.items l.i
