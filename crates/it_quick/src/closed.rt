@@ -1,16 +1,15 @@
 //! The linear program about a target, over closed sets.
 
-use crate::closures::{Closures, Companions};
-use crate::covers::{SetPair, cover_pairs};
+use crate::closures::{Closures, Companions, with, without};
 use crate::places::Places;
 use crate::programs::{Column, Entry, Inequality, Program};
 use crate::resuming::resumed;
 use crate::rows::InverseRow;
 use crate::running::{End, State};
 use it_closure::Dependences;
-use it_elemental::count;
+use it_elemental::{Elemental, count, parts};
 use it_problems::{Constraint, Kind, Problem};
-use it_space::Row;
+use it_space::{Row, VarSet};
 use std::alloc::{AllocError, Global};
 
 /// The cost of the column of a constraint, and the number of which the costs of inequalities are multiples, both up to a few bits.
@@ -39,18 +38,41 @@ fn small(number: i128) -> Option<i32> {
     }
 }
 
-/// The column of the inequality of `pair`. The later the given set, the more it costs: so costs differ much. `column` is its number, by
-/// which few columns have equal costs.
-fn inequality(closures: &Closures, places: &Places, pair: &SetPair, column: usize) -> Inequality {
-    let below = places.of_set(pair.below);
-    let cost = INEQUALITY_COST.wrapping_mul(i64::from(below.max(1)));
-    Inequality {
-        left: places.of_set(pair.left),
-        right: places.of_set(pair.right),
-        join: places.of_set(closures.of(pair.left.union(pair.right))),
-        below,
-        cost: cost.wrapping_add(mixed(column)),
+/// The column of an inequality over closed sets. `None` if it is 0, or that of another inequality: for I(X;Y|K) one set K for each
+/// closure is enough. The later the given set, the more the column costs: so costs differ much, and few columns have equal costs.
+fn inequality(
+    closures: &Closures,
+    places: &Places,
+    elemental: Elemental,
+    generator: u32,
+) -> Option<Inequality> {
+    let (plus, other_plus, minus, other_minus, given) = match elemental {
+        Elemental::Conditional { of } => {
+            let full = closures.full();
+            let rest = places.of_set(without(full, of));
+            (places.of_set(full), 0, rest, 0, rest)
+        }
+        Elemental::Mutual { left, right, given } => {
+            if !closures.is_closed(given) {
+                return None;
+            }
+            let place = places.of_set(given);
+            let both = places.of_set(with(with(given, left), right));
+            let one = places.of_set(with(given, left));
+            (one, places.of_set(with(given, right)), both, place, place)
+        }
+    };
+    if plus == minus && other_plus == other_minus {
+        return None;
     }
+    Some(Inequality {
+        plus,
+        other_plus,
+        minus,
+        other_minus,
+        cost: INEQUALITY_COST.wrapping_mul(i64::from(given.max(1))),
+        generator,
+    })
 }
 
 /// The entries of `row` at its places. `None` if a number is large.
@@ -111,7 +133,7 @@ impl ClosedProgram {
             last: None,
             before: Vec::new(alloc),
         };
-        closed.push_inequalities(alloc)?;
+        closed.push_inequalities(dependences)?;
         Ok(closed)
     }
 
@@ -121,12 +143,14 @@ impl ClosedProgram {
     }
 
     /// Appends the columns of the inequalities.
-    fn push_inequalities(&mut self, alloc: Global) -> Result<(), AllocError> {
-        let pairs = cover_pairs(alloc, &self.closures, self.places.sets())?;
-        for pair in pairs.as_slice() {
-            let column = self.program.inequalities.len();
-            let inequality = inequality(&self.closures, &self.places, pair, column);
-            self.program.inequalities.push(inequality)?;
+    fn push_inequalities(&mut self, dependences: &Dependences) -> Result<(), AllocError> {
+        let n = dependences.space().variables;
+        for generator in 0..count(n) {
+            let column = inequality(&self.closures, &self.places, parts(n, generator), generator);
+            if let Some(mut column) = column {
+                column.cost = column.cost.wrapping_add(mixed(self.program.columns()));
+                self.program.inequalities.push(column)?;
+            }
         }
         Ok(())
     }

@@ -18,12 +18,17 @@ use std::alloc::{AllocError, Global};
 fn first_variables(n: u8) -> VarSet
     requires { n ≤ most_variables }
 {
-    VarSet::from_number(((1u32 << n) - 1) as u16)
+    VarSet::from_number((1u16 << n) - 1)
 }
 
 /// `set` with variable `i`.
 pub fn with(set: VarSet, i: u8) -> VarSet {
     set.union(VarSet::from_number(1u16.wrapping_shl(u32::from(i))))
+}
+
+/// `set` without variable `i`.
+pub fn without(set: VarSet, i: u8) -> VarSet {
+    set.minus(VarSet::from_number(1u16.wrapping_shl(u32::from(i))))
 }
 
 /// For each variable its companions: those that are in every set that it is in.
@@ -118,7 +123,6 @@ fn closure(dependences: &Dependences, companions: &Companions, set: VarSet) -> V
 /// The closure of each set, by its number.
 #[derive(Drop)]
 pub struct Closures {
-    variables: u8,
     sets: Vec<VarSet>,
 }
 
@@ -129,13 +133,12 @@ impl Closures {
         dependences: &Dependences,
         companions: &Companions,
     ) -> Result<Closures, AllocError> {
-        let variables = dependences.space().variables;
-        let mut sets = Vec::with_capacity(alloc, 1usize << variables)?;
-        for number in 0..1u32 << variables {
-            let set = VarSet::from_number(number as u16);
-            sets.push(closure(dependences, companions, set))?;
+        let count = 1u16 << dependences.space().variables;
+        let mut sets = Vec::with_capacity(alloc, usize::from(count))?;
+        for number in 0..count {
+            sets.push(closure(dependences, companions, VarSet::from_number(number)))?;
         }
-        Ok(Closures { variables, sets })
+        Ok(Closures { sets })
     }
 
     /// The closure of `set`.
@@ -153,8 +156,11 @@ impl Closures {
         self.sets.len()
     }
 
-    /// The number of variables.
-    pub fn variables(&self) -> u8 {
-        self.variables
+    /// The set of all variables: the closure of the last set.
+    pub fn full(&self) -> VarSet {
+        match self.sets.last() {
+            Some(set) => *set,
+            None => VarSet::empty(),
+        }
     }
 }

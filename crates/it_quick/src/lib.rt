@@ -1,8 +1,8 @@
 //! A quick run about a target: it proposes a certificate of the target or a point that refutes it. Nothing is promised of a proposal
 //! but its shape, so the caller has to check it.
 //!
-//! The columns of its linear program are the constraints and those elemental inequalities that suffice, over the sets that are closed
-//! under the problem's functional dependences and those that its rows imply; the right side is the target. The run is that of the dual simplex
+//! The columns of its linear program are the elemental inequalities and the constraints, over the sets that are closed under the
+//! problem's functional dependences and those that its rows imply; the right side is the target. The run is that of the dual simplex
 //! method (C. E. Lemke, "The dual method of solving the linear programming problem", 1954). It begins with a basis of artificial
 //! columns, which never enter again once they have left, so that a row that stays 0 takes no step. The leaving row is that of the
 //! steepest edge (J. J. Forrest and D. Goldfarb, "Steepest-edge simplex algorithms for linear programming", 1992). The numbers are
@@ -12,7 +12,6 @@
 
 mod closed;
 mod closures;
-mod covers;
 mod lifting;
 mod numbers;
 mod places;

@@ -1,19 +1,20 @@
 //! From weights of columns over closed sets to a certificate over all sets.
 //!
-//! The column of closed sets A, B and K is I(A;B|A∩B) plus h(A∩B) - h(K): a sum of elemental inequalities over all sets.
+//! A column of I(X;Y|K) over closed sets A, B and C is I(A;B|A∩B) plus h(A∩B) - h(C): a sum of elemental inequalities over all sets.
 //! The excess that is left at a set is then moved to its closure by the dependences.
 ghost use Rattle.std.specs.Prelude.{◌≡◌, ◌<◌, ◌≤◌, ◌^◌, bit_and};
 ghost use Rattle.std.specs.Bool.{OnTrue};
 ghost use Rattle.it_space.specs.Spaces.{most_variables};
 
 use crate::closed::ClosedProgram;
-use crate::covers::SetPair;
+use crate::closures::{Closures, with, without};
 use crate::numbers::at;
-use crate::places::Places;
-use crate::programs::{Column, Inequality};
+use crate::programs::Column;
 use crate::running::ColumnWeight;
 use it_closure::{Dependence, Dependences, first_open};
-use it_elemental::{count, expand_conditional, expand_mutual, generator_count, row};
+use it_elemental::{
+    Elemental, count, expand_conditional, expand_mutual, generator_count, parts, row,
+};
 use it_fraction::Wide;
 use it_problems::Problem;
 use it_space::{Certificate, Row, RowFault, VarSet, with_product};
@@ -25,7 +26,7 @@ fn is_below(n: u8, set: VarSet) -> bool
     requires { n ≤ most_variables }
     ensures { OnTrue result (set < 2 ^ n) }
 {
-    u32::from(set.number()) < 1u32 << n
+    set.number() < 1u16 << n
 }
 
 /// Whether two sets have no variable in common.
@@ -120,6 +121,14 @@ fn add_rise(
     Ok(())
 }
 
+/// Two sets, and a set `below` that lies in both.
+#[derive(Clone, Copy, Drop)]
+struct SetPair {
+    left: VarSet,
+    right: VarSet,
+    below: VarSet,
+}
+
 /// Adds `amount` times h(left) + h(right) - h(left∪right) - h(below) to the weights.
 fn add_pair(
     alloc: Global,
@@ -139,19 +148,39 @@ fn add_pair(
     add_rise(alloc, weights, n, pair.below, both, amount)
 }
 
+/// Adds `amount` times an inequality over closed sets.
+fn add_inequality(
+    alloc: Global,
+    weights: &mut Totals,
+    n: u8,
+    closures: &Closures,
+    elemental: Elemental,
+    amount: i128,
+) -> Result<(), RowFault>
+    requires some { 1 ≤ n }
+    requires few { n ≤ most_variables }
+{
+    match elemental {
+        Elemental::Conditional { of } => {
+            let full = closures.full();
+            let rest = closures.of(without(full, of));
+            add_rise(alloc, weights, n, rest, full, amount)
+        }
+        Elemental::Mutual { left, right, given } => {
+            let pair = SetPair {
+                left: closures.of(with(given, left)),
+                right: closures.of(with(given, right)),
+                below: closures.of(given),
+            };
+            add_pair(alloc, weights, n, pair, amount)
+        }
+    }
+}
+
 /// Adds `amount` times the column of a constraint.
 fn add_constraint(weights: &mut Totals, column: &Column, amount: i128) -> Result<(), Wide> {
     let sign = if column.negated { -1 } else { 1 };
     weights.add(column.generator as usize, amount, sign)
-}
-
-/// The closed sets of an inequality.
-fn pair_of(places: &Places, inequality: &Inequality) -> SetPair {
-    SetPair {
-        left: places.set_at(inequality.left),
-        right: places.set_at(inequality.right),
-        below: places.set_at(inequality.below),
-    }
 }
 
 /// Adds `amount` times column `column`.
@@ -168,8 +197,10 @@ fn add_column(
 {
     match closed.program.inequalities.get(column) {
         Some(inequality) => {
-            let pair = pair_of(&closed.places, inequality);
-            add_pair(alloc, weights, n, pair, amount)?;
+            if inequality.generator < count(n) {
+                let elemental = parts(n, inequality.generator);
+                add_inequality(alloc, weights, n, &closed.closures, elemental, amount)?;
+            }
         }
         None => {
             if let Some(other) = closed.program.other(column) {
@@ -258,9 +289,9 @@ fn move_excesses(
 ) -> Result<(), RowFault> {
     let nothing = dependences.close(VarSet::empty());
     let mut empty: i128 = 0;
-    for number in 1..1u32 << dependences.space().variables {
-        let set = VarSet::from_number(number as u16);
-        let excess = excesses.at(number as usize);
+    for number in 1..1u16 << dependences.space().variables {
+        let set = VarSet::from_number(number);
+        let excess = excesses.at(usize::from(number));
         if dependences.close(set) == nothing {
             empty = with_product(empty, excess, -1)?;
         }

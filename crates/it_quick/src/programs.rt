@@ -4,30 +4,32 @@
 use crate::numbers::{at, number_at};
 use std::alloc::{AllocError, Global};
 
-/// The column h(left) + h(right) - h(join) - h(below) of an inequality over closed sets, each set by its place.
+/// The column h(plus) + h(other_plus) - h(minus) - h(other_minus) of an elemental inequality, each set by its place.
 #[derive(Clone, Copy)]
 pub struct Inequality {
-    pub left: u16,
-    pub right: u16,
-    pub join: u16,
-    pub below: u16,
+    pub plus: u16,
+    pub other_plus: u16,
+    pub minus: u16,
+    pub other_minus: u16,
     pub cost: i64,
+    /// The number of the inequality among the generators of the problem.
+    pub generator: u32,
 }
 
 impl Inequality {
     /// The column's entry in `row`, a row of the inverse.
     #[inline]
     pub fn value(&self, row: &[i32]) -> i64 {
-        let plus = number_at(row, self.left).wrapping_add(number_at(row, self.right));
-        let minus = number_at(row, self.join).wrapping_add(number_at(row, self.below));
+        let plus = number_at(row, self.plus).wrapping_add(number_at(row, self.other_plus));
+        let minus = number_at(row, self.minus).wrapping_add(number_at(row, self.other_minus));
         plus.wrapping_sub(minus)
     }
 
     /// The column's value at `prices`.
     #[inline]
     pub fn price(&self, prices: &[i64]) -> i64 {
-        let plus = price_at(prices, self.left).wrapping_add(price_at(prices, self.right));
-        let minus = price_at(prices, self.join).wrapping_add(price_at(prices, self.below));
+        let plus = price_at(prices, self.plus).wrapping_add(price_at(prices, self.other_plus));
+        let minus = price_at(prices, self.minus).wrapping_add(price_at(prices, self.other_minus));
         plus.wrapping_sub(minus)
     }
 }
