@@ -130,7 +130,7 @@ def plain(text):
     """A module without its contracts, where memory never runs out."""
     for line in (r"//!.*", r"\s*ghost .*", r"\s*(requires|ensures) .*", r"\s*#!?\[tactic.*", r"use std::(alloc|marker).*"):
         text = re.sub(rf"^{line}\n", "", text, flags=re.M)
-    text = without_items(text, r"^impl (Model|Drop) for")
+    text = without_items(text, r"^impl(?:<'a>)? (Model|Drop) for")
     text = text.replace("#[derive(Drop)]", "").replace("Drop, ", "").replace("Vec::new(alloc)", "Vec::new()").replace(".clone()?", ".clone()")
     text = re.sub(r"Vec::with_capacity\(alloc, (.*)\)\?", r"Vec::with_capacity(\1)", text)
     text = re.sub(r"Vec::from_elem\(alloc, (.*), (.*)\)\?", r"vec![\1; \2]", text)

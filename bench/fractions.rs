@@ -100,8 +100,8 @@ impl Steps for Short {
 
 #[derive(Clone, Copy)]
 struct Fraction<S> {
-    top: i128,
-    bottom: u128,
+    numerator: i128,
+    denominator: u128,
     steps: PhantomData<S>,
 }
 
@@ -125,58 +125,58 @@ fn signed_divided<S: Steps>(a: i128, k: u128) -> i128 {
 }
 
 fn short_compare(a: u64, b: u64, c: u64, d: u64) -> Ordering {
-    let (mut top, mut bottom, mut other_top, mut other_bottom) = (a, b, c, d);
+    let (mut numerator, mut denominator, mut other_numerator, mut other_denominator) = (a, b, c, d);
     loop {
-        let (whole, other_whole) = (top / bottom, other_top / other_bottom);
+        let (whole, other_whole) = (numerator / denominator, other_numerator / other_denominator);
         if whole != other_whole {
             return whole.cmp(&other_whole);
         }
-        let (rest, other_rest) = (top % bottom, other_top % other_bottom);
+        let (rest, other_rest) = (numerator % denominator, other_numerator % other_denominator);
         if rest == 0 || other_rest == 0 {
             return rest.cmp(&other_rest);
         }
-        (top, bottom, other_top, other_bottom) = (other_bottom, other_rest, bottom, rest);
+        (numerator, denominator, other_numerator, other_denominator) = (other_denominator, other_rest, denominator, rest);
     }
 }
 
 fn compare_parts<S: Steps>(a: u128, b: u128, c: u128, d: u128) -> Ordering {
-    let (mut top, mut bottom, mut other_top, mut other_bottom) = (a, b, c, d);
+    let (mut numerator, mut denominator, mut other_numerator, mut other_denominator) = (a, b, c, d);
     loop {
-        if S::SHORT && top <= SHORT && bottom <= SHORT && other_top <= SHORT && other_bottom <= SHORT {
-            return short_compare(top as u64, bottom as u64, other_top as u64, other_bottom as u64);
+        if S::SHORT && numerator <= SHORT && denominator <= SHORT && other_numerator <= SHORT && other_denominator <= SHORT {
+            return short_compare(numerator as u64, denominator as u64, other_numerator as u64, other_denominator as u64);
         }
-        let (whole, other_whole) = (top / bottom, other_top / other_bottom);
+        let (whole, other_whole) = (numerator / denominator, other_numerator / other_denominator);
         if whole != other_whole {
             return whole.cmp(&other_whole);
         }
-        let (rest, other_rest) = (top % bottom, other_top % other_bottom);
+        let (rest, other_rest) = (numerator % denominator, other_numerator % other_denominator);
         if rest == 0 || other_rest == 0 {
             return rest.cmp(&other_rest);
         }
-        (top, bottom, other_top, other_bottom) = (other_bottom, other_rest, bottom, rest);
+        (numerator, denominator, other_numerator, other_denominator) = (other_denominator, other_rest, denominator, rest);
     }
 }
 
 impl<S: Steps> Fraction<S> {
-    fn made(top: i128, bottom: u128) -> Self {
-        Fraction { top, bottom, steps: PhantomData }
+    fn made(numerator: i128, denominator: u128) -> Self {
+        Fraction { numerator, denominator, steps: PhantomData }
     }
 
-    fn lowest(top: i128, bottom: u128) -> Self {
-        let shared = S::common(top.unsigned_abs(), bottom);
-        Self::made(signed_divided::<S>(top, shared), bottom / shared)
+    fn lowest(numerator: i128, denominator: u128) -> Self {
+        let shared = S::common(numerator.unsigned_abs(), denominator);
+        Self::made(signed_divided::<S>(numerator, shared), denominator / shared)
     }
 
     #[inline]
     fn add(self, other: Self) -> Result<Self, Wide> {
         if S::SHORT {
-            if self.bottom == 1 && other.bottom == 1 {
-                return Ok(Self::made(narrow(self.top.checked_add(other.top))?, 1));
+            if self.denominator == 1 && other.denominator == 1 {
+                return Ok(Self::made(narrow(self.numerator.checked_add(other.numerator))?, 1));
             }
-            if self.top == 0 {
+            if self.numerator == 0 {
                 return Ok(other);
             }
-            if other.top == 0 {
+            if other.numerator == 0 {
                 return Ok(self);
             }
         }
@@ -184,24 +184,24 @@ impl<S: Steps> Fraction<S> {
     }
 
     fn full_add(self, other: Self) -> Result<Self, Wide> {
-        let shared = S::common(self.bottom, other.bottom);
-        let left_factor = S::divided(other.bottom, shared);
-        let right_factor = S::divided(self.bottom, shared);
-        let left = narrow(S::product(self.top, left_factor as i128))?;
-        let right = narrow(S::product(other.top, right_factor as i128))?;
+        let shared = S::common(self.denominator, other.denominator);
+        let left_factor = S::divided(other.denominator, shared);
+        let right_factor = S::divided(self.denominator, shared);
+        let left = narrow(S::product(self.numerator, left_factor as i128))?;
+        let right = narrow(S::product(other.numerator, right_factor as i128))?;
         let total = narrow(left.checked_add(right))?;
         let rest = S::common(total.unsigned_abs(), shared);
-        let bottom = unsigned_product(right_factor, S::divided(other.bottom, rest))?;
-        Ok(Self::made(signed_divided::<S>(total, rest), bottom))
+        let denominator = unsigned_product(right_factor, S::divided(other.denominator, rest))?;
+        Ok(Self::made(signed_divided::<S>(total, rest), denominator))
     }
 
     #[inline]
     fn mul(self, other: Self) -> Result<Self, Wide> {
         if S::SHORT {
-            if self.bottom == 1 && other.bottom == 1 {
-                return Ok(Self::made(narrow(S::product(self.top, other.top))?, 1));
+            if self.denominator == 1 && other.denominator == 1 {
+                return Ok(Self::made(narrow(S::product(self.numerator, other.numerator))?, 1));
             }
-            if self.top == 0 || other.top == 0 {
+            if self.numerator == 0 || other.numerator == 0 {
                 return Ok(Self::made(0, 1));
             }
         }
@@ -209,24 +209,24 @@ impl<S: Steps> Fraction<S> {
     }
 
     fn full_mul(self, other: Self) -> Result<Self, Wide> {
-        let left_shared = S::common(self.top.unsigned_abs(), other.bottom);
-        let right_shared = S::common(other.top.unsigned_abs(), self.bottom);
-        let top = narrow(S::product(
-            signed_divided::<S>(self.top, left_shared),
-            signed_divided::<S>(other.top, right_shared),
+        let left_shared = S::common(self.numerator.unsigned_abs(), other.denominator);
+        let right_shared = S::common(other.numerator.unsigned_abs(), self.denominator);
+        let numerator = narrow(S::product(
+            signed_divided::<S>(self.numerator, left_shared),
+            signed_divided::<S>(other.numerator, right_shared),
         ))?;
-        let bottom = unsigned_product(
-            S::divided(self.bottom, right_shared),
-            S::divided(other.bottom, left_shared),
+        let denominator = unsigned_product(
+            S::divided(self.denominator, right_shared),
+            S::divided(other.denominator, left_shared),
         )?;
-        Ok(Self::made(top, bottom))
+        Ok(Self::made(numerator, denominator))
     }
 
     fn compare(self, other: Self) -> Ordering {
-        if S::SHORT && self.bottom == other.bottom {
-            return self.top.cmp(&other.top);
+        if S::SHORT && self.denominator == other.denominator {
+            return self.numerator.cmp(&other.numerator);
         }
-        match (self.top < 0, other.top < 0) {
+        match (self.numerator < 0, other.numerator < 0) {
             (false, false) => self.compare_size(other),
             (false, true) => Ordering::Greater,
             (true, false) => Ordering::Less,
@@ -235,8 +235,8 @@ impl<S: Steps> Fraction<S> {
     }
 
     fn compare_size(self, other: Self) -> Ordering {
-        let (top, other_top) = (self.top.unsigned_abs(), other.top.unsigned_abs());
-        compare_parts::<S>(top, self.bottom, other_top, other.bottom)
+        let (numerator, other_numerator) = (self.numerator.unsigned_abs(), other.numerator.unsigned_abs());
+        compare_parts::<S>(numerator, self.denominator, other_numerator, other.denominator)
     }
 }
 
@@ -265,10 +265,10 @@ fn product(a: u64, b: u64) -> u128 {
     u128::from(a) * u128::from(b)
 }
 
-fn fraction<S: Steps>(top: u128, bottom: u128, state: &mut u64) -> Fraction<S> {
-    let size = (top % LIMIT) as i128;
-    let top = if next(state) % 2 == 0 { size } else { -size };
-    Fraction::lowest(top, (bottom % LIMIT).max(1))
+fn fraction<S: Steps>(numerator: u128, denominator: u128, state: &mut u64) -> Fraction<S> {
+    let size = (numerator % LIMIT) as i128;
+    let numerator = if next(state) % 2 == 0 { size } else { -size };
+    Fraction::lowest(numerator, (denominator % LIMIT).max(1))
 }
 
 type Pair<S> = (Fraction<S>, Fraction<S>);
@@ -287,9 +287,9 @@ fn wide_pair<S: Steps>(kernel: &str, state: &mut u64) -> Pair<S> {
         ),
         _ => {
             let left = fraction(product(p, t), product(q, u), state);
-            let top = product(p, t) + u128::from(short(state));
-            let bottom = product(q, u) + u128::from(short(state));
-            (left, fraction(top, bottom, state))
+            let numerator = product(p, t) + u128::from(short(state));
+            let denominator = product(q, u) + u128::from(short(state));
+            (left, fraction(numerator, denominator, state))
         }
     }
 }
@@ -310,7 +310,7 @@ fn made_pair<S: Steps>(kernel: &str, parts: &str, state: &mut u64) -> Pair<S> {
 
 fn counted<S>(sum: i128, result: Result<Fraction<S>, Wide>) -> i128 {
     match result {
-        Ok(fraction) => sum.wrapping_add(fraction.top).wrapping_add(fraction.bottom as i128),
+        Ok(fraction) => sum.wrapping_add(fraction.numerator).wrapping_add(fraction.denominator as i128),
         Err(Wide) => sum.wrapping_sub(1),
     }
 }
@@ -349,7 +349,7 @@ fn main() {
     let turns = turns.parse().unwrap_or(0);
     if variant == "pairs" {
         for (x, y) in pairs::<Plain>(kernel, parts) {
-            println!("{} {} {} {}", x.top, x.bottom, y.top, y.bottom);
+            println!("{} {} {} {}", x.numerator, x.denominator, y.numerator, y.denominator);
         }
         return;
     }

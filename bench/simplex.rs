@@ -13,7 +13,7 @@ enum Numbers {
 
 struct Row {
     numbers: Numbers,
-    bottom: u64,
+    denominator: u64,
     most: u64,
     // whether few numbers are other than 0
     sparse: bool,
@@ -83,8 +83,8 @@ fn sum_within(x: u64, a: u64, y: u64, b: u64, limit: u64) -> Option<u64> {
 }
 
 // the greatest common divisor of sizes and a denominator, with its reciprocal
-fn shared_divisor(sizes: impl Iterator<Item = u64>, bottom: u64) -> (u64, u64) {
-    let mut shared = bottom;
+fn shared_divisor(sizes: impl Iterator<Item = u64>, denominator: u64) -> (u64, u64) {
+    let mut shared = denominator;
     let mut inverse = reciprocal(shared);
     for size in sizes {
         if shared == 1 {
@@ -98,24 +98,24 @@ fn shared_divisor(sizes: impl Iterator<Item = u64>, bottom: u64) -> (u64, u64) {
     (shared, inverse)
 }
 
-fn shorten_wide(numbers: &mut [i64], bottom: u64) -> u64 {
-    let (shared, inverse) = shared_divisor(numbers.iter().map(|z| z.unsigned_abs()), bottom);
+fn shorten_wide(numbers: &mut [i64], denominator: u64) -> u64 {
+    let (shared, inverse) = shared_divisor(numbers.iter().map(|z| z.unsigned_abs()), denominator);
     if shared != 1 {
         for z in numbers {
             *z = divided_quickly(*z, shared, inverse);
         }
     }
-    bottom / shared
+    denominator / shared
 }
 
-fn shorten_narrow(numbers: &mut [i32], bottom: u64) -> u64 {
-    let (shared, inverse) = shared_divisor(numbers.iter().map(|z| z.unsigned_abs().into()), bottom);
+fn shorten_narrow(numbers: &mut [i32], denominator: u64) -> u64 {
+    let (shared, inverse) = shared_divisor(numbers.iter().map(|z| z.unsigned_abs().into()), denominator);
     if shared != 1 {
         for z in numbers {
             *z = divided_quickly(i64::from(*z), shared, inverse) as i32;
         }
     }
-    bottom / shared
+    denominator / shared
 }
 
 // for each place the next one where the row isn't 0, and whether these are few
@@ -174,32 +174,32 @@ fn combine_narrow(row: &mut [i32], by: &[i32], next: &[usize], sparse: bool, a: 
 }
 
 // the same in 64 bits, in room, and a common divisor with the denominator is divided away; the denominator that is left
-fn combine_in_room(row: &mut [i32], by: &[i32], room: &mut [i64], a: i64, b: i64, most_by: u64, bottom: u64, limit: u64) -> Option<u64> {
+fn combine_in_room(row: &mut [i32], by: &[i32], room: &mut [i64], a: i64, b: i64, most_by: u64, denominator: u64, limit: u64) -> Option<u64> {
     sum_within(greatest_narrow(row), a.unsigned_abs(), most_by, b.unsigned_abs(), i64::MAX as u64)?;
     for ((space, &z), &w) in room.iter_mut().zip(&*row).zip(by) {
         *space = i64::from(z) * a - i64::from(w) * b;
     }
-    let bottom = shorten_wide(room, bottom);
+    let denominator = shorten_wide(room, denominator);
     for (z, &number) in row.iter_mut().zip(&*room) {
         if number.unsigned_abs() > limit {
             return None;
         }
         *z = number as i32;
     }
-    Some(bottom)
+    Some(denominator)
 }
 
 impl Row {
     fn wide(numbers: Vec<i64>) -> Row {
         let most = greatest(&numbers);
-        Row { numbers: Numbers::Wide(numbers), bottom: 1, most, sparse: false }
+        Row { numbers: Numbers::Wide(numbers), denominator: 1, most, sparse: false }
     }
 
     fn narrowed(&self, limit: u64) -> Option<Row> {
         let Numbers::Wide(numbers) = &self.numbers else { return None };
         let numbers: Option<Vec<i32>> =
             numbers.iter().map(|&z| (z.unsigned_abs() <= limit).then_some(z as i32)).collect();
-        Some(Row { numbers: Numbers::Narrow(numbers?), bottom: self.bottom, most: self.most, sparse: false })
+        Some(Row { numbers: Numbers::Narrow(numbers?), denominator: self.denominator, most: self.most, sparse: false })
     }
 
     fn number(&self, k: usize) -> i64 {
@@ -217,19 +217,19 @@ impl Row {
     }
 
     fn shorten(&mut self) {
-        let bottom = match &mut self.numbers {
-            Numbers::Narrow(numbers) => shorten_narrow(numbers, self.bottom),
-            Numbers::Wide(numbers) => shorten_wide(numbers, self.bottom),
+        let denominator = match &mut self.numbers {
+            Numbers::Narrow(numbers) => shorten_narrow(numbers, self.denominator),
+            Numbers::Wide(numbers) => shorten_wide(numbers, self.denominator),
         };
-        if bottom != self.bottom {
-            self.bottom = bottom;
+        if denominator != self.denominator {
+            self.denominator = denominator;
             self.most = self.greatest();
         }
     }
 
     // the leaving row after a step
     fn divided_by(mut self, pivot: i64) -> Row {
-        self.bottom = pivot.unsigned_abs();
+        self.denominator = pivot.unsigned_abs();
         self.shorten();
         self.most = self.greatest();
         if let Numbers::Narrow(numbers) = &self.numbers {
@@ -244,17 +244,17 @@ impl Row {
         }
         let shared = gcd(pivot.unsigned_abs(), entry.unsigned_abs());
         let (a, b) = (divided(pivot, shared), divided(entry, shared));
-        let bottom = match self.bottom.checked_mul(a.unsigned_abs()) {
-            Some(bottom) if bottom < 1 << 63 => bottom,
+        let denominator = match self.denominator.checked_mul(a.unsigned_abs()) {
+            Some(denominator) if denominator < 1 << 63 => denominator,
             _ => return false,
         };
         let (most, large) = match (&mut self.numbers, &own.numbers) {
             (Numbers::Narrow(row), Numbers::Narrow(by)) => {
                 match combine_narrow(row, by, next, own.sparse, a, b, self.most, own.most, limit) {
                     Some(most) => (most, 1 << 12),
-                    None => match combine_in_room(row, by, room, a, b, own.most, bottom, limit) {
+                    None => match combine_in_room(row, by, room, a, b, own.most, denominator, limit) {
                         Some(left) => {
-                            self.bottom = left;
+                            self.denominator = left;
                             self.most = greatest_narrow(row);
                             return true;
                         }
@@ -270,9 +270,9 @@ impl Row {
             }
             _ => return false,
         };
-        self.bottom = bottom;
+        self.denominator = denominator;
         self.most = most;
-        if self.bottom > large {
+        if self.denominator > large {
             self.shorten();
         }
         true
@@ -368,7 +368,7 @@ impl Engine {
         }
         let r = self.leaving()?;
         let own = std::mem::replace(&mut self.rows[r], Row::wide(Vec::new())).divided_by(self.entries[r]);
-        let pivot = own.bottom as i64;
+        let pivot = own.denominator as i64;
         match &own.numbers {
             Numbers::Narrow(numbers) => note_places(numbers, &mut self.next),
             Numbers::Wide(numbers) => note_places(numbers, &mut self.next),

@@ -14,9 +14,8 @@
 //! each is; how it ends, and the calls.
 #![tactic(auto)]
 
-ghost use Rattle.std.specs.Prelude.{◌≤◌, All, length};
-ghost use Rattle.it_question.specs.Limits.{IsQuestion};
-ghost use Rattle.it_question.specs.Questions.{question_body};
+ghost use Rattle.std.specs.Prelude.{◌≤◌, length};
+ghost use Rattle.it_syntax.specs.Lines.{most_text_bytes};
 
 mod fractions;
 mod output;
@@ -47,7 +46,7 @@ pub struct Task<'a> {
 
 /// The number of questions of a file.
 fn count(alloc: Global, file: &[u8]) -> usize
-    requires { length file.now ≤ 1048577 }
+    requires { length file.now ≤ most_text_bytes }
 {
     match questions(alloc, file) {
         Ok(questions) => questions.len(),
@@ -57,7 +56,7 @@ fn count(alloc: Global, file: &[u8]) -> usize
 
 /// Reads a question file again and again, and writes its bytes and its questions.
 fn reading(alloc: Global, out: &mut Output, file: &[u8], task: &Task<'_>)
-    requires { length file.now ≤ 1048577 }
+    requires { length file.now ≤ most_text_bytes }
 {
     let mut questions = 0;
     for _ in 0..task.turns {
@@ -76,9 +75,7 @@ fn write_all(
     kernel: &str,
     questions: &[Question],
     task: &Task<'_>,
-) -> Result<(), AllocError>
-    requires { All (λ q. IsQuestion (question_body q)) questions.now }
-{
+) -> Result<(), AllocError> {
     for question in questions {
         if kernel == "targets" {
             targets::write(alloc, out, question, task)?;
@@ -96,9 +93,7 @@ fn asking(
     kernel: &str,
     question: &Question,
     task: &Task<'_>,
-) -> Result<(), AllocError>
-    requires { IsQuestion (question_body question.now) }
-{
+) -> Result<(), AllocError> {
     match kernel {
         "simplex" => runs::time(alloc, out, question, task),
         "reduce" => reductions::time(alloc, out, question, task),
@@ -118,7 +113,7 @@ fn on_questions(
     file: &[u8],
     task: &Task<'_>,
 ) -> Result<(), AllocError>
-    requires { length file.now ≤ 1048577 }
+    requires { length file.now ≤ most_text_bytes }
 {
     match questions(alloc, file) {
         Ok(questions) if kernel == "questions" || kernel == "targets" => {

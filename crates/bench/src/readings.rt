@@ -3,8 +3,6 @@
 //! A question is one line: its names, its own lines and its verb. Sets of variables and rates stand by number, a term as its sign, its
 //! number, `/` and its denominator where that isn't 1, and `H`, `I` or `R`. A row is its terms, each a coordinate, `:` and a
 //! coefficient.
-ghost use Rattle.it_question.specs.Limits.{IsQuestion};
-ghost use Rattle.it_question.specs.Questions.{question_body};
 
 use crate::Task;
 use crate::output::Output;
@@ -94,10 +92,10 @@ fn write_given(out: &mut Output, given: &Given) {
 
 /// Writes the `given` and `row` lines.
 fn write_lines(out: &mut Output, lines: &OwnLines) {
-    for given in lines.givens.as_slice() {
+    for given in lines.givens() {
         write_given(out, given);
     }
-    for row in lines.rows.as_slice() {
+    for row in lines.rows() {
         write_relation(out, " row ", row);
     }
 }
@@ -124,10 +122,10 @@ fn write_names(out: &mut Output, names: &Names) {
 /// Writes a region: its names, how many of them are its own, and its lines.
 fn write_region(out: &mut Output, region: &Region) {
     out.put(" (");
-    write_names(out, &region.names);
+    write_names(out, region.names());
     out.put(' ');
-    out.put(region.auxiliaries);
-    write_lines(out, &region.lines);
+    out.put(region.auxiliaries());
+    write_lines(out, region.lines());
     out.put(')');
 }
 
@@ -165,9 +163,9 @@ fn write_verb(out: &mut Output, verb: &Verb) {
 
 /// Writes a question as it is read.
 fn write_question(out: &mut Output, question: &Question) {
-    write_names(out, &question.names);
-    write_lines(out, &question.lines);
-    write_verb(out, &question.verb);
+    write_names(out, question.names());
+    write_lines(out, question.lines());
+    write_verb(out, question.verb());
     out.put('\n');
 }
 
@@ -221,12 +219,10 @@ fn write_rows(out: &mut Output, word: &str, rows: &[Row]) {
 }
 
 /// Writes the rows of a question's targets, or of the system that it has rates eliminated from.
-fn write_asked(alloc: Global, out: &mut Output, question: &Question) -> Result<(), AllocError>
-    requires { IsQuestion (question_body question.now) }
-{
-    match &question.verb {
+fn write_asked(alloc: Global, out: &mut Output, question: &Question) -> Result<(), AllocError> {
+    match question.verb() {
         Verb::Prove(relation) => {
-            let rows = target_rows(alloc, relation, question.names.space())?;
+            let rows = target_rows(alloc, relation, question.space())?;
             write_rows(out, "target", rows.as_slice());
         }
         Verb::Eliminate(_) => write_rows(out, "system", system(alloc, question)?.rows.as_slice()),
@@ -236,9 +232,7 @@ fn write_asked(alloc: Global, out: &mut Output, question: &Question) -> Result<(
 }
 
 /// Writes the constraints of a question, and the rows that it asks about.
-fn write_problem(alloc: Global, out: &mut Output, question: &Question) -> Result<(), AllocError>
-    requires { IsQuestion (question_body question.now) }
-{
+fn write_problem(alloc: Global, out: &mut Output, question: &Question) -> Result<(), AllocError> {
     write_constraints(out, problem(alloc, question)?.constraints());
     write_asked(alloc, out, question)
 }
@@ -249,9 +243,7 @@ pub fn write(
     out: &mut Output,
     question: &Question,
     task: &Task<'_>,
-) -> Result<(), AllocError>
-    requires { IsQuestion (question_body question.now) }
-{
+) -> Result<(), AllocError> {
     match task.way {
         "read" => write_question(out, question),
         "text" => {

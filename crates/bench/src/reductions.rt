@@ -2,8 +2,6 @@
 
 ghost use Rattle.std.specs.Prelude.{◌≤◌, All, length};
 ghost use Rattle.std.specs.Bool.{OnTrue};
-ghost use Rattle.it_question.specs.Limits.{IsQuestion};
-ghost use Rattle.it_question.specs.Questions.{question_body};
 ghost use Rattle.it_redundant.specs.Reduction.{IsSystemUnder};
 ghost use Rattle.it_space.specs.Rows.{IsOver, most_system_rows};
 
@@ -225,9 +223,7 @@ fn reduced_after(
 }
 
 /// The rows of a question, and the givens that they are under.
-fn rows_and_givens(alloc: Global, question: &Question) -> Result<(System, Problem), AllocError>
-    requires { IsQuestion (question_body question.now) }
-{
+fn rows_and_givens(alloc: Global, question: &Question) -> Result<(System, Problem), AllocError> {
     let rows = system(alloc, question)?;
     Ok((rows, problem(alloc, question)?))
 }
@@ -239,9 +235,7 @@ pub fn elimination(
     rates: &[u8],
     way: &str,
     asking: &mut Asking,
-) -> Result<(Vec<usize>, usize), AllocError>
-    requires { IsQuestion (question_body question.now) }
-{
+) -> Result<(Vec<usize>, usize), AllocError> {
     let (mut list, givens) = rows_and_givens(alloc, question)?;
     let (mut counts, mut calls) = (Vec::new(alloc), 0usize);
     for rate in rates {
@@ -274,9 +268,7 @@ fn eliminate(
     question: &Question,
     rates: &[u8],
     task: &Task<'_>,
-) -> Result<(), AllocError>
-    requires { IsQuestion (question_body question.now) }
-{
+) -> Result<(), AllocError> {
     let mut asking = Asking::defined();
     for _ in 1..task.turns {
         elimination(alloc, question, rates, task.way, &mut asking)?;
@@ -292,10 +284,8 @@ pub fn time(
     out: &mut Output,
     question: &Question,
     task: &Task<'_>,
-) -> Result<(), AllocError>
-    requires { IsQuestion (question_body question.now) }
-{
-    match &question.verb {
+) -> Result<(), AllocError> {
+    match question.verb() {
         Verb::Eliminate(rates) => eliminate(alloc, out, question, rates.as_slice(), task),
         _ => {
             out.put("no rates\n");

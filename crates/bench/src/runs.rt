@@ -1,8 +1,6 @@
 //! Runs of the simplex method.
 
 ghost use Rattle.std.specs.Prelude.{◌≤◌};
-ghost use Rattle.it_question.specs.Limits.{IsQuestion};
-ghost use Rattle.it_question.specs.Questions.{question_body};
 ghost use Rattle.it_space.specs.Spaces.{most_variables};
 
 use crate::Task;
@@ -30,11 +28,9 @@ fn elemental_rows(alloc: Global, variables: u8) -> Result<Vec<Row>, AllocError>
 }
 
 /// The elemental inequalities and the form of a question that proves a relation, with a budget of steps.
-fn system_of(alloc: Global, question: &Question, steps: u32) -> Result<Option<System>, AllocError>
-    requires { IsQuestion (question_body question.now) }
-{
-    let space = question.names.space();
-    let Verb::Prove(relation) = &question.verb else {
+fn system_of(alloc: Global, question: &Question, steps: u32) -> Result<Option<System>, AllocError> {
+    let space = question.space();
+    let Verb::Prove(relation) = question.verb() else {
         return Ok(None);
     };
     Ok(Some(System {
@@ -115,9 +111,7 @@ pub fn time(
     out: &mut Output,
     question: &Question,
     task: &Task<'_>,
-) -> Result<(), AllocError>
-    requires { IsQuestion (question_body question.now) }
-{
+) -> Result<(), AllocError> {
     match system_of(alloc, question, task.limit)? {
         None => out.put("no relation\n"),
         Some(system) if task.way == "system" => write(out, &system),

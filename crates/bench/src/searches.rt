@@ -1,8 +1,7 @@
 //! The search for a substitution.
 
 ghost use Rattle.std.specs.Prelude.{IsTrue};
-ghost use Rattle.it_question.specs.Limits.{IsQuestion};
-ghost use Rattle.it_question.specs.Questions.{question_body, verb_view};
+ghost use Rattle.it_question.specs.Questions.{verb_view};
 ghost use Rattle.it_region.specs.Pairs.{IsPair, IsContainment};
 
 use crate::Task;
@@ -198,10 +197,8 @@ pub fn time(
     out: &mut Output,
     question: &Question,
     task: &Task<'_>,
-) -> Result<(), AllocError>
-    requires { IsQuestion (question_body question.now) }
-{
-    if !is_containment(&question.verb) {
+) -> Result<(), AllocError> {
+    if !is_containment(question.verb()) {
         out.put("no containment\n");
         return Ok(());
     }

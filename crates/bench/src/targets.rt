@@ -1,8 +1,7 @@
 //! Targets by one of the two runs alone: by the defined run, or by the quick run, which may settle nothing.
 
 ghost use Rattle.std.specs.Prelude.{◌≡◌};
-ghost use Rattle.it_question.specs.Limits.{IsQuestion};
-ghost use Rattle.it_question.specs.Questions.{Prove, question_body};
+ghost use Rattle.it_question.specs.Questions.{Prove};
 ghost use Rattle.it_space.specs.Rows.{IsOver};
 ghost use Rattle.it_space.specs.Spaces.{size_of};
 ghost use Rattle.it_syntax.specs.Meaning.{relation_view};
@@ -107,9 +106,9 @@ fn proves_relation(
     relation: &Relation,
     asking: &mut Asking,
 ) -> Result<bool, AllocError>
-    requires limits { IsQuestion (question_body question.now) }
-    requires proves { (question_body question.now).verb ≡ Prove (relation_view relation.now) }
+    requires proves { question.now.body.verb ≡ Prove (relation_view relation.now) }
 {
+    question.facts();
     let problem = problem(alloc, question)?;
     for target in target_rows(alloc, relation, problem.space())?.as_slice() {
         if !asking.proves(alloc, &problem, target)? {
@@ -125,10 +124,8 @@ fn answer(
     out: &mut Output,
     question: &Question,
     asking: &mut Asking,
-) -> Result<(), AllocError>
-    requires { IsQuestion (question_body question.now) }
-{
-    match &question.verb {
+) -> Result<(), AllocError> {
+    match question.verb() {
         Verb::Prove(relation) => {
             let is_yes = proves_relation(alloc, question, relation, asking)?;
             out.put(if is_yes { "yes" } else { "no" });
@@ -150,9 +147,7 @@ pub fn write(
     out: &mut Output,
     question: &Question,
     task: &Task<'_>,
-) -> Result<(), AllocError>
-    requires { IsQuestion (question_body question.now) }
-{
+) -> Result<(), AllocError> {
     let mut asking = Asking::of(task);
     answer(alloc, out, question, &mut asking)?;
     out.put(' ');

@@ -11,8 +11,7 @@ use Rattle.it_space.specs.Spaces.{size_of}
 use Rattle.it_polymatroid.specs.Certificates.{Form}
 use Rattle.it_polymatroid.specs.Polymatroid.{IsPolymatroid}
 use Rattle.it_syntax.specs.Meaning.{RelationView}
-use Rattle.it_question.specs.declared.types.Question.{Question}
-use Rattle.it_question.specs.Questions.{BodyView, VerbView, Prove, Eliminate, question_body}
+use Rattle.it_question.specs.Questions.{QuestionView, BodyView, VerbView, Prove, Eliminate}
 use Rattle.it_demand.specs.Canonical.{IsRowOf}
 use Rattle.it_demand.specs.Origins.{AreStated}
 use Rattle.it_demand.specs.Targets.{negation, targets}
@@ -92,16 +91,16 @@ module _ (p : ProblemView) (f : Form) (t : Terms) (row : IsRowOf p.space f t) (e
 
 -- ---- the row of a form's negation
 
-turned_up_to : (size : ℕ) (ts : Terms) → IsOver size ts → IsOver size (negated_terms ts)
-turned_up_to size [] u = All-nil (λ (t : ℕ × ℤ). (1 ≤ t.0) × (t.0 ≤ size))
-turned_up_to size (t ∷ ts) u = All-cons (λ (t : ℕ × ℤ). (1 ≤ t.0) × (t.0 ≤ size)) (t.0, neg_ℤ t.1) (negated_terms ts)
-    (All-head (λ (t : ℕ × ℤ). (1 ≤ t.0) × (t.0 ≤ size)) t ts u) (turned_up_to size ts
+negated_up_to : (size : ℕ) (ts : Terms) → IsOver size ts → IsOver size (negated_terms ts)
+negated_up_to size [] u = All-nil (λ (t : ℕ × ℤ). (1 ≤ t.0) × (t.0 ≤ size))
+negated_up_to size (t ∷ ts) u = All-cons (λ (t : ℕ × ℤ). (1 ≤ t.0) × (t.0 ≤ size)) (t.0, neg_ℤ t.1) (negated_terms ts)
+    (All-head (λ (t : ℕ × ℤ). (1 ≤ t.0) × (t.0 ≤ size)) t ts u) (negated_up_to size ts
     (All-tail (λ (t : ℕ × ℤ). (1 ≤ t.0) × (t.0 ≤ size)) t ts u))
 
 pub row_negation : (s : Space) (f : Form) (t u : Terms) → u ≡ negated_terms t → IsRowOf s f t → IsRowOf s (negation f) u
 row_negation s f t u e h = subst (IsRowOf s (negation f)) (sym e) (record {
   same = λ p z. value-negated_terms t p ∙ ap neg_ℤ (h.same p z);
-  coordinates = turned_up_to (size_of s) t h.coordinates;
+  coordinates = negated_up_to (size_of s) t h.coordinates;
   canonical = ascends-negated_terms 0 t h.canonical;
   small = small-negated_terms t h.small;
 })
@@ -117,8 +116,8 @@ right_by_verb budgets plans q verb reply is x d = record {
 
 -- where nothing was found, the boxes keep their plans
 
-pub nothing_found : (budgets : Budgets) (plans : List Plan) (question : Question) (answer : Answer)
-    → IsRightAnswer budgets plans (question_body question) (record { answer = answer_view answer; found = [] })
+pub nothing_found : (budgets : Budgets) (plans : List Plan) (question : QuestionView) (answer : Answer)
+    → IsRightAnswer budgets plans question.body (record { answer = answer_view answer; found = [] })
     → IsAnswered budgets plans question answer plans
 nothing_found budgets plans question answer x = record { found = []; right = x; learned = sym (after_none plans) }
 

@@ -9,7 +9,8 @@ use Rattle.it_space.specs.Spaces.{size_of}
 use Rattle.it_polymatroid.specs.Certificates.{Form}
 use Rattle.it_polymatroid.specs.Polymatroid.{IsPolymatroid}
 use Rattle.it_question.specs.Limits.{IsQuestion}
-use Rattle.it_question.specs.Questions.{OwnLinesView, RegionView, BodyView, Contain}
+use Rattle.it_question.specs.OwnLines.{OwnLinesView, RegionView}
+use Rattle.it_question.specs.Questions.{BodyView, Contain}
 use Rattle.it_canon.specs.QuestionDemands.{problem_of, terms_in}
 use Rattle.it_canon.specs.TrueLines.{AreTrueAt}
 use Rattle.it_canon.proofs.PosesLemmas.{one_problem}

@@ -6,7 +6,8 @@ use Rattle.it_space.specs.declared.spaces.Space.{Space}
 use Rattle.it_problems.specs.Problems.{ProblemView, AreMet}
 use Rattle.it_syntax.specs.Givens.{IsGivenOf, IsTrueAt}
 use Rattle.it_syntax.specs.Meaning.{Holds}
-use Rattle.it_question.specs.Questions.{BodyView, OwnLinesView, VerbView, Eliminate}
+use Rattle.it_question.specs.OwnLines.{OwnLinesView}
+use Rattle.it_question.specs.Questions.{BodyView, VerbView, Eliminate}
 use Rattle.it_question.specs.Limits.{AreRatesOf, IsQuestion, IsVerbOver}
 use Rattle.it_demand.specs.Demands.{Demand, demands}
 use Rattle.it_demand.specs.Origins.{AreStated, States}

@@ -9,7 +9,8 @@ use Rattle.it_space.specs.Answers.{AnswerView, answer_view}
 use Rattle.it_space.specs.Rows.{Terms}
 use Rattle.it_space.specs.Spaces.{size_of}
 use Rattle.it_syntax.specs.Meaning.{RelationView}
-use Rattle.it_question.specs.Questions.{BodyView, RegionView, Prove, Contain}
+use Rattle.it_question.specs.OwnLines.{RegionView}
+use Rattle.it_question.specs.Questions.{BodyView, Prove, Contain}
 use Rattle.it_demand.specs.SystemForms.{AreRowsOf}
 use Rattle.it_demand.specs.QuestionSpaces.{space_of}
 use Rattle.it_question.specs.ProblemLines.{problem_names, names_under}

@@ -7,7 +7,8 @@ use Rattle.it_space.specs.Answers.{AnswerView, CertificateView}
 use Rattle.it_space.specs.Answers as answer_views
 use Rattle.it_space.specs.Rows.{Terms, IsCanonical}
 use Rattle.it_syntax.specs.Meaning.{RelationView}
-use Rattle.it_question.specs.Questions.{BodyView, RegionView, VerbView, Prove, Eliminate, Contain}
+use Rattle.it_question.specs.OwnLines.{RegionView}
+use Rattle.it_question.specs.Questions.{BodyView, VerbView, Prove, Eliminate, Contain}
 use Rattle.it_demand.specs.Targets.{targets}
 use Rattle.it_canon.specs.TrueLines.{variable_count}
 use Rattle.it_canon.specs.QuestionDemands.{problem_of, terms_in}

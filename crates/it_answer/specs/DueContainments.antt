@@ -2,7 +2,8 @@
 use Rattle.std.specs.Prelude.{◌≡◌, ℕ, ◌<◌, ◌^◌, List, [], ◌∷◌, length, map, take, All}
 use Rattle.it_space.specs.Answers.{CertificateView, AnswerView}
 use Rattle.it_space.specs.Answers.AnswerView.{Contained, Open}
-use Rattle.it_question.specs.Questions.{RegionView, BodyView}
+use Rattle.it_question.specs.OwnLines.{RegionView}
+use Rattle.it_question.specs.Questions.{BodyView}
 use Rattle.it_canon.specs.QuestionDemands.{problem_of, terms_in}
 use Rattle.it_prove.specs.ProofViews.{EndsWith}
 use Rattle.it_prove.specs.declared.types.Effort.{Effort}

@@ -6,8 +6,7 @@ use Rattle.it_space.specs.Answers.{AnswerView, answer_view}
 use Rattle.it_space.specs.Answers.AnswerView.{Yes, Undecided, Contained}
 use Rattle.it_space.specs.Rows.{IsCanonical}
 use Rattle.it_question.specs.Files.{IsFile}
-use Rattle.it_question.specs.declared.types.Question.{Question}
-use Rattle.it_question.specs.Questions.{BodyView, QuestionView, VerbView, Prove, Eliminate, Contain, question_body}
+use Rattle.it_question.specs.Questions.{BodyView, QuestionView, VerbView, Prove, Eliminate, Contain}
 use Rattle.it_region.specs.declared.types.Candidate.{Candidate}
 use Rattle.it_contain.specs.Proposals.{Plan, plan_after_all}
 use Rattle.it_answer.specs.declared.types.Budgets.{Budgets}
@@ -29,9 +28,9 @@ pub record IsRightAnswer (budgets : Budgets) (plans : List Plan) (q : BodyView) 
   pub due : IsDueBy budgets plans q q.verb reply
 
 -- the answer is right, and the boxes have learned of the candidate that it found
-pub record IsAnswered (budgets : Budgets) (plans : List Plan) (question : Question) (answer : Answer) (plans_after : List Plan) : Type 0 where
+pub record IsAnswered (budgets : Budgets) (plans : List Plan) (question : QuestionView) (answer : Answer) (plans_after : List Plan) : Type 0 where
   pub found : List Candidate
-  pub right : IsRightAnswer budgets plans (question_body question) (record { answer = answer_view answer; found = found })
+  pub right : IsRightAnswer budgets plans question.body (record { answer = answer_view answer; found = found })
   pub learned : plans_after ≡ map (plan_after_all found) plans
 
 -- ---- what follows

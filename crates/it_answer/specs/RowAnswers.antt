@@ -7,7 +7,8 @@ use Rattle.it_space.specs.Answers.AnswerView.{Yes, No, Undecided, Region, Contai
 use Rattle.it_space.specs.Rows.{Terms}
 use Rattle.it_polymatroid.specs.Certificates.{Form}
 use Rattle.it_syntax.specs.Meaning.{RelationView}
-use Rattle.it_question.specs.Questions.{BodyView, RegionView}
+use Rattle.it_question.specs.OwnLines.{RegionView}
+use Rattle.it_question.specs.Questions.{BodyView}
 use Rattle.it_demand.specs.Canonical.{form_of}
 use Rattle.it_demand.specs.SystemForms.{AreRowsOf}
 use Rattle.it_demand.specs.Targets.{negation, targets}

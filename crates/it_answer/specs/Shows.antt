@@ -7,7 +7,8 @@ use Rattle.it_space.specs.Rows.{point_of}
 use Rattle.it_space.specs.Spaces.{size_of}
 use Rattle.it_polymatroid.specs.Polymatroid.{IsPolymatroid}
 use Rattle.it_polymatroid.specs.Certificates.{Form}
-use Rattle.it_question.specs.Questions.{BodyView, RegionView, VerbView, Prove, Eliminate, Contain}
+use Rattle.it_question.specs.OwnLines.{RegionView}
+use Rattle.it_question.specs.Questions.{BodyView, VerbView, Prove, Eliminate, Contain}
 use Rattle.it_demand.specs.Targets.{targets}
 use Rattle.it_canon.specs.TrueLines.{variable_count, AreTrueAt}
 use Rattle.it_demand.specs.QuestionSpaces.{space_of}

@@ -3,8 +3,6 @@ ghost use Rattle.std.specs.Prelude.{◌≡◌, map, IfOk};
 ghost use Rattle.it_space.specs.Answers.{answer_view, certificate_view};
 ghost use Rattle.it_syntax.specs.Meaning.{relation_view};
 ghost use Rattle.it_syntax.specs.Givens.{IsRelationOf};
-ghost use Rattle.it_question.specs.Limits.{IsQuestion};
-ghost use Rattle.it_question.specs.Questions.{question_body};
 ghost use Rattle.it_demand.specs.Origins.{AreStated};
 ghost use Rattle.it_demand.specs.QuestionSpaces.{space_of};
 ghost use Rattle.it_question.specs.ProblemLines.{problem_names};
@@ -34,9 +32,8 @@ pub fn answer(
     budgets: Budgets,
     boxes: &mut Vec<Box<dyn Proposer>>,
 ) -> Result<AnsweredProblem, AllocError>
-    requires limits { IsQuestion (question_body question.now) }
-    ensures space { IfOk result (λ a. a.problem.space ≡ space_of (problem_names (question_body question.now))) }
-    ensures problem { IfOk result (λ a. AreStated a.problem.space (question_origins (question_body question.now)) (question_demands (question_body question.now)) a.problem.constraints) }
+    ensures space { IfOk result (λ a. a.problem.space ≡ space_of (problem_names question.now.body)) }
+    ensures problem { IfOk result (λ a. AreStated a.problem.space (question_origins question.now.body) (question_demands question.now.body) a.problem.constraints) }
     ensures answered { IfOk result (λ a. IsAnswered budgets (map plan boxes.old.items) question.now a.answer (map plan boxes.new.items)) }
 {
     let problem = problem(alloc, question)?;
@@ -52,26 +49,13 @@ fn answer_under(
     budgets: Budgets,
     boxes: &mut Vec<Box<dyn Proposer>>,
 ) -> Result<Answer, AllocError>
-    requires limits { IsQuestion (question_body question.now) }
-    requires problem { IsProblemOf (question_body question.now) problem.now }
+    requires problem { IsProblemOf question.now.body problem.now }
     ensures { IfOk result (λ a. IsAnswered budgets (map plan boxes.old.items) question.now a (map plan boxes.new.items)) }
 {
-    match &question.verb {
+    match question.verb() {
         Verb::Prove(relation) => { relation_answer(alloc, problem, relation, budgets.effort) }
         Verb::Eliminate(rates) => { region(alloc, question, rates.as_slice(), problem, budgets) }
-        Verb::Contain {
-            first,
-            second,
-            tries,
-        } => containment(
-            alloc,
-            question,
-            first,
-            second,
-            tries.as_slice(),
-            budgets,
-            boxes,
-        ),
+        Verb::Contain { .. } => containment(alloc, question, budgets, boxes),
     }
 }
 

@@ -1,8 +1,7 @@
 //! The answer to a containment question.
 ghost use Rattle.std.specs.Prelude.{◌≡◌, map, take, IfOk};
 ghost use Rattle.it_space.specs.Answers.{answer_view};
-ghost use Rattle.it_question.specs.Limits.{IsQuestion};
-ghost use Rattle.it_question.specs.Questions.{Contain, question_body, region_view};
+ghost use Rattle.it_region.specs.Pairs.{IsContainment};
 ghost use Rattle.it_answer.specs.RightAnswers.{IsAnswered};
 ghost use Rattle.it_answer.specs.DueContainments.{tried_of};
 ghost use Rattle.it_answer.specs.SearchAnswers.{answer_of_search};
@@ -10,7 +9,7 @@ ghost use Rattle.it_answer.specs.SearchAnswers.{answer_of_search};
 use crate::types::Budgets;
 use it_contain::types::Contained;
 use it_contain::{Proposer, contain};
-use it_question::types::{Question, Region};
+use it_question::types::{Question, Region, Verb};
 use it_region::{Candidate, pair};
 use it_space::{Answer, VarSet};
 use std::alloc::{AllocError, Global};
@@ -21,12 +20,12 @@ fn tried_of(
     second: &Region,
     tries: &[[VarSet; 4]],
 ) -> Result<Vec<Candidate>, AllocError>
-    ensures { IfOk result (λ v. v.items ≡ tried_of (region_view second.now) tries.now) }
+    ensures { IfOk result (λ v. v.items ≡ tried_of second.now tries.now) }
 {
     let mut candidates = Vec::new(alloc);
     for parts in tries {
         candidates.push(Candidate {
-            count: second.auxiliaries,
+            count: second.auxiliaries(),
             parts: *parts,
         })?;
     }
@@ -59,18 +58,18 @@ fn answer_of_search(alloc: Global, end: Contained) -> Result<Answer, AllocError>
 pub fn containment(
     alloc: Global,
     question: &Question,
-    first: &Region,
-    second: &Region,
-    tries: &[[VarSet; 4]],
     budgets: Budgets,
     boxes: &mut Vec<Box<dyn Proposer>>,
 ) -> Result<Answer, AllocError>
-    requires question { IsQuestion (question_body question.now) }
-    requires contains { (question_body question.now).verb ≡ Contain (region_view first.now) (region_view second.now) tries.now }
+    requires contains { IsContainment question.now.body.verb }
     ensures { IfOk result (λ a. IsAnswered budgets (map plan boxes.old.items) question.now a (map plan boxes.new.items)) }
 {
+    question.facts();
+    let Verb::Contain { second, tries, .. } = question.verb() else {
+        unreachable!()
+    };
     let pair = pair(alloc, question)?;
-    let tried = tried_of(alloc, second, tries)?;
+    let tried = tried_of(alloc, second, tries.as_slice())?;
     let end = contain(
         alloc,
         &pair,

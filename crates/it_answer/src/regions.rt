@@ -1,8 +1,7 @@
 //! The answer to a question that eliminates rates.
 ghost use Rattle.std.specs.Prelude.{◌≡◌, List, map, IfOk};
 ghost use Rattle.it_space.specs.Answers.{answer_view};
-ghost use Rattle.it_question.specs.Limits.{IsQuestion};
-ghost use Rattle.it_question.specs.Questions.{Eliminate, question_body};
+ghost use Rattle.it_question.specs.Questions.{Eliminate};
 ghost use Rattle.it_canon.specs.QuestionDemands.{IsProblemOf};
 ghost use Rattle.it_redundant.specs.ReducedElimination.{projected_view};
 ghost use Rattle.it_redundant.specs.Reduction.{need_view};
@@ -28,11 +27,11 @@ pub fn region(
     givens: &Problem,
     budgets: Budgets,
 ) -> Result<Answer, AllocError>
-    requires question { IsQuestion (question_body question.now) }
-    requires eliminates { (question_body question.now).verb ≡ Eliminate rates.now }
-    requires givens { IsProblemOf (question_body question.now) givens.now }
+    requires eliminates { question.now.body.verb ≡ Eliminate rates.now }
+    requires givens { IsProblemOf question.now.body givens.now }
     ensures { IfOk result (λ a. (plans : List Plan) → IsAnswered budgets plans question.now a plans) }
 {
+    question.facts();
     let system = system(alloc, question)?;
     let rows = budgets.rows as usize;
     let end = project(alloc, &system, rates, givens, rows, budgets.effort)?;

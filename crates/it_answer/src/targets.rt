@@ -2,8 +2,7 @@
 ghost use Rattle.std.specs.Prelude.{◌≡◌, map, IfOk};
 ghost use Rattle.it_space.specs.Answers.{answer_view};
 ghost use Rattle.it_syntax.specs.Meaning.{relation_view};
-ghost use Rattle.it_question.specs.Limits.{IsQuestion};
-ghost use Rattle.it_question.specs.Questions.{Contain, Prove, question_body, region_view};
+ghost use Rattle.it_question.specs.Questions.{Contain, Prove};
 ghost use Rattle.it_canon.specs.QuestionDemands.{terms_in};
 ghost use Rattle.it_region.specs.Obligations.{IsSubstitution};
 ghost use Rattle.it_answer.specs.AnswerKinds.{IsAnswerTo};
@@ -23,11 +22,10 @@ pub fn target_rows(
     question: &Question,
     answer: &Answer,
 ) -> Result<Vec<Row>, AllocError>
-    requires limits { IsQuestion (question_body question.now) }
-    requires fits { IsAnswerTo (question_body question.now) (answer_view answer.now) }
-    ensures { IfOk result (λ v. v.items ≡ map (terms_in (question_body question.now)) (answer_forms (question_body question.now) (answer_view answer.now))) }
+    requires fits { IsAnswerTo question.now.body (answer_view answer.now) }
+    ensures { IfOk result (λ v. v.items ≡ map (terms_in question.now.body) (answer_forms question.now.body (answer_view answer.now))) }
 {
-    match &question.verb {
+    match question.verb() {
         Verb::Prove(relation) => relation_rows(alloc, question, relation),
         Verb::Eliminate(_) => Ok(Vec::new(alloc)),
         Verb::Contain {
@@ -44,11 +42,10 @@ fn relation_rows(
     question: &Question,
     relation: &Relation,
 ) -> Result<Vec<Row>, AllocError>
-    requires limits { IsQuestion (question_body question.now) }
-    requires proves { (question_body question.now).verb ≡ Prove (relation_view relation.now) }
-    ensures { IfOk result (λ v. v.items ≡ relation_rows (question_body question.now) (relation_view relation.now)) }
+    requires proves { question.now.body.verb ≡ Prove (relation_view relation.now) }
+    ensures { IfOk result (λ v. v.items ≡ relation_rows question.now.body (relation_view relation.now)) }
 {
-    it_canon::target_rows(alloc, relation, question.names.space())
+    it_canon::target_rows(alloc, relation, question.space())
 }
 
 /// The rows of the obligations, where the answer is a containment.
@@ -60,10 +57,9 @@ fn contained_rows(
     tries: &[[VarSet; 4]],
     answer: &Answer,
 ) -> Result<Vec<Row>, AllocError>
-    requires limits { IsQuestion (question_body question.now) }
-    requires contains { (question_body question.now).verb ≡ Contain (region_view first.now) (region_view second.now) tries.now }
-    requires fits { IsAnswerTo (question_body question.now) (answer_view answer.now) }
-    ensures { IfOk result (λ v. v.items ≡ map (terms_in (question_body question.now)) (answer_forms (question_body question.now) (answer_view answer.now))) }
+    requires contains { question.now.body.verb ≡ Contain first.now second.now tries.now }
+    requires fits { IsAnswerTo question.now.body (answer_view answer.now) }
+    ensures { IfOk result (λ v. v.items ≡ map (terms_in question.now.body) (answer_forms question.now.body (answer_view answer.now))) }
 {
     match answer {
         Answer::Contained { parts, .. } => {
@@ -82,10 +78,9 @@ fn obligation_rows(
     tries: &[[VarSet; 4]],
     parts: &[VarSet],
 ) -> Result<Vec<Row>, AllocError>
-    requires limits { IsQuestion (question_body question.now) }
-    requires contains { (question_body question.now).verb ≡ Contain (region_view first.now) (region_view second.now) tries.now }
-    requires parts { IsSubstitution (region_view first.now) (region_view second.now) parts.now }
-    ensures { IfOk result (λ v. v.items ≡ obligation_rows (question_body question.now) (region_view first.now) (region_view second.now) parts.now) }
+    requires contains { question.now.body.verb ≡ Contain first.now second.now tries.now }
+    requires parts { IsSubstitution first.now second.now parts.now }
+    ensures { IfOk result (λ v. v.items ≡ obligation_rows question.now.body first.now second.now parts.now) }
 {
     let pair = pair(alloc, question)?;
     let candidate = candidate(parts);

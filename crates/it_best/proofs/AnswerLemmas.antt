@@ -113,15 +113,15 @@ module _ (q : ProblemView) (left right : Terms) (k : IsProblem q) (l : IsOver (s
 
 -- ---- the negated point of the first phase
 
-turned_map : (vs : List ℤ) (c : ℕ) → point_of (map neg_ℤ vs) c ≡ neg_ℤ (point_of vs c)
-turned_map vs zero = refl
-turned_map [] (suc c) = refl
-turned_map (y ∷ vs) (suc zero) = refl
-turned_map (y ∷ vs) (suc (suc c)) = turned_map vs (suc c)
+negated_map : (vs : List ℤ) (c : ℕ) → point_of (map neg_ℤ vs) c ≡ neg_ℤ (point_of vs c)
+negated_map vs zero = refl
+negated_map [] (suc c) = refl
+negated_map (y ∷ vs) (suc zero) = refl
+negated_map (y ∷ vs) (suc (suc c)) = negated_map vs (suc c)
 
-value_at_turned : (row : Terms) (vs : List ℤ) → value row (point_of (map neg_ℤ vs)) ≡ neg_ℤ (value row (point_of vs))
-value_at_turned [] vs = refl
-value_at_turned (t ∷ ts) vs = ap₂ (λ y z. t.1 *ℤ y +ℤ z) (turned_map vs t.0) (value_at_turned ts vs) ∙ regroup t.1 (point_of vs t.0) (value ts (point_of vs))
+value_at_negated : (row : Terms) (vs : List ℤ) → value row (point_of (map neg_ℤ vs)) ≡ neg_ℤ (value row (point_of vs))
+value_at_negated [] vs = refl
+value_at_negated (t ∷ ts) vs = ap₂ (λ y z. t.1 *ℤ y +ℤ z) (negated_map vs t.0) (value_at_negated ts vs) ∙ regroup t.1 (point_of vs t.0) (value ts (point_of vs))
   where
     regroup : (a y z : ℤ) → a *ℤ neg_ℤ y +ℤ neg_ℤ z ≡ neg_ℤ (a *ℤ y +ℤ z)
     regroup a y z = omega (arith, zring)
@@ -142,19 +142,19 @@ never_right q left right qs k l r s =
           (λ g u. Rattle.it_best.proofs.RowLemmas.negated_up size g.row u) rows),
     ) in
     let met = unknowns_met size (first_phase gs left) right qs up r s in
-    let turned : Every (λ g. Meets g.kind (value g.row (point_of (map neg_ℤ (scaled_point qs))))) gs =
+    let negated : Every (λ g. Meets g.kind (value g.row (point_of (map neg_ℤ (scaled_point qs))))) gs =
     every-same (λ g. Meets g.kind (value (negated_terms g.row) (point_of (scaled_point qs))))
     (λ g. Meets g.kind (value g.row (point_of (map neg_ℤ (scaled_point qs))))) gs
-    (λ g m. subst (Meets g.kind) (value-negated_terms g.row (point_of (scaled_point qs)) ∙ sym (value_at_turned g.row (scaled_point qs))) m)
+    (λ g m. subst (Meets g.kind) (value-negated_terms g.row (point_of (scaled_point qs)) ∙ sym (value_at_negated g.row (scaled_point qs))) m)
     (every_mapped (λ (u : Generator). Meets u.kind (value u.row (point_of (scaled_point qs)))) counterweight gs met.1) in
-    let both = listed_met q.space.variables q.constraints (point_of (map neg_ℤ (scaled_point qs))) refl turned in record {
+    let both = listed_met q.space.variables q.constraints (point_of (map neg_ℤ (scaled_point qs))) refl negated in record {
       point = record {
         complete = length-map (scaled_point qs) neg_ℤ ∙ length-map qs (scaled_number (scale_of qs)) ∙ s.complete
             ∙ Rattle.it_polymatroid.proofs.Spans.length-span 1 size;
         holds = both;
       };
-      zero = value_at_turned left (scaled_point qs) ∙ ap neg_ℤ met.0;
-      above = subst (λ (z : ℤ). pos 1 ≤ℤ z) (sym (value_at_turned right (scaled_point qs)))
+      zero = value_at_negated left (scaled_point qs) ∙ ap neg_ℤ met.0;
+      above = subst (λ (z : ℤ). pos 1 ≤ℤ z) (sym (value_at_negated right (scaled_point qs)))
           (above_zero (value right (point_of (scaled_point qs))) (target_below size (first_phase gs left) right qs up r s));
     }
   where

@@ -52,10 +52,10 @@ multiples_signed k [] gs a = tt
 multiples_signed k (x ∷ xs) [] a = tt
 multiples_signed k (x ∷ xs) (g ∷ gs) a = ((λ e. field_ℚ.order.mul-least x (integer (pos k)) (a.0 e) (whole_least k)), multiples_signed k xs gs a.1)
 
-pub turned_signed : (xs : List Rational) (gs : List Generator) → AreNumbers xs (map counterweight gs) → AreNumbers xs gs
-turned_signed [] gs a = tt
-turned_signed (x ∷ xs) [] a = tt
-turned_signed (x ∷ xs) (g ∷ gs) a = (a.0, turned_signed xs gs a.1)
+pub negated_signed : (xs : List Rational) (gs : List Generator) → AreNumbers xs (map counterweight gs) → AreNumbers xs gs
+negated_signed [] gs a = tt
+negated_signed (x ∷ xs) [] a = tt
+negated_signed (x ∷ xs) (g ∷ gs) a = (a.0, negated_signed xs gs a.1)
 
 every_single_term : (P : ℕ × ℤ → Type 0) (i : ℕ) (x : ℤ) → P (i, x) → Every P (single_term i x)
 every_single_term P i (pos zero) h = tt
@@ -125,7 +125,7 @@ factor_certified q left right x xs e a s = record {
   from_one = some x.den x.positive;
   lowest = x.lowest;
   certified = certifies_form (size_of q.space) (generators q) (λ p. x.num *ℤ value left p -ℤ (pos x.den) *ℤ value right p) x.den xs e
-      (turned_signed xs (generators q) a)
+      (negated_signed xs (generators q) a)
       (λ c h l. factor_sum c x xs (generators q) (coefficient left c) (coefficient right c) (s c h l)
       ∙ ap₂ (λ y z. integer (x.num *ℤ y -ℤ pos x.den *ℤ z)) (sym (value-one_at left c)) (sym (value-one_at right c)));
 }

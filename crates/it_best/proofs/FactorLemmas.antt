@@ -24,11 +24,11 @@ use Prim.Native.Nat.{◌∣◌}
 -- ---- sums of numbers
 
 -- the sum with the negated generators is the negated sum
-pub turned_sum : (c : ℕ) (xs : List Rational) (gs : List Generator) → number_sum c xs (map counterweight gs) ≡ minus (number_sum c xs gs)
-turned_sum c [] gs = ring ring_ℚ [] nil (S.minus nil) refl
-turned_sum c (x ∷ xs) [] = ring ring_ℚ [] nil (S.minus nil) refl
-turned_sum c (x ∷ xs) (g ∷ gs) =
-    ap₂ (λ y z. plus (times x y) z) (ap integer (coefficient-negated_terms c g.row) ∙ whole_minus (coefficient g.row c)) (turned_sum c xs gs)
+pub negated_sum : (c : ℕ) (xs : List Rational) (gs : List Generator) → number_sum c xs (map counterweight gs) ≡ minus (number_sum c xs gs)
+negated_sum c [] gs = ring ring_ℚ [] nil (S.minus nil) refl
+negated_sum c (x ∷ xs) [] = ring ring_ℚ [] nil (S.minus nil) refl
+negated_sum c (x ∷ xs) (g ∷ gs) =
+    ap₂ (λ y z. plus (times x y) z) (ap integer (coefficient-negated_terms c g.row) ∙ whole_minus (coefficient g.row c)) (negated_sum c xs gs)
     ∙ ring ring_ℚ (x ∷ integer (coefficient g.row c) ∷ number_sum c xs gs ∷ []) (S.plus (S.times (v 0) (S.minus (v 1))) (S.minus (v 2)))
     (S.minus (S.plus (S.times (v 0) (v 1)) (v 2))) refl
 
@@ -82,7 +82,7 @@ pub factor_sum : (c : ℕ) (x : Rational) (xs : List Rational) (gs : List Genera
 factor_sum c x xs gs l r e =
     multiple_sum c (pos x.den) xs gs
     ∙ ap (times (integer (pos x.den))) (weights_are (number_sum c xs gs) (times x (integer l)) (integer r)
-    (ap (plus (times x (integer l))) (sym (turned_sum c xs gs)) ∙ e))
+    (ap (plus (times x (integer l))) (sym (negated_sum c xs gs)) ∙ e))
     ∙ ring ring_ℚ (integer (pos x.den) ∷ x ∷ integer l ∷ integer r ∷ []) (S.times (v 0) (S.plus (S.times (v 1) (v 2)) (S.minus (v 3))))
     (S.plus (S.times (S.times (v 0) (v 1)) (v 2)) (S.minus (S.times (v 0) (v 3)))) refl
     ∙ ap₂ (λ y z. plus (times y (integer l)) (minus z)) (times_den x) (sym (whole_times (pos x.den) r))

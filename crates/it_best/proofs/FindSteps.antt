@@ -1,8 +1,6 @@
 -- From the ends of the phases' runs to the answer, step by step as the code goes.
-use Rattle.std.proofs.Common.{◌≡◌, ℕ, suc, ◌+◌, ◌^◌, ◌<◌, ◌≤◌, ℤ, pos, ◌*ℤ◌, ◌≤ℤ◌, List, [], ◌∷◌, ◌++◌, length, map, Option, Result, Ok, Err, inr, refl, sym, ap, ap₂, subst, subst₂, ◌∙◌, arith, take, drop, slice_index_or}
-use Rattle.std.specs.Result.{IfOk}
-use Rattle.std.proofs.Common.{◌↔◌, Bool, true, false}
-use Rattle.std.specs.Bool.{IsTrue}
+use Rattle.std.proofs.Common.{◌≡◌, ℕ, suc, ◌+◌, ◌^◌, ◌<◌, ◌≤◌, ℤ, pos, ◌*ℤ◌, ◌≤ℤ◌, List, [], ◌∷◌, ◌++◌, length, map, Option, Result, Ok, Err, refl, sym, ap, ap₂, subst, subst₂, ◌∙◌, arith, take, drop, slice_index_or}
+use Rattle.std.specs.Result.{IfErr, IfOk, IsErrAnd, OnOk}
 use Rattle.it_space.specs.Rows.{ValueFits}
 use Rattle.it_check.specs.Meaning.{PointFits}
 use Rattle.std.proofs.lemmas.List.{length-map, length-append}
@@ -26,8 +24,12 @@ use Rattle.it_columns.proofs.ColumnLemmas.{few_columns}
 use Rattle.it_ratio.specs.declared.types.Best.{Best}
 use Rattle.it_best.specs.declared.unknowns.Unknown.{Unknown}
 use Rattle.it_ratio.specs.BestViews.{BestView, best_view}
-use Rattle.it_best.specs.Ends.{EndsWith, FirstFollows, IsLarge, LeastPointFits, PhaseEnds, SidesFit, first, third}
-use Rattle.it_best.specs.PhaseSteps.{PhaseSums}
+use Rattle.it_best.specs.Ends.{EndsWith, LeastPointFits, PhaseEnds, SidesFit, first, third}
+use Rattle.it_best.specs.PhaseSteps.{End, FirstEnds, FollowsFirst, FollowsPhases, FollowsSecond, FollowsThird, HasSecondPoint, IsEndPoint, PhaseSums}
+use Rattle.it_best.specs.PhaseSteps.{SecondEnds, Settles, SidesView, first_unknowns}
+use Rattle.it_best.specs.declared.finding.Stop.{Stop}
+use Rattle.it_best.specs.declared.finding.Stop.TheVariants.{Answer, Memory}
+use Rattle.it_run.specs.Runs.RunEndView.{Weights, Point}
 use Rattle.it_best.specs.Factors.{IsRightBest, IsFactor, IsPoint, ground_of}
 use Rattle.it_best.specs.Numbers.{column_weight, numbers, weights_certificate}
 use Rattle.it_best.specs.Phases.{counterweight, coordinate_unknown, first_phase, right_equation, slack_by, slacks, third_phase, third_target, unknown_view, unknown_views}
@@ -186,16 +188,37 @@ pub right_result : {E : Type 0} (q : ProblemView) (left right : Terms) (budget :
 right_result q left right budget (Err e) k l r h = tt
 right_result q left right budget (Ok b) k l r h = best_is_right q left right budget (best_view b) k l r h
 
-pub not_large : (b : Bool) (P : Type 0) → b ≡ false → IsTrue b ↔ P → ¬ P
-not_large true P e i p = cc
-not_large false P e i p = Rattle.std.proofs.lemmas.Bool.false≢true (i.1 p)
+-- ---- from one phase to the next
 
--- where the table isn't too large, the answer by the first phase is the answer
-pub goes_on : {E : Type 0} (q : ProblemView) (left right : Terms) (budget : Option ℕ) (o : Result Best E) → ¬ (IsLarge q)
-    → IfOk o (λ b. (e : RunEndView (List (ℕ × Rational)) (List Rational)) × PhaseEnds (size_of q.space) (first q left right) right budget e
-    × FirstFollows q left right budget e (best_view b)) → IfOk o (λ b. EndsWith q left right budget (best_view b))
-goes_on q left right budget (Err e) small f = tt
-goes_on q left right budget (Ok b) small f = inr (small, f)
+-- the answer by the end of the first phase, which settles it
+pub first_settles : {T : Type 0} (s : SidesView) (budget : Option ℕ) (us : List Generator) (e : End) (r : Result T Stop) (stop : Stop)
+    → us ≡ first_unknowns s → FirstEnds s us budget e → IsErrAnd r (λ x. x ≡ stop) → Settles (λ b. (budget : Option ℕ) → FollowsFirst s budget e b) stop
+    → IfErr r (Settles (FollowsPhases s budget))
+first_settles s budget us e (Ok x) stop a p same f = tt
+first_settles s budget us e (Err x) stop a p same f = subst (Settles (FollowsPhases s budget)) (sym same) (by_stop stop f)
+  where
+    by_stop : (stop : Stop) → Settles (λ b. (budget : Option ℕ) → FollowsFirst s budget e b) stop → Settles (FollowsPhases s budget) stop
+    by_stop Memory f = tt
+    by_stop (Answer b) f = (e, subst (λ vs. FirstEnds s vs budget e) a p, f budget)
+
+-- the answer by the third phase, after weights of the first and a point of the second
+pub third_settles : (s : SidesView) (budget : Option ℕ) (us : List Generator) (e : End) (ws : List (ℕ × Rational)) (b : BestView) → us ≡ first_unknowns s
+    → FirstEnds s us budget e → e ≡ Weights ws → HasSecondPoint s budget → FollowsThird s budget b → FollowsPhases s budget b
+third_settles s budget us e ws b a p w point f = (Weights ws, subst₂ (λ vs x. FirstEnds s vs budget x) a w p, (Point point.0, point.1, f))
+
+-- the second phase ends with a point
+pub second_passes : {E : Type 0} (s : SidesView) (budget : Option ℕ) (us : List Generator) (e : End) (r : Result (Unit {0}) E) → us ≡ generators s.problem
+    → SecondEnds s us budget e → OnOk r (IsEndPoint e) → OnOk r (HasSecondPoint s budget)
+second_passes s budget us e (Err x) a p f = tt
+second_passes s budget us e (Ok x) a p f = (f.0, subst₂ (λ vs y. SecondEnds s vs budget y) a f.1 p)
+
+-- the second phase settles the answer
+pub second_settles : {T : Type 0} (s : SidesView) (budget : Option ℕ) (us : List Generator) (e : End) (ws : List (ℕ × Rational)) (r : Result T Stop)
+    → us ≡ generators s.problem → SecondEnds s us budget e → IfErr r (Settles (λ b. (budget : Option ℕ) → FollowsSecond s budget ws e b))
+    → IfErr r (Settles (FollowsFirst s budget (Weights ws)))
+second_settles s budget us e ws (Ok x) a p f = tt
+second_settles s budget us e ws (Err Memory) a p f = tt
+second_settles s budget us e ws (Err (Answer b)) a p f = (e, subst (λ vs. SecondEnds s vs budget e) a p, f budget)
 
 -- ---- the point of the least factor
 

@@ -157,9 +157,9 @@ pub scaled_point_within : (l : ℕ) (qs : List Rational) → l ≡ scale_of qs �
 scaled_point_within l qs e f = subst (λ n. All IsWithin (map (scaled_number n) qs)) e
     (all_of IsWithin (map (scaled_number l) qs) (every-map IsWithin (scaled_number l) qs f))
 
-pub turned_within : (xs : List ℤ) → All IsWithin xs → All IsWithin (map neg_ℤ xs)
-turned_within xs w = all_of IsWithin (map neg_ℤ xs) (every-map IsWithin neg_ℤ xs
+pub negated_within : (xs : List ℤ) → All IsWithin xs → All IsWithin (map neg_ℤ xs)
+negated_within xs w = all_of IsWithin (map neg_ℤ xs) (every-map IsWithin neg_ℤ xs
     (every-same IsWithin (λ x. IsWithin (neg_ℤ x)) xs (λ x h. omega (arith, size_negated x, h)) (every_of IsWithin xs w)))
 
-pub turned_fits : (x : ℤ) → IsWithin x → FitsSigned w128 (pos 0 -ℤ x)
-turned_fits x h = omega (arith, ints, h)
+pub negated_fits : (x : ℤ) → IsWithin x → FitsSigned w128 (pos 0 -ℤ x)
+negated_fits x h = omega (arith, ints, h)

@@ -1,35 +1,28 @@
 //! The answers by the numbers of the phases; `Scale` if one of these passes the limit.
 ghost use Rattle.std.specs.Prelude.{◌≡◌, IfErr, IfOk, OnOk};
-ghost use Rattle.it_space.specs.Spaces.{size_of};
 ghost use Rattle.it_run.specs.Runs.RunEndView.{Weights};
 ghost use Rattle.it_ratio.specs.BestViews.{best_view};
-ghost use Rattle.it_best.specs.Ends.{LeastFits, ThirdFollows, UnboundedFits, first, least_view, unbounded_view};
+ghost use Rattle.it_best.specs.Ends.{ThirdFollows};
 ghost use Rattle.it_best.specs.Phases.{unknown_views};
-ghost use Rattle.it_best.specs.PhaseSteps.{AreSides, FirstSums, FollowsPoint, FollowsWeights, PhaseSeparates, SecondSums, ThirdSums};
+ghost use Rattle.it_best.specs.PhaseSteps.{FirstSeparates, FirstSums, FitsLeast, FitsUnbounded, SecondSums, ThirdSums};
+ghost use Rattle.it_best.specs.PhaseSteps.{FollowsPoint, FollowsWeights, least_by, unbounded_by};
 
 use crate::judging::{below_proof, factor_proof, least_point, never_point};
 use crate::numbers::{factor_of, numbers, values_of, weights_of};
-use crate::unknowns::Unknown;
-use it_elemental::generator_count;
+use crate::sides::Sides;
+use crate::unknowns::Sum;
 use it_fraction::Fraction;
-use it_problems::Problem;
 use it_ratio::types::{Best, BestCause};
-use it_space::{Row, RowFault};
+use it_space::RowFault;
 use std::alloc::{AllocError, Global};
 
 /// The answer by the point of the first phase.
-pub fn never(
-    alloc: Global,
-    problem: &Problem,
-    left: &Row,
-    right: &Row,
-    values: &[Fraction],
-) -> Result<Best, AllocError>
-    requires sides { AreSides problem.now left.now right.now }
-    requires separates { PhaseSeparates (size_of problem.now.space) (first problem.now left.now right.now) right.now values.now }
-    ensures { IfOk result (λ b. FollowsPoint problem.now left.now right.now values.now (best_view b)) }
+pub fn never(alloc: Global, sides: &Sides<'_>, values: &[Fraction]) -> Result<Best, AllocError>
+    requires { FirstSeparates sides.now values.now }
+    ensures { IfOk result (λ b. FollowsPoint sides.now values.now (best_view b)) }
 {
-    match never_point(alloc, problem, left, right, values) {
+    sides.facts();
+    match never_point(alloc, sides, values) {
         Ok(point) => Ok(Best::Never(point)),
         Err(RowFault::Wide) => Ok(Best::Undecided(BestCause::Scale)),
         Err(RowFault::Memory) => Err(AllocError),
@@ -37,38 +30,22 @@ pub fn never(
 }
 
 /// The answer by the weights of the third phase; `Wide` if a number of it passes the limit.
-fn least_answer(
-    alloc: Global,
-    problem: &Problem,
-    left: &Row,
-    right: &Row,
-    unknowns: &[Unknown],
-    weights: &[(usize, Fraction)],
-) -> Result<Best, RowFault>
-    requires sides { AreSides problem.now left.now right.now }
-    requires third { ThirdSums problem.now left.now right.now (unknown_views unknowns.now) weights.now }
-    ensures value { IfOk result (λ b. best_view b ≡ least_view problem.now left.now right.now weights.now) }
-    ensures fits { OnOk result (LeastFits problem.now left.now right.now weights.now) }
-    ensures wide { IfErr result (λ f. f ≡ RowFault.Wide → ¬ (LeastFits problem.now left.now right.now weights.now)) }
+fn least_answer(alloc: Global, sides: &Sides<'_>, third: &Sum<'_>) -> Result<Best, RowFault>
+    requires { ThirdSums sides.now (unknown_views third.now.unknowns.now) third.now.weights.now }
+    ensures value { IfOk result (λ b. best_view b ≡ least_by sides.now third.now.weights.now) }
+    ensures fits { OnOk result (FitsLeast sides.now third.now.weights.now) }
+    ensures wide { IfErr result (λ f. f ≡ RowFault.Wide → ¬ (FitsLeast sides.now third.now.weights.now)) }
 {
-    let numbers = numbers(alloc, unknowns, weights)?;
+    sides.facts();
+    let numbers = numbers(alloc, third.unknowns, third.weights)?;
     let factor = factor_of(numbers.as_slice());
-    let count = generator_count(problem) as usize;
-    let proof = factor_proof(
-        alloc,
-        problem,
-        left,
-        right,
-        &factor,
-        weights_of(numbers.as_slice(), count),
-    )?;
+    let count = sides.generator_count() as usize;
+    let proof = factor_proof(alloc, sides, &factor, weights_of(numbers.as_slice(), count))?;
     let point = least_point(
         alloc,
-        problem,
-        left,
-        right,
+        sides,
         &factor,
-        values_of(numbers.as_slice(), count, problem.size() as usize),
+        values_of(numbers.as_slice(), count, sides.size() as usize),
     )?;
     Ok(Best::Least {
         num: factor.num(),
@@ -79,19 +56,11 @@ fn least_answer(
 }
 
 /// The answer by the weights of the third phase.
-pub fn least(
-    alloc: Global,
-    problem: &Problem,
-    left: &Row,
-    right: &Row,
-    unknowns: &[Unknown],
-    weights: &[(usize, Fraction)],
-) -> Result<Best, AllocError>
-    requires sides { AreSides problem.now left.now right.now }
-    requires third { ThirdSums problem.now left.now right.now (unknown_views unknowns.now) weights.now }
-    ensures { IfOk result (λ b. ThirdFollows problem.now left.now right.now (Weights weights.now) (best_view b)) }
+pub fn least(alloc: Global, sides: &Sides<'_>, third: &Sum<'_>) -> Result<Best, AllocError>
+    requires { ThirdSums sides.now (unknown_views third.now.unknowns.now) third.now.weights.now }
+    ensures { IfOk result (λ b. ThirdFollows sides.now.problem sides.now.left sides.now.right (Weights third.now.weights.now) (best_view b)) }
 {
-    match least_answer(alloc, problem, left, right, unknowns, weights) {
+    match least_answer(alloc, sides, third) {
         Ok(best) => Ok(best),
         Err(RowFault::Wide) => Ok(Best::Undecided(BestCause::Scale)),
         Err(RowFault::Memory) => Err(AllocError),
@@ -101,34 +70,28 @@ pub fn least(
 /// The answer by the weights of the first phase and of the second; `Wide` if a number of it passes the limit.
 fn unbounded_answer(
     alloc: Global,
-    problem: &Problem,
-    left: &Row,
-    right: &Row,
-    unknowns: &[Unknown],
-    weights: &[(usize, Fraction)],
-    others: &[Unknown],
-    below: &[(usize, Fraction)],
+    sides: &Sides<'_>,
+    first: &Sum<'_>,
+    second: &Sum<'_>,
 ) -> Result<Best, RowFault>
-    requires sides { AreSides problem.now left.now right.now }
-    requires first { FirstSums problem.now left.now right.now (unknown_views unknowns.now) weights.now }
-    requires second { SecondSums problem.now left.now (unknown_views others.now) below.now }
-    ensures value { IfOk result (λ b. best_view b ≡ unbounded_view problem.now left.now right.now weights.now below.now) }
-    ensures fits { OnOk result (UnboundedFits problem.now left.now right.now weights.now below.now) }
-    ensures wide { IfErr result (λ f. f ≡ RowFault.Wide → ¬ (UnboundedFits problem.now left.now right.now weights.now below.now)) }
+    requires first { FirstSums sides.now (unknown_views first.now.unknowns.now) first.now.weights.now }
+    requires second { SecondSums sides.now (unknown_views second.now.unknowns.now) second.now.weights.now }
+    ensures value { IfOk result (λ b. best_view b ≡ unbounded_by sides.now first.now.weights.now second.now.weights.now) }
+    ensures fits { OnOk result (FitsUnbounded sides.now first.now.weights.now second.now.weights.now) }
+    ensures wide { IfErr result (λ f. f ≡ RowFault.Wide → ¬ (FitsUnbounded sides.now first.now.weights.now second.now.weights.now)) }
 {
-    let first_numbers = numbers(alloc, unknowns, weights)?;
+    sides.facts();
+    let first_numbers = numbers(alloc, first.unknowns, first.weights)?;
     let factor = factor_of(first_numbers.as_slice());
-    let count = generator_count(problem) as usize;
+    let count = sides.generator_count() as usize;
     let proof = factor_proof(
         alloc,
-        problem,
-        left,
-        right,
+        sides,
         &factor,
         weights_of(first_numbers.as_slice(), count),
     )?;
-    let second_numbers = numbers(alloc, others, below)?;
-    let below = below_proof(alloc, problem, left, second_numbers.as_slice())?;
+    let second_numbers = numbers(alloc, second.unknowns, second.weights)?;
+    let below = below_proof(alloc, sides, second_numbers.as_slice())?;
     Ok(Best::Unbounded {
         num: factor.num(),
         den: factor.den(),
@@ -140,22 +103,15 @@ fn unbounded_answer(
 /// The answer by the weights of the first phase and of the second.
 pub fn unbounded(
     alloc: Global,
-    problem: &Problem,
-    left: &Row,
-    right: &Row,
-    unknowns: &[Unknown],
-    weights: &[(usize, Fraction)],
-    others: &[Unknown],
-    below: &[(usize, Fraction)],
+    sides: &Sides<'_>,
+    first: &Sum<'_>,
+    second: &Sum<'_>,
 ) -> Result<Best, AllocError>
-    requires sides { AreSides problem.now left.now right.now }
-    requires first { FirstSums problem.now left.now right.now (unknown_views unknowns.now) weights.now }
-    requires second { SecondSums problem.now left.now (unknown_views others.now) below.now }
-    ensures { IfOk result (λ b. FollowsWeights problem.now left.now right.now weights.now below.now (best_view b)) }
+    requires first { FirstSums sides.now (unknown_views first.now.unknowns.now) first.now.weights.now }
+    requires second { SecondSums sides.now (unknown_views second.now.unknowns.now) second.now.weights.now }
+    ensures { IfOk result (λ b. FollowsWeights sides.now first.now.weights.now second.now.weights.now (best_view b)) }
 {
-    match unbounded_answer(
-        alloc, problem, left, right, unknowns, weights, others, below,
-    ) {
+    match unbounded_answer(alloc, sides, first, second) {
         Ok(best) => Ok(best),
         Err(RowFault::Wide) => Ok(Best::Undecided(BestCause::Scale)),
         Err(RowFault::Memory) => Err(AllocError),

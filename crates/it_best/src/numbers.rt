@@ -1,7 +1,7 @@
 //! The numbers of unknowns by the weights of their columns, and these made whole.
 ghost use Rattle.std.specs.Prelude.{◌≡◌, ◌<◌, ◌^◌, ◌++◌, ◌+◌, ◌∷◌, [], map, neg_ℤ, length, All, IfErr, IfOk, OkIff, OnOk, take, drop, slice_index_or, pos};
 ghost use Rattle.std.specs.List.{AllByRecursion as Every};
-ghost use Rattle.it_number.specs.Limit.{IsWithin};
+ghost use Rattle.it_number.specs.Limit.{IsWithin, signed_limit};
 ghost use Rattle.it_rational.specs.Rational.{integer, times};
 ghost use Rattle.it_fraction.specs.Fits.{IsNarrow};
 ghost use Rattle.it_run.specs.Readings.{AreWeights};
@@ -24,7 +24,7 @@ use std::alloc::{AllocError, Global};
 
 /// The weight of `column`, 0 if it has none.
 fn column_weight(weights: &[(usize, Fraction)], column: usize) -> Fraction
-    requires { AreWeights rationals (2 ^ 63) 0 weights.now }
+    requires { AreWeights rationals signed_limit 0 weights.now }
     ensures { result ≡ column_weight weights.now column }
 {
     for weight in weights {
@@ -38,7 +38,7 @@ fn column_weight(weights: &[(usize, Fraction)], column: usize) -> Fraction
 /// The number of an unknown of this kind whose first column is `column`: that column's weight, less the second column's if there is one.
 /// `Wide` if a number of the difference passes the limit.
 fn number_of(weights: &[(usize, Fraction)], kind: Kind, column: usize) -> Result<Fraction, Wide>
-    requires ordered { AreWeights rationals (2 ^ 63) 0 weights.now }
+    requires ordered { AreWeights rationals signed_limit 0 weights.now }
     requires few { column < 2 ^ 62 }
     ensures { OkIff result (NumberFits kind (column_weight weights.now) column) (number_of weights.now kind column) }
 {
@@ -58,7 +58,7 @@ fn push_number(
     kind: Kind,
     column: usize,
 ) -> Result<(), RowFault>
-    requires ordered { AreWeights rationals (2 ^ 63) 0 weights.now }
+    requires ordered { AreWeights rationals signed_limit 0 weights.now }
     requires few { column < 2 ^ 62 }
     ensures value { OnOk result (numbers.new.items ≡ numbers.old.items ++ number_of weights.now kind column ∷ []) }
     ensures fits { OnOk result (NumberFits kind (column_weight weights.now) column) }
@@ -75,7 +75,7 @@ pub fn numbers(
     unknowns: &[Unknown],
     weights: &[(usize, Fraction)],
 ) -> Result<Vec<Fraction>, RowFault>
-    requires ordered { AreWeights rationals (2 ^ 63) 0 weights.now }
+    requires ordered { AreWeights rationals signed_limit 0 weights.now }
     requires few { length unknowns.now < 2 ^ 32 }
     ensures value { IfOk result (λ v. v.items ≡ numbers (unknown_views unknowns.now) weights.now) }
     ensures fits { OnOk result (DifferencesFit 0 (unknown_views unknowns.now) (column_weight weights.now)) }
@@ -179,19 +179,19 @@ pub fn whole_point(alloc: Global, space: Space, numbers: &[Fraction]) -> Result<
 }
 
 /// The negated values.
-fn turned_values(alloc: Global, values: &[i128]) -> Result<Vec<i128>, AllocError>
+fn negated_values(alloc: Global, values: &[i128]) -> Result<Vec<i128>, AllocError>
     requires { All IsWithin values.now }
     ensures { IfOk result (λ v. v.items ≡ map neg_ℤ values.now) }
 {
-    let mut turned = Vec::new(alloc);
+    let mut negated = Vec::new(alloc);
     for value in values {
-        turned.push(-*value)?;
+        negated.push(-*value)?;
     }
-    Ok(turned)
+    Ok(negated)
 }
 
 /// The point with the negated values of `whole_point`. `Wide` as for `whole_values`.
-pub fn turned_point(alloc: Global, space: Space, numbers: &[Fraction]) -> Result<Point, RowFault>
+pub fn negated_point(alloc: Global, space: Space, numbers: &[Fraction]) -> Result<Point, RowFault>
     requires space { IsSpace space }
     requires complete { length numbers.now ≡ size_of space }
     ensures value { IfOk result (λ p. p ≡ map neg_ℤ (scaled_point numbers.now)) }
@@ -199,8 +199,8 @@ pub fn turned_point(alloc: Global, space: Space, numbers: &[Fraction]) -> Result
     ensures wide { IfErr result (λ f. f ≡ RowFault.Wide → ¬ (NumbersFit numbers.now)) }
 {
     let values = whole_values(alloc, numbers)?;
-    let turned = turned_values(alloc, values.as_slice())?;
-    Ok(Point::new(space, turned))
+    let negated = negated_values(alloc, values.as_slice())?;
+    Ok(Point::new(space, negated))
 }
 
 /// The factor: the first number.

@@ -1,13 +1,13 @@
 //! The unknowns of the three phases.
 ghost use Rattle.std.specs.Prelude.{◌≡◌, ◌≢◌, ◌<◌, ◌+◌, ◌^◌, ◌++◌, ◌∷◌, [], pos, List, length, map, All, IfOk, OnOk};
 ghost use Rattle.it_number.specs.Limit.{IsWithin};
-ghost use Rattle.it_space.specs.Rows.{IsOver, coefficient};
+ghost use Rattle.it_space.specs.Rows.{coefficient};
 ghost use Rattle.it_space.specs.Spaces.{size_of};
 ghost use Rattle.it_elemental.specs.Generators.{Generator, generators, generator_at};
-ghost use Rattle.it_best.specs.Ends.{third};
-ghost use Rattle.it_best.specs.PhaseSteps.{IsCoordinateKind, all_slacks, all_values};
-ghost use Rattle.it_best.specs.Phases.{coordinate_row, coordinate_terms, counterweight, first_phase, left_equation, right_equation, slack_by, unknown_view, unknown_views};
+ghost use Rattle.it_best.specs.PhaseSteps.{IsCoordinateKind, all_slacks, all_values, first_unknowns, row_at, third_unknowns};
+ghost use Rattle.it_best.specs.Phases.{coordinate_terms, counterweight, left_equation, right_equation, slack_by, unknown_view, unknown_views};
 
+use crate::sides::Sides;
 use crate::unknowns::Unknown;
 use it_columns::{generator_row, opposite_row};
 use it_elemental::{generator_count, kind_at};
@@ -56,16 +56,16 @@ fn push_counterweights(
 }
 
 /// The unknowns of the first phase: the factor, and the weights of the generators. They should sum to the right side.
-pub fn first_phase(alloc: Global, problem: &Problem, left: &Row) -> Result<Vec<Unknown>, AllocError>
-    ensures { IfOk result (λ v. unknown_views v.items ≡ first_phase (generators problem.now) left.now) }
+pub fn first_phase(alloc: Global, sides: &Sides<'_>) -> Result<Vec<Unknown>, AllocError>
+    ensures { IfOk result (λ v. unknown_views v.items ≡ first_unknowns sides.now) }
 {
     let mut unknowns = Vec::new(alloc);
-    let row = left.copy(alloc)?;
+    let row = sides.left().copy(alloc)?;
     unknowns.push(Unknown {
         kind: Kind::Equation,
         row,
     })?;
-    push_counterweights(&mut unknowns, alloc, problem)?;
+    push_counterweights(&mut unknowns, alloc, sides.problem())?;
     Ok(unknowns)
 }
 
@@ -94,21 +94,21 @@ fn generator_rows(alloc: Global, problem: &Problem) -> Result<Vec<Row>, AllocErr
 }
 
 /// The number of the equation of the left side's value at the point, which is 1.
-pub fn left_equation(problem: &Problem) -> u32
-    ensures value { result ≡ left_equation (size_of problem.now.space) (generators problem.now) }
+pub fn left_equation(sides: &Sides<'_>) -> u32
+    ensures value { result ≡ left_equation (size_of sides.now.problem.space) (generators sides.now.problem) }
     ensures few { result < 2 ^ 22 }
 {
-    problem.facts();
-    problem.size() + generator_count(problem) + 1
+    sides.facts();
+    sides.size() + sides.generator_count() + 1
 }
 
 /// The number of the equation of the right side's value at the point, which is the factor.
-pub fn right_equation(problem: &Problem) -> u32
-    ensures value { result ≡ right_equation (size_of problem.now.space) (generators problem.now) }
+pub fn right_equation(sides: &Sides<'_>) -> u32
+    ensures value { result ≡ right_equation (size_of sides.now.problem.space) (generators sides.now.problem) }
     ensures few { result < 2 ^ 22 }
 {
-    problem.facts();
-    problem.size() + generator_count(problem) + 2
+    sides.facts();
+    sides.size() + sides.generator_count() + 2
 }
 
 /// `row` with the term `coefficient` at `coordinate` after its own.
@@ -150,60 +150,56 @@ fn coordinate_terms(
     Ok(terms)
 }
 
-/// The coefficients of the generators and of the sides at `coordinate`, as a row over the equations.
+/// The coefficients of the generators, which have these rows, and of the sides at `coordinate`, as a row over the equations.
 fn coordinate_row(
     alloc: Global,
-    problem: &Problem,
+    sides: &Sides<'_>,
     rows: &[Row],
-    left: &Row,
-    right: &Row,
     coordinate: u32,
 ) -> Result<Row, AllocError>
-    requires rows { rows.now ≡ map (λ g. g.row) (generators problem.now) }
-    ensures { IfOk result (λ r. r ≡ coordinate_row (size_of problem.now.space) (generators problem.now) left.now right.now coordinate) }
+    requires { rows.now ≡ map (λ g. g.row) (generators sides.now.problem) }
+    ensures { IfOk result (λ r. r ≡ row_at sides.now coordinate) }
 {
-    problem.facts();
-    let mut terms = coordinate_terms(alloc, rows, problem.size() + 1, coordinate)?;
+    sides.facts();
+    let mut terms = coordinate_terms(alloc, rows, sides.size() + 1, coordinate)?;
     push_some(
         &mut terms,
-        left_equation(problem),
-        left.coefficient(coordinate),
+        left_equation(sides),
+        sides.left().coefficient(coordinate),
     )?;
     push_some(
         &mut terms,
-        right_equation(problem),
-        right.coefficient(coordinate),
+        right_equation(sides),
+        sides.right().coefficient(coordinate),
     )?;
     Ok(Row::new(terms))
 }
 
 /// The kind of the value at `coordinate`: at least 0 for a set, any number for a rate.
-fn coordinate_kind(problem: &Problem, coordinate: u32) -> Kind
-    ensures { IsCoordinateKind problem.now.space.variables coordinate result }
+fn coordinate_kind(sides: &Sides<'_>, coordinate: u32) -> Kind
+    ensures { IsCoordinateKind sides.now.problem.space.variables coordinate result }
 {
-    if coordinate < 1 << problem.space().variables {
+    if coordinate < 1 << sides.space().variables {
         Kind::Inequality
     } else {
         Kind::Equation
     }
 }
 
-/// Appends the values of the point at all coordinates.
+/// Appends the values of the point at all coordinates, by the rows of the generators.
 fn push_values(
     unknowns: &mut Vec<Unknown>,
     alloc: Global,
-    problem: &Problem,
+    sides: &Sides<'_>,
     rows: &[Row],
-    left: &Row,
-    right: &Row,
 ) -> Result<(), AllocError>
-    requires rows { rows.now ≡ map (λ g. g.row) (generators problem.now) }
-    ensures { OnOk result (unknown_views unknowns.new.items ≡ unknown_views unknowns.old.items ++ all_values problem.now left.now right.now) }
+    requires { rows.now ≡ map (λ g. g.row) (generators sides.now.problem) }
+    ensures { OnOk result (unknown_views unknowns.new.items ≡ unknown_views unknowns.old.items ++ all_values sides.now) }
 {
-    problem.facts();
-    for coordinate in 1..problem.size() + 1 {
-        let row = coordinate_row(alloc, problem, rows, left, right, coordinate)?;
-        let kind = coordinate_kind(problem, coordinate);
+    sides.facts();
+    for coordinate in 1..sides.size() + 1 {
+        let row = coordinate_row(alloc, sides, rows, coordinate)?;
+        let kind = coordinate_kind(sides, coordinate);
         unknowns.push(Unknown { kind, row })?;
     }
     Ok(())
@@ -249,24 +245,20 @@ fn push_slacks(
 
 /// The unknowns of the third phase: the factor, the weights of the generators, the values of a point, and the slack of each inequality
 /// there. They should sum to the right side, with 1 at the equation of the left side's value.
-pub fn third_phase(
-    alloc: Global,
-    problem: &Problem,
-    left: &Row,
-    right: &Row,
-) -> Result<Vec<Unknown>, AllocError>
-    requires left { IsOver (size_of problem.now.space) left.now }
-    ensures { IfOk result (λ v. unknown_views v.items ≡ third problem.now left.now right.now) }
+pub fn third_phase(alloc: Global, sides: &Sides<'_>) -> Result<Vec<Unknown>, AllocError>
+    ensures { IfOk result (λ v. unknown_views v.items ≡ third_unknowns sides.now) }
 {
+    sides.facts();
+    let problem = sides.problem();
     let rows = generator_rows(alloc, problem)?;
     let mut unknowns = Vec::new(alloc);
-    let row = with_term(alloc, left, right_equation(problem), -1)?;
+    let row = with_term(alloc, sides.left(), right_equation(sides), -1)?;
     unknowns.push(Unknown {
         kind: Kind::Equation,
         row,
     })?;
     push_counterweights(&mut unknowns, alloc, problem)?;
-    push_values(&mut unknowns, alloc, problem, rows.as_slice(), left, right)?;
+    push_values(&mut unknowns, alloc, sides, rows.as_slice())?;
     push_slacks(&mut unknowns, alloc, problem)?;
     Ok(unknowns)
 }

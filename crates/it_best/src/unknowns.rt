@@ -5,6 +5,7 @@ ghost use Rattle.it_columns.specs.Columns.{columns};
 ghost use Rattle.it_best.specs.Phases.{unknown_views};
 
 use it_columns::push_row;
+use it_fraction::Fraction;
 use it_problems::Kind;
 use it_space::Row;
 use std::alloc::{AllocError, Global};
@@ -20,6 +21,13 @@ impl Drop for Unknown {
     fn drop(self) {
         let Unknown { kind: _, row: _ } = self;
     }
+}
+
+/// Unknowns with weights of their columns, each above 0 and after the number of its column: a weighted sum of the columns.
+#[derive(Drop)]
+pub struct Sum<'a> {
+    pub unknowns: &'a [Unknown],
+    pub weights: &'a [(usize, Fraction)],
 }
 
 /// The columns of `unknowns`, in order: the row of an unknown that is at least 0, and of any other its row and the negated row.

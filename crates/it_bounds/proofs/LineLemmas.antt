@@ -6,17 +6,16 @@ use Rattle.it_number.specs.Gcd.{gcd}
 use Rattle.it_space.specs.Divisors.{content, divided_terms}
 use Rattle.it_space.specs.declared.answers.Certificate.{Certificate}
 use Rattle.it_space.specs.declared.answers.Mark.{Mark}
-use Rattle.it_problems.specs.declared.problems.Constraint.{Constraint}
 use Rattle.it_space.specs.Answers.{certificate_view}
 use Rattle.it_space.specs.Rows.{Terms, point_of}
 use Rattle.it_space.proofs.Contents.{lowest_terms_is}
 use Rattle.it_space.proofs.ListLemmas.{drop_item}
 use Rattle.it_syntax.specs.NamesViews.{NamesView}
-use Rattle.it_question.specs.Questions.{BodyView}
-use Rattle.it_question.specs.ProblemLines.{problem_names}
-use Rattle.it_print.specs.Lines.{joined_texts, origins_of}
+use Rattle.it_print.specs.declared.posed.PosedQuestion.{PosedQuestion}
+use Rattle.it_print.specs.Lines.{joined_texts}
+use Rattle.it_print.specs.PosedQuestions.{names_of, posed_origins}
 use Rattle.it_bounds.specs.Lines.{bounds_lines, rate_text, told_rates, rates_text, ray_line, values_at}
-use Rattle.it_bounds.specs.LineSteps.{count_line, row_lines}
+use Rattle.it_bounds.specs.LineSteps.{bound_lines}
 
 -- ---- the common divisor
 
@@ -67,15 +66,12 @@ rays_done k v w kept own rays i out initial same is l now =
 
 -- ---- the lines of a bound
 
-pub bounds_text : (q : BodyView) (constraints : List Constraint) (k : ℕ) (rows rs : List (Mark × Terms)) (proofs ws : List Certificate)
-    (rays ps : List (List ℤ)) → rs ≡ rows → ws ≡ proofs → ps ≡ rays
-    → count_line k (length rs) (length ps) ++ row_lines q constraints k rs ws ++ flat_map (ray_line k (problem_names q) (told_rates q)) ps
-    ≡ bounds_lines k (problem_names q) (told_rates q) (origins_of constraints) rows (map certificate_view proofs) rays
+pub bounds_text : (p : PosedQuestion) (rows rs : List (Mark × Terms)) (proofs ws : List Certificate) (rays ps : List (List ℤ))
+    → rs ≡ rows → ws ≡ proofs → ps ≡ rays
+    → bound_lines p rs ws ps
+    ≡ bounds_lines p.number (names_of p) (told_rates p.question.now.body) (posed_origins p) rows (map certificate_view proofs) rays
 unfolding bounds_lines
-bounds_text q constraints k rows rs proofs ws rays ps e f g =
-    ap (λ (xs : List (Mark × Terms)). count_line k (length xs) (length ps) ++ row_lines q constraints k xs ws
-    ++ flat_map (ray_line k (problem_names q) (told_rates q)) ps) e
-    ∙ ap (λ (xs : List Certificate). count_line k (length rows) (length ps) ++ row_lines q constraints k rows xs
-    ++ flat_map (ray_line k (problem_names q) (told_rates q)) ps) f
-    ∙ ap (λ (xs : List (List ℤ)). count_line k (length rows) (length xs) ++ row_lines q constraints k rows proofs
-    ++ flat_map (ray_line k (problem_names q) (told_rates q)) xs) g
+bounds_text p rows rs proofs ws rays ps e f g =
+    ap (λ (xs : List (Mark × Terms)). bound_lines p xs ws ps) e
+    ∙ ap (λ (xs : List Certificate). bound_lines p rows xs ps) f
+    ∙ ap (λ (xs : List (List ℤ)). bound_lines p rows proofs xs) g

@@ -1,17 +1,14 @@
 //! The lines of mode `outer`.
-ghost use Rattle.std.specs.Prelude.{◌≡◌, ◌≤◌, ◌++◌, All, IfOk, OnOk, codes, decimal, flat_map, length};
+ghost use Rattle.std.specs.Prelude.{◌≡◌, ◌≤◌, ◌++◌, All, IfOk, OnOk, codes, decimal, length};
 ghost use Rattle.it_space.specs.Spaces.{size_of, most_variables, most_rates};
 ghost use Rattle.it_demand.specs.QuestionSpaces.{space_of};
 ghost use Rattle.it_syntax.specs.NamesViews.{NamesView};
-ghost use Rattle.it_question.specs.Limits.{IsQuestion};
-ghost use Rattle.it_question.specs.Questions.{question_body};
-ghost use Rattle.it_question.specs.ProblemLines.{problem_names};
-ghost use Rattle.it_canon.specs.TrueLines.{variable_count};
-ghost use Rattle.it_print.specs.Lines.{AreListed, IsRowOver, cause_text, origins_of};
+ghost use Rattle.it_print.specs.Lines.{IsRowOver, cause_text, origins_of};
+ghost use Rattle.it_print.specs.PosedQuestions.{IsCertificateOf, names_of};
 ghost use Rattle.it_outer.specs.Outer.{cause_view};
 ghost use Rattle.it_outer.specs.Rounds.{ArePlaces};
-ghost use Rattle.it_bounds.specs.Lines.{AreOfNames, IsCausePrintable, IsOfRun, IsPrintable, bounds_cause_text, told_rates, ray_line, reply_lines};
-ghost use Rattle.it_bounds.specs.LineSteps.{IsThere, count_line, proof_text, row_line, row_lines};
+ghost use Rattle.it_bounds.specs.Lines.{AreOfNames, IsCausePrintable, IsOfRun, IsPrintable, bounds_cause_text, ray_line, reply_lines};
+ghost use Rattle.it_bounds.specs.LineSteps.{bound_lines, count_line, ray_lines, row_line, row_lines};
 ghost use Rattle.it_bounds.specs.Replies.{reply_view};
 
 use crate::rays::write_rates;
@@ -19,7 +16,7 @@ use crate::types::Reply;
 use it_canon::problem_names;
 use it_hull::kept_coordinates;
 use it_outer::{Limits, OuterCause};
-use it_print::{row_text, sum_text, values_text, write_number, write_signed};
+use it_print::{PosedQuestion, row_text, values_text, write_number, write_proof};
 use it_problems::{Constraint, Kind};
 use it_question::types::Question;
 use it_rates::gone_rates;
@@ -38,20 +35,24 @@ pub fn reply_lines(
     constraints: &[Constraint],
     reply: &Reply,
 ) -> Result<Vec<u8>, AllocError>
-    requires question { IsQuestion (question_body question.now) }
-    requires printable { IsPrintable (question_body question.now) (length constraints.now) reply.now }
-    ensures { IfOk result (λ t. t.items ≡ reply_lines limits k (question_body question.now) (origins_of constraints.now) (reply_view reply.now)) }
+    requires printable { IsPrintable question.now.body (length constraints.now) reply.now }
+    ensures { IfOk result (λ t. t.items ≡ reply_lines limits k question.now.body (origins_of constraints.now) (reply_view reply.now)) }
 {
     match reply {
-        Reply::Bounded { rows, proofs, rays } => bounds_lines(
-            alloc,
-            k,
-            question,
-            constraints,
-            rows.as_slice(),
-            proofs.as_slice(),
-            rays.as_slice(),
-        ),
+        Reply::Bounded { rows, proofs, rays } => {
+            let posed = PosedQuestion {
+                number: k,
+                question,
+                constraints,
+            };
+            bounds_lines(
+                alloc,
+                &posed,
+                rows.as_slice(),
+                proofs.as_slice(),
+                rays.as_slice(),
+            )
+        }
         Reply::Undecided(cause) => undecided_line(alloc, limits, k, problem_names(question), cause),
         Reply::Size => word_line(alloc, k, b" undecided size\n"),
         Reply::Other => word_line(alloc, k, b" other\n"),
@@ -72,24 +73,21 @@ fn word_line(alloc: Global, k: usize, words: &[u8]) -> Result<Vec<u8>, AllocErro
 #[tactic(auto, unfolding(crate::specs::Lines::bounds_lines))]
 fn bounds_lines(
     alloc: Global,
-    k: usize,
-    question: &Question,
-    constraints: &[Constraint],
+    posed: &PosedQuestion<'_>,
     rows: &[(Mark, Row)],
     proofs: &[Certificate],
     rays: &[Point],
 ) -> Result<Vec<u8>, AllocError>
-    requires question { IsQuestion (question_body question.now) }
     requires as_many { length rows.now ≡ length proofs.now }
-    requires rows { All (λ row. IsRowOver (problem_names (question_body question.now)) row.1) rows.now }
-    requires there { AreListed (variable_count (question_body question.now)) (length constraints.now) proofs.now }
-    requires rays { AreOfNames (problem_names (question_body question.now)) rays.now }
-    ensures { IfOk result (λ t. t.items ≡ count_line k (length rows.now) (length rays.now) ++ row_lines (question_body question.now) constraints.now k rows.now proofs.now ++ flat_map (ray_line k (problem_names (question_body question.now)) (told_rates (question_body question.now))) rays.now) }
+    requires rows { All (λ row. IsRowOver (names_of posed.now) row.1) rows.now }
+    requires there { All (IsCertificateOf posed.now) proofs.now }
+    requires rays { AreOfNames (names_of posed.now) rays.now }
+    ensures { IfOk result (λ t. t.items ≡ bound_lines posed.now rows.now proofs.now rays.now) }
 {
     let mut out = Vec::new(alloc);
-    write_count(&mut out, k, rows.len(), rays.len())?;
-    write_rows(alloc, &mut out, k, question, constraints, rows, proofs)?;
-    write_rays(alloc, &mut out, k, question, rays)?;
+    write_count(&mut out, posed.number, rows.len(), rays.len())?;
+    write_rows(alloc, &mut out, posed, rows, proofs)?;
+    write_rays(alloc, &mut out, posed, rays)?;
     Ok(out)
 }
 
@@ -109,20 +107,17 @@ fn write_count(out: &mut Vec<u8>, k: usize, rows: usize, rays: usize) -> Result<
 fn write_rows(
     alloc: Global,
     out: &mut Vec<u8>,
-    k: usize,
-    question: &Question,
-    constraints: &[Constraint],
+    posed: &PosedQuestion<'_>,
     rows: &[(Mark, Row)],
     proofs: &[Certificate],
 ) -> Result<(), AllocError>
-    requires some { 1 ≤ variable_count (question_body question.now) }
     requires as_many { length rows.now ≡ length proofs.now }
-    requires rows { All (λ row. IsRowOver (problem_names (question_body question.now)) row.1) rows.now }
-    requires there { AreListed (variable_count (question_body question.now)) (length constraints.now) proofs.now }
-    ensures { OnOk result (out.new.items ≡ out.old.items ++ row_lines (question_body question.now) constraints.now k rows.now proofs.now) }
+    requires rows { All (λ row. IsRowOver (names_of posed.now) row.1) rows.now }
+    requires there { All (IsCertificateOf posed.now) proofs.now }
+    ensures { OnOk result (out.new.items ≡ out.old.items ++ row_lines posed.now rows.now proofs.now) }
 {
     for i in 0..rows.len() {
-        write_row(alloc, out, k, question, constraints, &rows[i], &proofs[i])?;
+        write_row(alloc, out, posed, &rows[i], &proofs[i])?;
     }
     Ok(())
 }
@@ -132,63 +127,40 @@ fn write_rows(
 fn write_row(
     alloc: Global,
     out: &mut Vec<u8>,
-    k: usize,
-    question: &Question,
-    constraints: &[Constraint],
+    posed: &PosedQuestion<'_>,
     row: &(Mark, Row),
     proof: &Certificate,
 ) -> Result<(), AllocError>
-    requires some { 1 ≤ variable_count (question_body question.now) }
-    requires row { IsRowOver (problem_names (question_body question.now)) row.now.1 }
-    requires there { IsThere (variable_count (question_body question.now)) (length constraints.now) proof.now }
-    ensures { OnOk result (out.new.items ≡ out.old.items ++ row_line (question_body question.now) constraints.now k row.now proof.now) }
+    requires row { IsRowOver (names_of posed.now) row.now.1 }
+    requires there { IsCertificateOf posed.now proof.now }
+    ensures { OnOk result (out.new.items ≡ out.old.items ++ row_line posed.now row.now proof.now) }
 {
-    write_number(out, k)?;
+    write_number(out, posed.number)?;
     out.extend_from_slice(b" row ")?;
     out.extend_from_slice(row.0.word().as_bytes())?;
     out.extend_from_slice(b" ")?;
-    let text = row_text(alloc, &row.1, Kind::Inequality, problem_names(question))?;
+    let names = problem_names(posed.question);
+    let text = row_text(alloc, &row.1, Kind::Inequality, names)?;
     out.extend_from_slice(text.as_slice())?;
     out.extend_from_slice(b" by ")?;
-    write_proof(alloc, out, question, constraints, proof)?;
+    write_proof(alloc, out, posed, proof)?;
     out.extend_from_slice(b"\n")
-}
-
-/// Appends a certificate: its scale and its sum.
-#[tactic(auto, unfolding(it_print::specs::Lines::certificate_text))]
-fn write_proof(
-    alloc: Global,
-    out: &mut Vec<u8>,
-    question: &Question,
-    constraints: &[Constraint],
-    proof: &Certificate,
-) -> Result<(), AllocError>
-    requires some { 1 ≤ variable_count (question_body question.now) }
-    requires there { IsThere (variable_count (question_body question.now)) (length constraints.now) proof.now }
-    ensures { OnOk result (out.new.items ≡ out.old.items ++ proof_text (question_body question.now) constraints.now proof.now) }
-{
-    write_signed(out, proof.scale)?;
-    out.extend_from_slice(b" : ")?;
-    let sum = sum_text(alloc, question, constraints, proof)?;
-    out.extend_from_slice(sum.as_slice())
 }
 
 /// Appends the lines of rays.
 fn write_rays(
     alloc: Global,
     out: &mut Vec<u8>,
-    k: usize,
-    question: &Question,
+    posed: &PosedQuestion<'_>,
     rays: &[Point],
 ) -> Result<(), AllocError>
-    requires question { IsQuestion (question_body question.now) }
-    requires rays { AreOfNames (problem_names (question_body question.now)) rays.now }
-    ensures { OnOk result (out.new.items ≡ out.old.items ++ flat_map (ray_line k (problem_names (question_body question.now)) (told_rates (question_body question.now))) rays.now) }
+    requires rays { AreOfNames (names_of posed.now) rays.now }
+    ensures { OnOk result (out.new.items ≡ out.old.items ++ ray_lines posed.now rays.now) }
 {
-    let names = problem_names(question);
-    let kept = kept_coordinates(alloc, names.space(), gone_rates(&question.verb))?;
+    let names = problem_names(posed.question);
+    let kept = kept_coordinates(alloc, names.space(), gone_rates(posed.question.verb()))?;
     for ray in rays {
-        write_ray(alloc, out, k, names, kept.as_slice(), ray)?;
+        write_ray(alloc, out, posed.number, names, kept.as_slice(), ray)?;
     }
     Ok(())
 }

@@ -6,6 +6,7 @@ ghost use Rattle.it_space.specs.Spaces.{IsSpace, size_of};
 ghost use Rattle.it_bounds.specs.RowReplies.{AreMarked};
 
 use it_answer::marked_rows;
+use it_eliminate::copied_rows;
 use it_hull::constants;
 use it_problems::System;
 use it_prove::Effort;
@@ -27,7 +28,7 @@ pub fn with_marks(
     ensures { IfOk result (λ v. AreMarked space effort rows.now v.items) }
 {
     let constants = constants(alloc, space)?;
-    let own = copied(alloc, rows)?;
+    let own = copied_rows(alloc, rows)?;
     let system = System { space, rows: own };
     let reduced = reduce(alloc, &system, &constants, effort)?;
     if reduced.dropped.is_empty() {
@@ -37,18 +38,6 @@ pub fn with_marks(
         let marked = unsettled_rows(alloc, rows)?;
         Ok(marked)
     }
-}
-
-/// Copies of `rows`, in order.
-fn copied(alloc: Global, rows: &[Row]) -> Result<Vec<Row>, AllocError>
-    ensures { IfOk result (λ v. v.items ≡ rows.now) }
-{
-    let mut own = Vec::new(alloc);
-    for row in rows {
-        let copy = row.copy(alloc)?;
-        own.push(copy)?;
-    }
-    Ok(own)
 }
 
 /// The rows, each unsettled.

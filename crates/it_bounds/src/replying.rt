@@ -2,8 +2,6 @@
 ghost use Rattle.std.specs.Prelude.{◌≡◌, ◌<◌, ◌≤◌, All, IfOk, length};
 ghost use Rattle.it_space.specs.Rows.{IsOver, most_system_rows};
 ghost use Rattle.it_space.specs.Spaces.{IsSpace, size_of};
-ghost use Rattle.it_question.specs.Limits.{IsQuestion};
-ghost use Rattle.it_question.specs.Questions.{question_body};
 ghost use Rattle.it_demand.specs.Origins.{AreStated};
 ghost use Rattle.it_demand.specs.QuestionSpaces.{space_of};
 ghost use Rattle.it_canon.specs.QuestionDemands.{IsProblemOf, question_demands, question_origins};
@@ -34,13 +32,12 @@ pub fn reply(
     question: &Question,
     limits: Limits,
 ) -> Result<RepliedProblem, AllocError>
-    requires question { IsQuestion (question_body question.now) }
     requires few_rows { limits.rows ≤ most_system_rows }
-    ensures space { IfOk result (λ a. a.problem.space ≡ space_of (question_body question.now).names) }
-    ensures problem { IfOk result (λ a. AreStated a.problem.space (question_origins (under_all_lines (question_body question.now))) (question_demands (under_all_lines (question_body question.now))) a.problem.constraints) }
-    ensures right { IfOk result (λ a. IsRightReply limits (question_body question.now) (reply_view a.reply)) }
-    ensures printable { IfOk result (λ a. IsPrintable (question_body question.now) (length a.problem.constraints) a.reply) }
-    ensures told { IfOk result (λ a. IsToldReply (question_body question.now) a.reply) }
+    ensures space { IfOk result (λ a. a.problem.space ≡ space_of question.now.body.names) }
+    ensures problem { IfOk result (λ a. AreStated a.problem.space (question_origins (under_all_lines question.now.body)) (question_demands (under_all_lines question.now.body)) a.problem.constraints) }
+    ensures right { IfOk result (λ a. IsRightReply limits question.now.body (reply_view a.reply)) }
+    ensures printable { IfOk result (λ a. IsPrintable question.now.body (length a.problem.constraints) a.reply) }
+    ensures told { IfOk result (λ a. IsToldReply question.now.body a.reply) }
 {
     let problem = problem_of_lines(alloc, question)?;
     let reply = reply_under(alloc, question, &problem, limits)?;
@@ -54,14 +51,14 @@ fn reply_under(
     problem: &Problem,
     limits: Limits,
 ) -> Result<Reply, AllocError>
-    requires question { IsQuestion (question_body question.now) }
-    requires problem { IsProblemOf (under_all_lines (question_body question.now)) problem.now }
+    requires problem { IsProblemOf (under_all_lines question.now.body) problem.now }
     requires few_rows { limits.rows ≤ most_system_rows }
-    ensures right { IfOk result (λ r. IsRightReply limits (question_body question.now) (reply_view r)) }
-    ensures printable { IfOk result (IsPrintable (question_body question.now) (length problem.now.constraints)) }
-    ensures told { IfOk result (IsToldReply (question_body question.now)) }
+    ensures right { IfOk result (λ r. IsRightReply limits question.now.body (reply_view r)) }
+    ensures printable { IfOk result (IsPrintable question.now.body (length problem.now.constraints)) }
+    ensures told { IfOk result (IsToldReply question.now.body) }
 {
-    match &question.verb {
+    question.facts();
+    match question.verb() {
         Verb::Eliminate(rates) => {
             let bound = bound(alloc, problem, rates.as_slice(), limits)?;
             Ok(bound)

@@ -4,8 +4,6 @@ ghost use Rattle.it_space.specs.Answers.{certificate_view};
 ghost use Rattle.it_space.specs.Spaces.{size_of};
 ghost use Rattle.it_demand.specs.QuestionSpaces.{space_of};
 ghost use Rattle.it_certificate.specs.Values.{source_texts};
-ghost use Rattle.it_question.specs.Limits.{IsQuestion};
-ghost use Rattle.it_question.specs.Questions.{question_body, question_view};
 ghost use Rattle.it_rates.specs.Asked.{gone_rates, kept_rates};
 ghost use Rattle.it_rates.specs.Frames.{hull_frame};
 ghost use Rattle.it_hull.specs.Hulls.{first_rows};
@@ -39,10 +37,9 @@ pub fn reply_report(
     question: &Question,
     reply: &Reply,
 ) -> Result<Vec<u8>, AllocError>
-    requires question { IsQuestion (question_body question.now) }
     requires few_rows { limits.rows ≤ most_system_rows }
-    requires reply { IsToldReply (question_body question.now) reply.now }
-    ensures { IfOk result (λ line. IsToldReport limits (question_view question.now) (reply_view reply.now) line.items) }
+    requires reply { IsToldReply question.now.body reply.now }
+    ensures { IfOk result (λ line. IsToldReport limits question.now (reply_view reply.now) line.items) }
 {
     let mut line = told_line(alloc, limits, question, reply)?;
     line.extend_from_slice(b"\n")?;
@@ -56,10 +53,9 @@ fn told_line(
     question: &Question,
     reply: &Reply,
 ) -> Result<Vec<u8>, AllocError>
-    requires question { IsQuestion (question_body question.now) }
     requires few_rows { limits.rows ≤ most_system_rows }
-    requires reply { IsToldReply (question_body question.now) reply.now }
-    ensures { IfOk result (λ line. IsToldReport limits (question_view question.now) (reply_view reply.now) (line.items ++ codes "\n")) }
+    requires reply { IsToldReply question.now.body reply.now }
+    ensures { IfOk result (λ line. IsToldReport limits question.now (reply_view reply.now) (line.items ++ codes "\n")) }
 {
     let text = question.text(alloc)?;
     let source = SourceText::Question(text.as_slice());
@@ -83,10 +79,9 @@ fn told_steps(
     question: &Question,
     reply: &Reply,
 ) -> Result<Option<Vec<Step>>, AllocError>
-    requires question { IsQuestion (question_body question.now) }
     requires few_rows { limits.rows ≤ most_system_rows }
-    requires reply { IsToldReply (question_body question.now) reply.now }
-    ensures { IfOk result (λ s. AreToldSteps true limits (question_body question.now) (reply_view reply.now) (option_map (λ v. step_views v.items) s)) }
+    requires reply { IsToldReply question.now.body reply.now }
+    ensures { IfOk result (λ s. AreToldSteps true limits question.now.body (reply_view reply.now) (option_map (λ v. step_views v.items) s)) }
 {
     match reply {
         Reply::Bounded { rays, .. } => {
@@ -106,14 +101,14 @@ fn steps_of(
     question: &Question,
     rays: &[Point],
 ) -> Result<Option<Vec<Step>>, AllocError>
-    requires question { IsQuestion (question_body question.now) }
     requires few_rows { limits.rows ≤ most_system_rows }
-    requires asked { 1 ≤ length (gone_rates (question_body question.now).verb) }
-    requires rays { All (λ ray. length ray ≡ size_of (space_of (question_body question.now).names)) rays.now }
-    ensures { IfOk result (λ s. AreMade (hull_frame limits.rows (question_body question.now)) limits.effort (first_rows (kept_rates (question_body question.now) (gone_rates (question_body question.now).verb))) rays.now (option_map (λ v. step_views v.items) s)) }
+    requires asked { 1 ≤ length (gone_rates question.now.body.verb) }
+    requires rays { All (λ ray. length ray ≡ size_of (space_of question.now.body.names)) rays.now }
+    ensures { IfOk result (λ s. AreMade (hull_frame limits.rows question.now.body) limits.effort (first_rows (kept_rates question.now.body (gone_rates question.now.body.verb))) rays.now (option_map (λ v. step_views v.items) s)) }
 {
-    let space = question.names.space();
-    let gone = gone_rates(&question.verb);
+    question.facts();
+    let space = question.space();
+    let gone = gone_rates(question.verb());
     let kept = kept_coordinates(alloc, space, gone)?;
     let frame = Frame {
         space,

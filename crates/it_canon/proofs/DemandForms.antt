@@ -14,7 +14,7 @@ use Rattle.it_syntax.specs.declared.types.Sign.TheVariants.{AtLeast, AtMost, Equ
 use Rattle.it_syntax.specs.declared.types.Term.{Term}
 use Rattle.it_syntax.specs.Givens.{GivenView, Relation, Markov, Independent, Function, IsRelationOf, IsGivenOf, AreSetsOf, links, links_from, sum_of_conditionals, union_of}
 use Rattle.it_syntax.specs.Meaning.{RelationView, IsAtomOf, common_denominator, multiplicity, atom_at, side_at, difference_at}
-use Rattle.it_question.specs.Questions.{OwnLinesView}
+use Rattle.it_question.specs.OwnLines.{OwnLinesView}
 use Rattle.it_question.proofs.NumberLemmas.{HasSmallNumbers, GivenHasSmallNumbers, LinesHaveSmallNumbers}
 use Rattle.it_demand.specs.Canonical.{form_of, signed_difference}
 use Rattle.it_demand.specs.Demands.{Demand, demand_of, demands, equations, independence_form, kind_of}

@@ -14,7 +14,8 @@ use Rattle.it_syntax.specs.Meaning.{RelationView}
 use Rattle.it_syntax.specs.NamesViews.{NamesView}
 use Rattle.it_question.specs.Files.{IsFile}
 use Rattle.it_question.specs.Limits.{IsVerbOver, IsQuestion}
-use Rattle.it_question.specs.Questions.{OwnLinesView, VerbView, Prove, Eliminate, Contain, BodyView, QuestionView}
+use Rattle.it_question.specs.OwnLines.{OwnLinesView}
+use Rattle.it_question.specs.Questions.{VerbView, Prove, Eliminate, Contain, BodyView, QuestionView}
 use Rattle.it_question.proofs.FileReadings.{file_limits}
 use Rattle.it_question.proofs.NumberLemmas.{HasSmallNumbers, GivenHasSmallNumbers, VerbHasSmallNumbers, QuestionHasSmallNumbers, file_has_small_numbers}
 use Rattle.it_demand.specs.Demands.{Demand, demand_of, demands}

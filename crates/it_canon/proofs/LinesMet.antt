@@ -5,7 +5,7 @@ use Rattle.it_space.specs.declared.spaces.Space.{Space}
 use Rattle.it_problems.specs.declared.problems.Constraint.{Constraint}
 use Rattle.it_problems.specs.declared.problems.Origin.{Origin}
 use Rattle.it_problems.specs.Problems.{AreMet}
-use Rattle.it_question.specs.Questions.{OwnLinesView}
+use Rattle.it_question.specs.OwnLines.{OwnLinesView}
 use Rattle.it_demand.specs.Demands.{demand_of, demands}
 use Rattle.it_demand.specs.Origins.{AreStated}
 use Rattle.it_question.specs.LineDemands.{line_demands}

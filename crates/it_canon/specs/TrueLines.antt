@@ -3,7 +3,8 @@ use Rattle.std.specs.Prelude.{ℕ, ℤ, length, All}
 use Rattle.it_polymatroid.specs.Polymatroid.{IsPolymatroid}
 use Rattle.it_syntax.specs.Meaning.{Holds}
 use Rattle.it_syntax.specs.Givens.{IsTrueAt}
-use Rattle.it_question.specs.Questions.{OwnLinesView, BodyView}
+use Rattle.it_question.specs.OwnLines.{OwnLinesView}
+use Rattle.it_question.specs.Questions.{BodyView}
 use Rattle.it_question.specs.ProblemLines.{problem_names, problem_lines}
 
 -- the number of variables of the problem

@@ -5,12 +5,12 @@ use Rattle.std.proofs.Math.Nat.{pow-le-pow_right}
 use Rattle.std.proofs.Math.Pow.{pow_mono}
 use Rattle.serde_json.specs.Data.{Data}
 use Rattle.serde_json.specs.Find.{get}
-use Rattle.it_codes.specs.Codes.{most_messages, size}
+use Rattle.it_codes.specs.Codes.{IsCode, most_messages, size}
 use Rattle.it_codes.specs.declared.codes.Field.{Field}
 use Rattle.it_codes.specs.declared.codes.Field.TheVariants.{Two, Three}
 use Rattle.it_space.specs.Answers.{AnswerView}
 use Rattle.it_space.specs.Answers.AnswerView.{No}
-use Rattle.it_space.specs.Spaces.{size_of}
+use Rattle.it_space.specs.Spaces.{most_variables, size_of}
 use Rattle.it_elemental.specs.Generators.{is_equation}
 use Rattle.it_demand.specs.Demands.{kind_of}
 use Rattle.it_demand.specs.QuestionSpaces.{space_of}
@@ -62,6 +62,17 @@ variables_fit q k n d vs is =
     sym (ap length e) ∙ f
 
 -- ---- a code
+
+-- a code that is read of a question's variables is one that calls take
+pub code_is : (n : ℕ) (d : Data) (field : Field) (k : ℕ) (vs : List (List (List ℕ))) → 1 ≤ n → n ≤ most_variables → symbols_at field d ≡ Some k
+    → variables_at (size field) k n d ≡ Some vs → IsCode (record { field = field; symbols = k; variables = vs })
+code_is n d field k vs some few symbols variables =
+    let same : length vs ≡ n = variables_fit (size field) k n d vs variables in
+    record {
+      some = omega (arith, some, same);
+      few = omega (arith, few, same);
+      messages = symbols_fit field d k symbols;
+    }
 
 abbrev code_made : Field → ℕ → List (List (List ℕ)) → ℕ → ReportedCodeView
 code_made field symbols variables times = record { code = record { field = field; symbols = symbols; variables = variables }; times = times }

@@ -18,7 +18,8 @@ use Rattle.it_space.specs.declared.answers.Cause.TheVariants.{Pivots, Width, Sca
 use Rattle.it_space.proofs.BoolLemmas.{both_true}
 use Rattle.it_syntax.specs.Meaning.{RelationView}
 use Rattle.it_syntax.specs.NamesViews.{NamesView, index_of}
-use Rattle.it_question.specs.Questions.{QuestionView, RegionView, VerbView, Prove, Eliminate, Contain}
+use Rattle.it_question.specs.OwnLines.{RegionView}
+use Rattle.it_question.specs.Questions.{QuestionView, VerbView, Prove, Eliminate, Contain}
 use Rattle.it_demand.specs.QuestionSpaces.{space_of}
 use Rattle.it_certificate.specs.declared.keys.Key.{Key}
 use Rattle.it_certificate.specs.declared.keys.Key.TheVariants as keys

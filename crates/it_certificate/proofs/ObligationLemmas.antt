@@ -10,7 +10,7 @@ use Rattle.it_space.proofs.ListLemmas.{drop_item}
 use Rattle.it_syntax.specs.declared.types.Atom.{Atom}
 use Rattle.it_syntax.specs.Meaning.{RelationView}
 use Rattle.it_syntax.specs.Givens.{GivenView, Relation, Markov, Independent, Function, given_view, links}
-use Rattle.it_question.specs.Questions.{RegionView}
+use Rattle.it_question.specs.OwnLines.{RegionView}
 use Rattle.it_demand.specs.Demands.{Demand, demand_of, demands, equations, kind_of}
 use Rattle.it_demand.specs.Canonical.{form_of}
 use Rattle.it_demand.specs.Targets.{inequalities_of, targets}

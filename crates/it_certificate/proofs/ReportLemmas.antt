@@ -6,8 +6,7 @@ use Rattle.serde_json.specs.Data.{Data}
 use Rattle.it_space.specs.Answers.{AnswerView, CertificateView, answer_view, certificate_view}
 use Rattle.it_space.specs.declared.answers.Answer.{Answer}
 use Rattle.it_space.specs.declared.answers.Certificate.{Certificate}
-use Rattle.it_question.specs.Questions.{QuestionView, question_view}
-use Rattle.it_question.specs.declared.types.Question.{Question}
+use Rattle.it_question.specs.Questions.{QuestionView}
 use Rattle.it_certificate.specs.declared.keys.Refusal.{Refusal}
 use Rattle.it_certificate.specs.declared.keys.Refusal.TheVariants as refusals
 use Rattle.it_certificate.specs.declared.kinds.AnswerKind.{AnswerKind}
@@ -18,8 +17,7 @@ use Rattle.it_certificate.specs.declared.keys.ReportFault.{ReportFault}
 use Rattle.it_certificate.specs.declared.keys.ReportFault.TheVariants as faults
 use Rattle.it_certificate.specs.declared.types.Reported.TheVariants as reported
 use Rattle.it_certificate.specs.declared.types.ReportedBounds.{ReportedBounds}
-use Rattle.it_certificate.specs.declared.types.ReportedCode.{ReportedCode}
-use Rattle.it_certificate.specs.CodeReading.{ReportedCodeView, names_code, reported_code_view, tells_code}
+use Rattle.it_certificate.specs.CodeReading.{ReportedCodeView, names_code, tells_code}
 use Rattle.it_certificate.specs.OriginReading.{answer_origins, tells_origins}
 use Rattle.it_certificate.specs.Parts.{answer_kind_at}
 use Rattle.it_ratio.specs.BestViews.{BestView, best_view}
@@ -72,19 +70,19 @@ module _ (d : Data) (told : false ≡ tells_misfit d) (outer : true ≡ tells_ou
       → verb_bounds q.body.names q.body.verb d ≡ r → bounds_to source d ≡ r
   as_bounded source q r e by = ap (λ (z : QuestionView). verb_bounds z.body.names z.body.verb d) e ∙ by
 
-  pub bounds_ok : (q : Question) (b : ReportedBounds) → GivesSource d (Ok q)
-      → verb_bounds (question_view q).body.names (question_view q).body.verb d ≡ Ok (bounds_view b)
+  pub bounds_ok : (q : QuestionView) (b : ReportedBounds) → GivesSource d (Ok q)
+      → verb_bounds q.body.names q.body.verb d ≡ Ok (bounds_view b)
       → ReadsValue d (Ok (reported.Bounded q b))
   bounds_ok q b gives by = (
     Bounded gives.0 (bounds_view b),
     (gives.2, refl),
     bounds_as gives.0 (Ok (bounds_view b)) gives.1
-        (as_bounded gives.0 (question_view q) (Ok (bounds_view b)) gives.2 by),
+        (as_bounded gives.0 q (Ok (bounds_view b)) gives.2 by),
   )
 
-  pub bounds_err : (q : Question) (f : ReportFault) → GivesSource d (Ok q)
-      → GivesKeyed bounds_view (Err f) (verb_bounds (question_view q).body.names (question_view q).body.verb d) → ReadsValue d (Err f)
-  bounds_err q (faults.Shape key) gives by = bounds_as gives.0 (Err key) gives.1 (as_bounded gives.0 (question_view q) (Err key) gives.2 by)
+  pub bounds_err : (q : QuestionView) (f : ReportFault) → GivesSource d (Ok q)
+      → GivesKeyed bounds_view (Err f) (verb_bounds q.body.names q.body.verb d) → ReadsValue d (Err f)
+  bounds_err q (faults.Shape key) gives by = bounds_as gives.0 (Err key) gives.1 (as_bounded gives.0 q (Err key) gives.2 by)
   bounds_err q faults.NotJson gives by = by
   bounds_err q faults.Memory gives by = tt
 
@@ -134,20 +132,20 @@ module _ (d : Data) (told : false ≡ tells_misfit d) (outer : false ≡ tells_o
           → verb_answer q.body.names q.body.verb kind d ≡ r → answer_to source kind d ≡ r
       as_asked source q r e by = ap (λ (z : QuestionView). verb_answer z.body.names z.body.verb kind d) e ∙ by
 
-      pub answer_ok : (q : Question) (a : Answer) → GivesSource d (Ok q)
-          → verb_answer (question_view q).body.names (question_view q).body.verb kind d ≡ Ok (answer_view a)
+      pub answer_ok : (q : QuestionView) (a : Answer) → GivesSource d (Ok q)
+          → verb_answer q.body.names q.body.verb kind d ≡ Ok (answer_view a)
           → ReadsValue d (Ok (reported.Answered q a))
       answer_ok q a gives by = (
         Answered gives.0 (answer_view a),
         (gives.2, refl),
         answer_as gives.0 (Ok (answer_view a)) gives.1
-            (as_asked gives.0 (question_view q) (Ok (answer_view a)) gives.2 by),
+            (as_asked gives.0 q (Ok (answer_view a)) gives.2 by),
       )
 
-      pub answer_err : (q : Question) (f : ReportFault) → GivesSource d (Ok q)
-          → GivesKeyed answer_view (Err f) (verb_answer (question_view q).body.names (question_view q).body.verb kind d)
+      pub answer_err : (q : QuestionView) (f : ReportFault) → GivesSource d (Ok q)
+          → GivesKeyed answer_view (Err f) (verb_answer q.body.names q.body.verb kind d)
           → ReadsValue d (Err f)
-      answer_err q (faults.Shape key) gives by = answer_as gives.0 (Err key) gives.1 (as_asked gives.0 (question_view q) (Err key) gives.2 by)
+      answer_err q (faults.Shape key) gives by = answer_as gives.0 (Err key) gives.1 (as_asked gives.0 q (Err key) gives.2 by)
       answer_err q faults.NotJson gives by = by
       answer_err q faults.Memory gives by = tt
 
@@ -182,27 +180,27 @@ module _ (d : Data) (told : false ≡ tells_misfit d) (outer : false ≡ tells_o
         → names_code q.body.names d ≡ s → code_to source d ≡ s
     code_as_asked source q s e by = ap (λ (z : QuestionView). names_code z.body.names d) e ∙ by
 
-    module _ (q : Question) (gives : GivesSource d (Ok q)) where
-      pub no_err : (f : ReportFault) → GivesKeyed answer_view (Err f) (verb_answer (question_view q).body.names
-          (question_view q).body.verb kinds.No d) → ReadsValue d (Err f)
-      no_err (faults.Shape key) by = code_as gives.0 (Err key) (code_to gives.0 d) gives.1 (no_as_asked gives.0 (question_view q) (Err key) gives.2 by) refl
+    module _ (q : QuestionView) (gives : GivesSource d (Ok q)) where
+      pub no_err : (f : ReportFault) → GivesKeyed answer_view (Err f) (verb_answer q.body.names
+          q.body.verb kinds.No d) → ReadsValue d (Err f)
+      no_err (faults.Shape key) by = code_as gives.0 (Err key) (code_to gives.0 d) gives.1 (no_as_asked gives.0 q (Err key) gives.2 by) refl
       no_err faults.NotJson by = by
       no_err faults.Memory by = tt
 
-      pub code_ok : (a : Answer) (c : ReportedCode) → verb_answer (question_view q).body.names (question_view q).body.verb kinds.No d ≡ Ok (answer_view a)
-          → names_code (question_view q).body.names d ≡ Ok (reported_code_view c) → ReadsValue d (Ok (reported.Coded q a c))
+      pub code_ok : (a : Answer) (c : ReportedCodeView) → verb_answer q.body.names q.body.verb kinds.No d ≡ Ok (answer_view a)
+          → names_code q.body.names d ≡ Ok c → ReadsValue d (Ok (reported.Coded q a c))
       code_ok a c answered coded = (
-        Coded gives.0 (answer_view a) (reported_code_view c),
+        Coded gives.0 (answer_view a) c,
         (gives.2, refl, refl),
-        code_as gives.0 (Ok (answer_view a)) (Ok (reported_code_view c)) gives.1 (no_as_asked gives.0 (question_view q) (Ok (answer_view a)) gives.2 answered)
-            (code_as_asked gives.0 (question_view q) (Ok (reported_code_view c)) gives.2 coded),
+        code_as gives.0 (Ok (answer_view a)) (Ok c) gives.1 (no_as_asked gives.0 q (Ok (answer_view a)) gives.2 answered)
+            (code_as_asked gives.0 q (Ok c) gives.2 coded),
       )
 
-      pub code_err : (a : Answer) (f : ReportFault) → verb_answer (question_view q).body.names (question_view q).body.verb kinds.No d ≡ Ok (answer_view a)
-          → GivesKeyed reported_code_view (Err f) (names_code (question_view q).body.names d) → ReadsValue d (Err f)
+      pub code_err : (a : Answer) (f : ReportFault) → verb_answer q.body.names q.body.verb kinds.No d ≡ Ok (answer_view a)
+          → GivesKeyed {A = ReportedCodeView} (λ c. c) (Err f) (names_code q.body.names d) → ReadsValue d (Err f)
       code_err a (faults.Shape key) answered coded = code_as gives.0 (Ok (answer_view a)) (Err key) gives.1
-          (no_as_asked gives.0 (question_view q) (Ok (answer_view a)) gives.2 answered)
-          (code_as_asked gives.0 (question_view q) (Err key) gives.2 coded)
+          (no_as_asked gives.0 q (Ok (answer_view a)) gives.2 answered)
+          (code_as_asked gives.0 q (Err key) gives.2 coded)
       code_err a faults.NotJson answered coded = coded
       code_err a faults.Memory answered coded = tt
 
@@ -229,19 +227,19 @@ module _ (d : Data) (told : false ≡ tells_misfit d) (outer : false ≡ tells_o
         → verb_answer q.body.names q.body.verb kinds.Region d ≡ r → answer_to source kinds.Region d ≡ r
     region_as_asked source q r e by = ap (λ (z : QuestionView). verb_answer z.body.names z.body.verb kinds.Region d) e ∙ by
 
-    module _ (q : Question) (gives : GivesSource d (Ok q)) where
+    module _ (q : QuestionView) (gives : GivesSource d (Ok q)) where
       pub region_err : (f : ReportFault) → GivesKeyed answer_view (Err f)
-          (verb_answer (question_view q).body.names (question_view q).body.verb kinds.Region d) → ReadsValue d (Err f)
-      region_err (faults.Shape key) by = region_as gives.0 (Err key) gives.1 (region_as_asked gives.0 (question_view q) (Err key) gives.2 by)
+          (verb_answer q.body.names q.body.verb kinds.Region d) → ReadsValue d (Err f)
+      region_err (faults.Shape key) by = region_as gives.0 (Err key) gives.1 (region_as_asked gives.0 q (Err key) gives.2 by)
       region_err faults.NotJson by = by
       region_err faults.Memory by = tt
 
-      module _ (a : Answer) (answered : verb_answer (question_view q).body.names (question_view q).body.verb kinds.Region d ≡ Ok (answer_view a)) where
+      module _ (a : Answer) (answered : verb_answer q.body.names q.body.verb kinds.Region d ≡ Ok (answer_view a)) where
         -- the reading with what is read of the origins
         origins_as : (s : Result (List CertificateView) Key) → answer_origins (answer_view a) d ≡ s
             → ReadsAs d (and_then s (λ ws. Ok (Derived gives.0 (answer_view a) ws)))
         origins_as s by = subst (λ z. ReadsAs d (and_then z (λ ws. Ok (Derived gives.0 (answer_view a) ws)))) by
-            (region_as gives.0 (Ok (answer_view a)) gives.1 (region_as_asked gives.0 (question_view q) (Ok (answer_view a)) gives.2 answered))
+            (region_as gives.0 (Ok (answer_view a)) gives.1 (region_as_asked gives.0 q (Ok (answer_view a)) gives.2 answered))
 
         pub origins_ok : (ws : Vec Certificate Global) → answer_origins (answer_view a) d ≡ Ok (map certificate_view ws.items)
             → ReadsValue d (Ok (reported.Derived q a ws))
@@ -281,18 +279,18 @@ module _ (d : Data) (told : false ≡ tells_misfit d) (outer : false ≡ tells_o
         → verb_best q.body.names q.body.verb kind d ≡ r → best_to source kind d ≡ r
     best_as_asked source q r e by = ap (λ (z : QuestionView). verb_best z.body.names z.body.verb kind d) e ∙ by
 
-    pub best_ok : (q : Question) (b : Best) → GivesSource d (Ok q)
-        → verb_best (question_view q).body.names (question_view q).body.verb kind d ≡ Ok (best_view b)
+    pub best_ok : (q : QuestionView) (b : Best) → GivesSource d (Ok q)
+        → verb_best q.body.names q.body.verb kind d ≡ Ok (best_view b)
         → ReadsValue d (Ok (reported.Factored q b))
     best_ok q b gives by = (
       Factored gives.0 (best_view b),
       (gives.2, refl),
       best_as gives.0 (Ok (best_view b)) gives.1
-          (best_as_asked gives.0 (question_view q) (Ok (best_view b)) gives.2 by),
+          (best_as_asked gives.0 q (Ok (best_view b)) gives.2 by),
     )
 
-    pub best_err : (q : Question) (f : ReportFault) → GivesSource d (Ok q)
-        → GivesKeyed best_view (Err f) (verb_best (question_view q).body.names (question_view q).body.verb kind d) → ReadsValue d (Err f)
-    best_err q (faults.Shape key) gives by = best_as gives.0 (Err key) gives.1 (best_as_asked gives.0 (question_view q) (Err key) gives.2 by)
+    pub best_err : (q : QuestionView) (f : ReportFault) → GivesSource d (Ok q)
+        → GivesKeyed best_view (Err f) (verb_best q.body.names q.body.verb kind d) → ReadsValue d (Err f)
+    best_err q (faults.Shape key) gives by = best_as gives.0 (Err key) gives.1 (best_as_asked gives.0 q (Err key) gives.2 by)
     best_err q faults.NotJson gives by = by
     best_err q faults.Memory gives by = tt

@@ -10,11 +10,10 @@ use Rattle.it_closure.specs.Sizes.{table_size}
 use Rattle.it_question.specs.Files.{IsFile, FileFaultAt}
 use Rattle.it_question.specs.ProblemLines.{problem_names, problem_lines}
 use Rattle.it_question.specs.QuestionLimits.{most_lines}
-use Rattle.it_question.specs.Questions.{BodyView, QuestionView, VerbView, Prove, Eliminate, Contain, question_body, question_view}
+use Rattle.it_question.specs.Questions.{BodyView, QuestionView, VerbView, Prove, Eliminate, Contain}
 use Rattle.it_question.specs.declared.types.FileFault.{FileFault}
 use Rattle.it_question.specs.declared.types.FileFault.TheVariants.{Fault}
 use Rattle.it_question.specs.TableSizes.{most_entries, problem_of_lines}
-use Rattle.it_question.specs.declared.types.Question.{Question}
 use Rattle.it_question.proofs.FileLemmas.{file_is_one, file_or_fault, file_has_one}
 use Rattle.it_copy.specs.CopyLines.{CopyView}
 use Rattle.it_copy.specs.Extensions.{IsExtension, IsMisfit, IsProof, extended, first_unplaced}
@@ -83,12 +82,12 @@ module _ (d : Data) (there : is_some (get (codes "sharing") d) ≡ true) where
     none_made : ((x : SharingView) → IsMakeable text x → ⊥) → IsSourceAt d None
     none_made none = unless_shared (λ x h. none x (here_made x h))
 
-    by_made : (r : Result Question Refusal) → GivesMade text r → GivesSource d r
+    by_made : (r : Result QuestionView Refusal) → GivesMade text r → GivesSource d r
     by_made (Ok q) gives = (Sharing gives.0, made_here gives.0 gives.1, gives.2)
     by_made (Err refusals.Shape) gives = none_made gives
     by_made (Err refusals.Memory) gives = tt
 
-    pub sharing_given : (bytes : List ℕ) (r : Result Question Refusal) → bytes ≡ text → GivesMade bytes r → GivesSource d r
+    pub sharing_given : (bytes : List ℕ) (r : Result QuestionView Refusal) → bytes ≡ text → GivesMade bytes r → GivesSource d r
     sharing_given bytes r e gives = by_made r (subst (λ (b : List ℕ). GivesMade b r) e gives)
 
 -- an object without a sharing file and with a head
@@ -122,10 +121,10 @@ module _ (d : Data) (no_sharing : is_some (get (codes "sharing") d) ≡ false) (
     none_asked : ((q : QuestionView) (copies : List CopyView) → AsksOnly (head ++ text) q copies → ⊥) → IsSourceAt d None
     none_asked none = unless_copied (λ q copies h. none q copies (here_asks q copies h))
 
-    pub copies_given : (bytes : List ℕ) (r : Result Question Refusal) → bytes ≡ head ++ text → GivesCopied bytes r → GivesSource d r
+    pub copies_given : (bytes : List ℕ) (r : Result QuestionView Refusal) → bytes ≡ head ++ text → GivesCopied bytes r → GivesSource d r
     copies_given bytes r e gives = by_result r (subst (λ (b : List ℕ). GivesCopied b r) e gives)
       where
-        by_result : (r : Result Question Refusal) → GivesCopied (head ++ text) r → GivesSource d r
+        by_result : (r : Result QuestionView Refusal) → GivesCopied (head ++ text) r → GivesSource d r
         by_result (Ok q) gives = (Copies gives.0 gives.1, asks_here gives.0 gives.1 gives.2, gives.3)
         by_result (Err refusals.Shape) gives = none_asked gives
         by_result (Err refusals.Memory) gives = tt
@@ -155,8 +154,8 @@ module _ (d : Data) (no_sharing : is_some (get (codes "sharing") d) ≡ false) (
         let e : h.text ≡ text = some_same h.text text (sym h.there ∙ sym is) in
         none q (subst (λ (t : List ℕ). length t ≤ 1048577) e h.short) (subst (λ (t : List ℕ). IsFile t (q ∷ [])) e h.reads))
 
-    pub text_given : (r : Result Question Refusal) → GivesOnly text r → GivesSource d r
-    text_given (Ok q) gives = (Text (question_view q), text_here (question_view q) gives.0 gives.1, refl)
+    pub text_given : (r : Result QuestionView Refusal) → GivesOnly text r → GivesSource d r
+    text_given (Ok q) gives = (Text q, text_here q gives.0 gives.1, refl)
     text_given (Err refusals.Shape) gives = none_in_text gives
     text_given (Err refusals.Memory) gives = tt
 
@@ -326,7 +325,7 @@ one_source d (Sharing x) (Sharing y) h k = ap Sharing (sharing_is_one h.text x y
 pub made_long : (bytes : List ℕ) → 1048576 < length bytes → GivesMade bytes (Err refusals.Shape)
 made_long bytes long = λ x h. let short = h.short in omega (arith, short, long)
 
-pub made_by_file : (bytes : List ℕ) (x : SharingView) (r : Result Question Refusal) → length bytes ≤ 1048576 → IsSharingFile bytes x
+pub made_by_file : (bytes : List ℕ) (x : SharingView) (r : Result QuestionView Refusal) → length bytes ≤ 1048576 → IsSharingFile bytes x
     → GivesMadeFrom x r → GivesMade bytes r
 made_by_file bytes x (Ok q) short file gives = (x, record { short = short; reads = file; few = gives.0 }, gives.1)
 made_by_file bytes x (Err refusals.Shape) short file many = λ y h.
@@ -343,7 +342,7 @@ made_fault bytes f line column code e at =
 pub copied_long : (bytes : List ℕ) → 1048577 < length bytes → GivesCopied bytes (Err refusals.Shape)
 copied_long bytes long = λ q copies h. let short = h.short in omega (arith, short, long)
 
-pub copied_by_file : (bytes : List ℕ) (copies : List CopyView) (qs : List QuestionView) (r : Result Question Refusal)
+pub copied_by_file : (bytes : List ℕ) (copies : List CopyView) (qs : List QuestionView) (r : Result QuestionView Refusal)
     → length bytes ≤ 1048577 → IsCopyFile bytes copies qs → GivesExtended copies qs r → GivesCopied bytes r
 copied_by_file bytes copies qs (Ok e) short file gives =
     (gives.0, copies, record { short = short; reads = subst (IsCopyFile bytes copies) gives.1 file; extension = gives.2 }, gives.3)
@@ -359,40 +358,40 @@ copied_fault bytes f line column code e at =
     λ q copies h. copy_file_or_fault bytes copies (q ∷ []) line column code h.reads here
 
 -- the only question of a list
-only_one : (qs : List Question) (r : Question) → length qs ≡ 1 → r ≡ get_or qs 0 r → map question_view qs ≡ question_view r ∷ []
+only_one : (qs : List QuestionView) (r : QuestionView) → length qs ≡ 1 → r ≡ get_or qs 0 r → qs ≡ r ∷ []
 only_one [] r one is = absurd (omega (arith, one))
-only_one (q ∷ []) r one is = ap (λ (x : Question). question_view x ∷ []) (sym is)
+only_one (q ∷ []) r one is = ap (λ (x : QuestionView). x ∷ []) (sym is)
 only_one (q ∷ p ∷ qs) r one is = absurd (omega (arith, one))
 
-module _ (copies : List CopyView) (qs : List Question) where
-  pub not_one : (length qs ≡ 1 → ⊥) → GivesExtended copies (map question_view qs) (Err refusals.Shape)
-  not_one other = λ q e x. other (sym (length-map qs question_view) ∙ ap length e)
+module _ (copies : List CopyView) (qs : List QuestionView) where
+  pub not_one : (length qs ≡ 1 → ⊥) → GivesExtended copies qs (Err refusals.Shape)
+  not_one other = λ q e x. other (ap length e)
 
-  pub extended_only : (q e : Question) → length qs ≡ 1 → q ≡ get_or qs 0 q → IsExtension (question_body q) copies (question_body e)
-      → (question_view e).text ≡ [] → GivesExtended copies (map question_view qs) (Ok e)
+  pub extended_only : (q e : QuestionView) → length qs ≡ 1 → q ≡ get_or qs 0 q → IsExtension q.body copies e.body
+      → e.text ≡ [] → GivesExtended copies qs (Ok e)
   extended_only q e one is x text = (
-    question_view q,
+    q,
     only_one qs q one is,
-    subst (IsExtension (question_body q) copies) x.is x,
+    subst (IsExtension q.body copies) x.is x,
     ap₂
         (λ (body : BodyView) (text : List ℕ). record { body = body; text = text }) (sym x.is) (sym text),
   )
 
-  none_only : (q : Question) (f : CopyFault) → length qs ≡ 1 → q ≡ get_or qs 0 q → (f ≡ copy_faults.Memory → ⊥)
-      → IsMisfit (question_body q) copies f → GivesExtended copies (map question_view qs) (Err refusals.Shape)
+  none_only : (q : QuestionView) (f : CopyFault) → length qs ≡ 1 → q ≡ get_or qs 0 q → (f ≡ copy_faults.Memory → ⊥)
+      → IsMisfit q.body copies f → GivesExtended copies qs (Err refusals.Shape)
   none_only q f one is told misfit = λ p e x.
-      let same : p ≡ question_view q = first_question p (question_view q) (sym e ∙ only_one qs q one is) in
-      extension_or_misfit (question_body q) (extended (question_body q) copies) copies f told
+      let same : p ≡ q = first_question p q (sym e ∙ only_one qs q one is) in
+      extension_or_misfit q.body (extended q.body copies) copies f told
       (subst (λ (z : QuestionView). IsExtension z.body copies (extended z.body copies)) same x) misfit
 
-  by_fault : (q : Question) (f : CopyFault) → length qs ≡ 1 → q ≡ get_or qs 0 q → IsMisfit (question_body q) copies f
-      → GivesExtended copies (map question_view qs) (Err (refusal_by f))
+  by_fault : (q : QuestionView) (f : CopyFault) → length qs ≡ 1 → q ≡ get_or qs 0 q → IsMisfit q.body copies f
+      → GivesExtended copies qs (Err (refusal_by f))
   by_fault q copy_faults.Memory one is misfit = tt
   by_fault q copy_faults.Verb one is misfit = none_only q copy_faults.Verb one is (λ e. cc) misfit
   by_fault q (copy_faults.Copy k) one is misfit = none_only q (copy_faults.Copy k) one is (λ e. cc) misfit
   by_fault q copy_faults.Many one is misfit = none_only q copy_faults.Many one is (λ e. cc) misfit
   by_fault q copy_faults.Large one is misfit = none_only q copy_faults.Large one is (λ e. cc) misfit
 
-  pub misfit_only : (q : Question) (f : CopyFault) (r : Refusal) → length qs ≡ 1 → q ≡ get_or qs 0 q → r ≡ refusal_by f
-      → IsMisfit (question_body q) copies f → GivesExtended copies (map question_view qs) (Err r)
-  misfit_only q f r one is e misfit = subst (λ (s : Refusal). GivesExtended copies (map question_view qs) (Err s)) (sym e) (by_fault q f one is misfit)
+  pub misfit_only : (q : QuestionView) (f : CopyFault) (r : Refusal) → length qs ≡ 1 → q ≡ get_or qs 0 q → r ≡ refusal_by f
+      → IsMisfit q.body copies f → GivesExtended copies qs (Err r)
+  misfit_only q f r one is e misfit = subst (λ (s : Refusal). GivesExtended copies qs (Err s)) (sym e) (by_fault q f one is misfit)

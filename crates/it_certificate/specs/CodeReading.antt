@@ -5,7 +5,7 @@ use Rattle.std.specs.Option.{option_map_or}
 use Rattle.std.specs.Str.{bytes_eq}
 use Rattle.serde_json.specs.Data.{Data}
 use Rattle.serde_json.specs.Find.{get}
-use Rattle.it_codes.specs.Codes.{CodeView, code_view, most_messages, size, variables_of}
+use Rattle.it_codes.specs.Codes.{CodeView, most_messages, size, variables_of}
 use Rattle.it_codes.specs.declared.codes.Field.{Field}
 use Rattle.it_codes.specs.declared.codes.Field.TheVariants.{Two, Three}
 use Rattle.it_space.specs.Answers.{AnswerView}
@@ -14,7 +14,6 @@ use Rattle.it_syntax.specs.NamesViews.{NamesView}
 use Rattle.it_question.specs.Questions.{BodyView}
 use Rattle.it_certificate.specs.declared.keys.Key.{Key}
 use Rattle.it_certificate.specs.declared.keys.Key.TheVariants as keys
-use Rattle.it_certificate.specs.declared.types.ReportedCode.{ReportedCode}
 use Rattle.it_certificate.specs.AnswerShapes.{HasQuestionShape}
 use Rattle.it_certificate.specs.Numerals.{below}
 use Rattle.it_certificate.specs.Parts.{count_at, list_at, of_length, text_of}
@@ -23,10 +22,6 @@ use Rattle.it_certificate.specs.Parts.{count_at, list_at, of_length, text_of}
 pub record ReportedCodeView : Type 0 where
   pub code : CodeView
   pub times : ℕ
-
--- a reported code as contracts see it
-abbrev pub reported_code_view : ReportedCode → ReportedCodeView
-reported_code_view c = record { code = code_view c.code; times = c.times }
 
 -- ---- as it is read
 

@@ -12,6 +12,7 @@ use Rattle.it_certificate.specs.Values.{answer_value, derived_value}
 use Rattle.it_certificate.specs.Reports.{Answered, Derived, ReadsAs, ReadsReport, Reading}
 use Rattle.it_certificate.specs.Sources.{Text}
 use Rattle.it_certificate.specs.AnswerShapes.{HasQuestionShape}
+use Rattle.it_syntax.specs.Lines.{most_text_bytes}
 
 -- a certificate without its weights of 0
 abbrev pub without_zeros : CertificateView → CertificateView
@@ -28,13 +29,13 @@ written_answer (Open tried) = Open tried
 
 -- The value of an answer that fits a question reads as that question with that answer.
 abbrev pub ReadsBack : Type 0
-ReadsBack = (q : QuestionView) (answer : AnswerView) → length q.text ≤ 1048577 → IsFile q.text (q ∷ []) → HasQuestionShape q.body answer
+ReadsBack = (q : QuestionView) (answer : AnswerView) → length q.text ≤ most_text_bytes → IsFile q.text (q ∷ []) → HasQuestionShape q.body answer
     → ReadsAs (answer_value q.text q.body.names answer) (Ok (Answered (Text q) (written_answer answer)))
 
 -- The value of a region with a certificate for each of its rows, which fit the question, reads as that question with that
 -- region and these certificates.
 abbrev pub OriginsReadBack : Type 0
-OriginsReadBack = (q : QuestionView) (rows : List (Mark × Terms)) (origins : List CertificateView) → length q.text ≤ 1048577 → IsFile q.text (q ∷ []) → HasDerivedShape q.body (Region rows) origins
+OriginsReadBack = (q : QuestionView) (rows : List (Mark × Terms)) (origins : List CertificateView) → length q.text ≤ most_text_bytes → IsFile q.text (q ∷ []) → HasDerivedShape q.body (Region rows) origins
     → ReadsAs (derived_value q.text q.body.names rows origins) (Ok (Derived (Text q) (Region rows) (map without_zeros origins)))
 
 -- A line has at most one reading.

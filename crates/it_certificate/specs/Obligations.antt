@@ -1,6 +1,6 @@
 -- The number of forms that lines say to be at least 0.
 use Rattle.std.specs.Prelude.{ℕ, length, sum_by}
-use Rattle.it_question.specs.Questions.{RegionView}
+use Rattle.it_question.specs.OwnLines.{RegionView}
 use Rattle.it_demand.specs.Targets.{inequalities_of}
 use Rattle.it_question.specs.LineDemands.{line_demands}
 

@@ -7,10 +7,9 @@ use Rattle.it_syntax.specs.declared.types.Sign.{Sign}
 use Rattle.it_syntax.specs.Meaning.{RelationView}
 use Rattle.it_demand.specs.Demands.{kind_of}
 use Rattle.it_syntax.specs.Givens.{GivenView, Relation, Markov, Independent, Function}
-use Rattle.it_question.specs.Questions.{QuestionView, question_view}
+use Rattle.it_question.specs.Questions.{QuestionView}
 use Rattle.it_question.specs.Files.{IsFile}
 use Rattle.it_question.specs.QuestionLimits.{most_lines}
-use Rattle.it_question.specs.declared.types.Question.{Question}
 use Rattle.it_certificate.specs.declared.keys.Refusal.{Refusal}
 use Rattle.it_certificate.specs.declared.keys.Refusal.TheVariants.{Memory, Shape}
 use Rattle.it_certificate.specs.declared.keys.ReportFault.{ReportFault}
@@ -23,6 +22,7 @@ use Rattle.it_sharing.specs.Sharings.{SharingView, made_question, maximal_count,
 use Rattle.it_certificate.specs.declared.types.Reported.{Reported}
 use Rattle.it_certificate.specs.Reports.{IsReported, ReadsAs, Reading}
 use Rattle.it_certificate.specs.Sources.{AsksOnly, IsMakeable, IsSourceOf, Source, Copies, asked, source_key}
+use Rattle.it_syntax.specs.Lines.{most_text_bytes}
 
 -- the number of forms that a demand of this kind says to be at least 0
 abbrev pub form_count : Kind → ℕ
@@ -45,25 +45,25 @@ abbrev pub relation_form_count : RelationView → ℕ
 relation_form_count r = target_count r.sign
 
 -- the only one of a list, if it has one item
-abbrev pub IsOnly : List Question → Option Question → Type 0
+abbrev pub IsOnly : List QuestionView → Option QuestionView → Type 0
 IsOnly qs (Some q) = qs ≡ q ∷ []
 IsOnly qs None = length qs ≡ 1 → ⊥
 
 -- what the reader of a text as exactly one question gave
-abbrev pub GivesOnly : List ℕ → Result Question Refusal → Type 0
-GivesOnly text (Ok q) = (length text ≤ 1048577) × IsFile text (question_view q ∷ [])
-GivesOnly text (Err Shape) = (q : QuestionView) → length text ≤ 1048577 → IsFile text (q ∷ []) → ⊥
+abbrev pub GivesOnly : List ℕ → Result QuestionView Refusal → Type 0
+GivesOnly text (Ok q) = (length text ≤ most_text_bytes) × IsFile text (q ∷ [])
+GivesOnly text (Err Shape) = (q : QuestionView) → length text ≤ most_text_bytes → IsFile text (q ∷ []) → ⊥
 GivesOnly text (Err Memory) = Unit {0}
 
 -- what the reader of bytes as a file with a head gave: the file's only question with the copies
-abbrev pub GivesCopied : List ℕ → Result Question Refusal → Type 0
-GivesCopied bytes (Ok e) = (q : QuestionView) × (copies : List CopyView) × AsksOnly bytes q copies × (asked (Copies q copies) ≡ question_view e)
+abbrev pub GivesCopied : List ℕ → Result QuestionView Refusal → Type 0
+GivesCopied bytes (Ok e) = (q : QuestionView) × (copies : List CopyView) × AsksOnly bytes q copies × (asked (Copies q copies) ≡ e)
 GivesCopied bytes (Err Shape) = (q : QuestionView) (copies : List CopyView) → AsksOnly bytes q copies → ⊥
 GivesCopied bytes (Err Memory) = Unit {0}
 
 -- what the extender of the only one of some questions gave
-abbrev pub GivesExtended : List CopyView → List QuestionView → Result Question Refusal → Type 0
-GivesExtended copies qs (Ok e) = (q : QuestionView) × (qs ≡ q ∷ []) × IsExtension q.body copies (extended q.body copies) × (asked (Copies q copies) ≡ question_view e)
+abbrev pub GivesExtended : List CopyView → List QuestionView → Result QuestionView Refusal → Type 0
+GivesExtended copies qs (Ok e) = (q : QuestionView) × (qs ≡ q ∷ []) × IsExtension q.body copies (extended q.body copies) × (asked (Copies q copies) ≡ e)
 GivesExtended copies qs (Err Shape) = (q : QuestionView) → qs ≡ q ∷ [] → IsExtension q.body copies (extended q.body copies) → ⊥
 GivesExtended copies qs (Err Memory) = Unit {0}
 
@@ -73,25 +73,25 @@ refusal_by copy_faults.Memory = Memory
 refusal_by fault = Shape
 
 -- what the maker of the question of a sharing file gave
-abbrev pub GivesMadeFrom : SharingView → Result Question Refusal → Type 0
-GivesMadeFrom x (Ok q) = (minimal_count x + maximal_count x ≤ most_lines) × (made_question x ≡ question_view q)
+abbrev pub GivesMadeFrom : SharingView → Result QuestionView Refusal → Type 0
+GivesMadeFrom x (Ok q) = (minimal_count x + maximal_count x ≤ most_lines) × (made_question x ≡ q)
 GivesMadeFrom x (Err Shape) = most_lines < minimal_count x + maximal_count x
 GivesMadeFrom x (Err Memory) = Unit {0}
 
 -- what the reader of bytes as a sharing file gave: the question that it makes
-abbrev pub GivesMade : List ℕ → Result Question Refusal → Type 0
-GivesMade bytes (Ok q) = (x : SharingView) × IsMakeable bytes x × (made_question x ≡ question_view q)
+abbrev pub GivesMade : List ℕ → Result QuestionView Refusal → Type 0
+GivesMade bytes (Ok q) = (x : SharingView) × IsMakeable bytes x × (made_question x ≡ q)
 GivesMade bytes (Err Shape) = (x : SharingView) → IsMakeable bytes x → ⊥
 GivesMade bytes (Err Memory) = Unit {0}
 
 -- what the reader of what an object is about gave: the question that is asked
-abbrev pub GivesSource : Data → Result Question Refusal → Type 0
-GivesSource d (Ok q) = (source : Source) × IsSourceOf d source × (asked source ≡ question_view q)
+abbrev pub GivesSource : Data → Result QuestionView Refusal → Type 0
+GivesSource d (Ok q) = (source : Source) × IsSourceOf d source × (asked source ≡ q)
 GivesSource d (Err Shape) = (source : Source) → IsSourceOf d source → ⊥
 GivesSource d (Err Memory) = Unit {0}
 
 -- what the reader of what a line is about gave: the question that is asked, or the key at fault
-abbrev pub GivesAsked : Data → Result Question ReportFault → Type 0
+abbrev pub GivesAsked : Data → Result QuestionView ReportFault → Type 0
 GivesAsked d (Ok q) = GivesSource d (Ok q)
 GivesAsked d (Err (faults.Shape key)) = (key ≡ source_key d) × ((source : Source) → IsSourceOf d source → ⊥)
 GivesAsked d (Err faults.NotJson) = ⊥

@@ -10,7 +10,7 @@ use Rattle.it_space.specs.Answers.{AnswerView as answers}
 use Rattle.it_space.specs.Spaces.{size_of}
 use Rattle.it_syntax.specs.NamesViews.{NamesView}
 use Rattle.it_question.specs.Limits.{IsQuestion}
-use Rattle.it_question.specs.Questions.{VerbView, Prove, Eliminate, Contain, question_body, question_view}
+use Rattle.it_question.specs.Questions.{VerbView, Prove, Eliminate, Contain}
 use Rattle.it_demand.specs.QuestionSpaces.{space_of}
 use Rattle.it_demand.specs.Targets.{targets}
 use Rattle.it_certificate.specs.declared.keys.Key.{Key}
@@ -28,7 +28,7 @@ use Rattle.it_certificate.specs.AnswerReading.{and_then, no_at, undecided_at, co
 use Rattle.it_certificate.specs.AnswerShapes.{HasQuestionShape}
 use Rattle.it_certificate.specs.FactorReading.{factor_kind_at, verb_best}
 use Rattle.it_certificate.specs.FactorShapes.{HasFactorShape}
-use Rattle.it_certificate.specs.CodeReading.{HasCodedShape, ReportedCodeView, names_code, reported_code_view, tells_code}
+use Rattle.it_certificate.specs.CodeReading.{HasCodedShape, ReportedCodeView, names_code, tells_code}
 use Rattle.it_certificate.specs.OriginReading.{HasDerivedShape, answer_origins, tells_origins}
 use Rattle.it_certificate.specs.Bounds.{BoundsView, HasBoundsShape, bounds_view, verb_bounds}
 use Rattle.it_certificate.specs.Obligations.{obligation_count}
@@ -147,11 +147,11 @@ pub record ReadsReport (line : List ℕ) (r : Result Reading Key) : Type 0 where
 
 -- what was read of a line, by the question that is asked
 abbrev pub IsReported : Reading → Reported → Type 0
-IsReported (Answered source a) (reported.Answered question answer) = (asked source ≡ question_view question) × (a ≡ answer_view answer)
-IsReported (Coded source a c) (reported.Coded question answer code) = (asked source ≡ question_view question) × (a ≡ answer_view answer) × (c ≡ reported_code_view code)
-IsReported (Derived source a ws) (reported.Derived question answer origins) = (asked source ≡ question_view question) × (a ≡ answer_view answer) × (ws ≡ map certificate_view origins.items)
-IsReported (Factored source b) (reported.Factored question best) = (asked source ≡ question_view question) × (b ≡ best_view best)
-IsReported (Bounded source b) (reported.Bounded question bounds) = (asked source ≡ question_view question) × (b ≡ bounds_view bounds)
+IsReported (Answered source a) (reported.Answered question answer) = (asked source ≡ question) × (a ≡ answer_view answer)
+IsReported (Coded source a c) (reported.Coded question answer code) = (asked source ≡ question) × (a ≡ answer_view answer) × (c ≡ code)
+IsReported (Derived source a ws) (reported.Derived question answer origins) = (asked source ≡ question) × (a ≡ answer_view answer) × (ws ≡ map certificate_view origins.items)
+IsReported (Factored source b) (reported.Factored question best) = (asked source ≡ question) × (b ≡ best_view best)
+IsReported (Bounded source b) (reported.Bounded question bounds) = (asked source ≡ question) × (b ≡ bounds_view bounds)
 IsReported Misfit reported.Misfit = Unit {0}
 IsReported reading r = ⊥
 
@@ -166,9 +166,9 @@ Reports line (Err faults.Memory) = Unit {0}
 -- the question that was read is within the limits, and what was read with it fits it: an answer, one with its code or its
 -- origins, what is found of its factors, or bounds
 abbrev pub KeepsLimits : Reported → Type 0
-KeepsLimits (reported.Answered q a) = IsQuestion (question_body q) × HasQuestionShape (question_body q) (answer_view a)
-KeepsLimits (reported.Coded q a c) = IsQuestion (question_body q) × HasCodedShape (question_body q) (answer_view a) (reported_code_view c)
-KeepsLimits (reported.Derived q a ws) = IsQuestion (question_body q) × HasDerivedShape (question_body q) (answer_view a) (map certificate_view ws.items)
-KeepsLimits (reported.Factored q b) = IsQuestion (question_body q) × HasFactorShape (question_body q) (best_view b)
-KeepsLimits (reported.Bounded q b) = IsQuestion (question_body q) × HasBoundsShape (question_body q) (bounds_view b)
+KeepsLimits (reported.Answered q a) = IsQuestion q.body × HasQuestionShape q.body (answer_view a)
+KeepsLimits (reported.Coded q a c) = IsQuestion q.body × HasCodedShape q.body (answer_view a) c
+KeepsLimits (reported.Derived q a ws) = IsQuestion q.body × HasDerivedShape q.body (answer_view a) (map certificate_view ws.items)
+KeepsLimits (reported.Factored q b) = IsQuestion q.body × HasFactorShape q.body (best_view b)
+KeepsLimits (reported.Bounded q b) = IsQuestion q.body × HasBoundsShape q.body (bounds_view b)
 KeepsLimits reported.Misfit = Unit {0}

@@ -13,6 +13,7 @@ use Rattle.it_sharing.specs.Sharings.{SharingView, made_question, maximal_count,
 use Rattle.it_certificate.specs.declared.keys.Key.{Key}
 use Rattle.it_certificate.specs.declared.keys.Key.TheVariants as keys
 use Rattle.it_certificate.specs.Parts.{text_of}
+use Rattle.it_syntax.specs.Lines.{most_text_bytes}
 
 -- a question, a question and the copies that it is to have, or a sharing file
 pub data Source : Type 0 where
@@ -26,25 +27,25 @@ asked (Text q) = q
 asked (Copies q copies) = record { body = extended q.body copies; text = [] }
 asked (Sharing x) = made_question x
 
--- at most 1048577 bytes that are a file whose head asks for these copies in this one question, which can have them
+-- at most 1,048,577 bytes that are a file whose head asks for these copies in this one question, which can have them
 pub record AsksOnly (bytes : List ℕ) (q : QuestionView) (copies : List CopyView) : Type 0 where
-  pub short : length bytes ≤ 1048577
+  pub short : length bytes ≤ most_text_bytes
   pub reads : IsCopyFile bytes copies (q ∷ [])
   pub extension : IsExtension q.body copies (extended q.body copies)
 
--- at most 1048576 bytes that are this sharing file, whose minimal and maximal sets aren't too many
+-- at most 1,048,576 bytes that are this sharing file, whose minimal and maximal sets aren't too many
 pub record IsMakeable (bytes : List ℕ) (x : SharingView) : Type 0 where
   pub short : length bytes ≤ most_file_bytes
   pub reads : IsSharingFile bytes x
   pub few : minimal_count x + maximal_count x ≤ most_lines
 
--- There are neither `sharing` nor `copies`, and `question` is a text of at most 1048577 bytes that reads as this one question.
+-- There are neither `sharing` nor `copies`, and `question` is a text of at most 1,048,577 bytes that reads as this one question.
 pub record IsQuestionText (d : Data) (q : QuestionView) : Type 0 where
   pub no_sharing : get (codes "sharing") d ≡ None
   pub no_copies : get (codes "copies") d ≡ None
   pub text : List ℕ
   pub there : text_of (get (codes "question") d) ≡ Some text
-  pub short : length text ≤ 1048577
+  pub short : length text ≤ most_text_bytes
   pub reads : IsFile text (q ∷ [])
 
 -- There is no `sharing`, and `copies` and `question` are texts. The first and then the second ask for these copies in this one question.

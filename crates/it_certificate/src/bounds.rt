@@ -6,8 +6,7 @@ ghost use Rattle.it_space.specs.Spaces.{IsSpace, size_of};
 ghost use Rattle.it_spans.specs.Drops.{drop_view};
 ghost use Rattle.it_spans.specs.Spans.{step_view, step_views};
 ghost use Rattle.it_demand.specs.QuestionSpaces.{space_of};
-ghost use Rattle.it_question.specs.Limits.{IsQuestion};
-ghost use Rattle.it_question.specs.Questions.{question_body, verb_view};
+ghost use Rattle.it_question.specs.Questions.{verb_view};
 ghost use Rattle.it_certificate.specs.Bounds.{bounds_at, bounds_view, drop_at, step_at, steps_at, verb_bounds};
 ghost use Rattle.it_certificate.specs.Parts.{all_of, count_at, list_at};
 ghost use Rattle.it_certificate.specs.Steps.{GivesKeyed, Yields};
@@ -135,11 +134,10 @@ pub fn question_bounds(
     value: &Value,
     question: &Question,
 ) -> Result<ReportedBounds, ReportFault>
-    requires { IsQuestion (question_body question.now) }
-    ensures { GivesKeyed bounds_view result (verb_bounds question.now.names (verb_view question.now.verb) (view value.now)) }
+    ensures { GivesKeyed bounds_view result (verb_bounds question.now.body.names question.now.body.verb (view value.now)) }
 {
-    match &question.verb {
-        Verb::Eliminate(_) => bounds_at(alloc, value, question.names.space()),
+    match question.verb() {
+        Verb::Eliminate(_) => bounds_at(alloc, value, question.space()),
         Verb::Prove(_) | Verb::Contain { .. } => Err(ReportFault::Shape { key: Key::Answer }),
     }
 }

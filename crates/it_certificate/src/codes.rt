@@ -1,10 +1,8 @@
 //! The linear code that a report claims for its point.
-ghost use Rattle.std.specs.Prelude.{◌≡◌, ◌≤◌, map, option_and_then, option_map};
+ghost use Rattle.std.specs.Prelude.{◌≡◌, ◌≤◌, length, map, option_and_then, option_map};
 ghost use Rattle.serde_json.specs.View.{items_view, view};
 ghost use Rattle.it_codes.specs.Codes.{functions_of, size};
-ghost use Rattle.it_question.specs.Limits.{IsQuestion};
-ghost use Rattle.it_question.specs.Questions.{question_body};
-ghost use Rattle.it_certificate.specs.CodeReading.{code_in, coefficient_at, field_at, field_of, function_at, most_symbols, names_code, reported_code_view, some_of, symbols_at, tells_code, times_at, variable_at, variables_at};
+ghost use Rattle.it_certificate.specs.CodeReading.{code_in, coefficient_at, field_at, field_of, function_at, most_symbols, names_code, some_of, symbols_at, tells_code, times_at, variable_at, variables_at};
 ghost use Rattle.it_certificate.specs.Numerals.{below};
 ghost use Rattle.it_certificate.specs.Parts.{all_of};
 ghost use Rattle.it_certificate.specs.Steps.{GivesKeyed, Yields};
@@ -217,10 +215,10 @@ fn variables_at(
 
 // ---- a code
 
-/// A code of `count` variables.
+/// A code of the question's variables.
 #[tactic(auto, unfolding(crate::specs::CodeReading::code_in), using(it_codes::proofs::EntropyLemmas::three_elements))]
-fn code_in(alloc: Global, count: usize, value: &Value) -> Result<ReportedCode, Refusal>
-    ensures { Yields reported_code_view result (code_in count (view value.now)) }
+fn code_in(alloc: Global, question: &Question, value: &Value) -> Result<ReportedCode, Refusal>
+    ensures { Yields (λ c. c) result (code_in (length question.now.body.names.variables) (view value.now)) }
 {
     let Some(field) = field_at(value) else {
         return Err(Refusal::Shape);
@@ -228,6 +226,7 @@ fn code_in(alloc: Global, count: usize, value: &Value) -> Result<ReportedCode, R
     let Some(symbols) = symbols_at(field, value) else {
         return Err(Refusal::Shape);
     };
+    let count = question.space().variables as usize;
     let variables = variables_at(alloc, field.size(), symbols, count, value)?;
     let Some(times) = times_at(value) else {
         return Err(Refusal::Shape);
@@ -240,16 +239,16 @@ fn code_in(alloc: Global, count: usize, value: &Value) -> Result<ReportedCode, R
     Ok(ReportedCode { code, times })
 }
 
-/// A code of `count` variables, from a member.
+/// A code of the question's variables, from a member.
 fn code_of_member(
     alloc: Global,
-    count: usize,
+    question: &Question,
     value: Option<&Value>,
 ) -> Result<ReportedCode, Refusal>
-    ensures { Yields reported_code_view result (option_and_then (code_in count) (option_map (λ v. view v.now) value.entry)) }
+    ensures { Yields (λ c. c) result (option_and_then (code_in (length question.now.body.names.variables)) (option_map (λ v. view v.now) value.entry)) }
 {
     match value {
-        Some(value) => code_in(alloc, count, value),
+        Some(value) => code_in(alloc, question, value),
         None => Err(Refusal::Shape),
     }
 }
@@ -261,11 +260,9 @@ pub fn question_code(
     value: &Value,
     question: &Question,
 ) -> Result<ReportedCode, ReportFault>
-    requires { IsQuestion (question_body question.now) }
-    ensures { GivesKeyed reported_code_view result (names_code question.now.names (view value.now)) }
+    ensures { GivesKeyed (λ c. c) result (names_code question.now.body.names (view value.now)) }
 {
-    let count = question.names.space().variables as usize;
-    match code_of_member(alloc, count, value.get("code")) {
+    match code_of_member(alloc, question, value.get("code")) {
         Ok(code) => Ok(code),
         Err(refusal) => Err(fault(refusal, Key::Code)),
     }

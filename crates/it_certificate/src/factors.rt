@@ -5,8 +5,7 @@ ghost use Rattle.serde_json.specs.View.{view};
 ghost use Rattle.it_space.specs.Answers.{certificate_view};
 ghost use Rattle.it_space.specs.Spaces.{IsSpace, size_of};
 ghost use Rattle.it_demand.specs.QuestionSpaces.{space_of};
-ghost use Rattle.it_question.specs.Limits.{IsQuestion};
-ghost use Rattle.it_question.specs.Questions.{question_body, verb_view};
+ghost use Rattle.it_question.specs.Questions.{verb_view};
 ghost use Rattle.it_ratio.specs.BestViews.{best_view};
 ghost use Rattle.it_ratio.specs.Truth.{asked_by};
 ghost use Rattle.it_certificate.specs.FactorReading.{best_at, both_of, cause_with, certificates_at, factor_at, factor_cause_of, factor_kind_at, least_at, never_at, one_of, phase_at, ratio_at, steps_at, unbounded_at, undecided_factor_at, verb_best};
@@ -259,11 +258,10 @@ pub fn question_best(
     question: &Question,
     kind: FactorKind,
 ) -> Result<Best, ReportFault>
-    requires { IsQuestion (question_body question.now) }
-    ensures { GivesKeyed best_view result (verb_best question.now.names (verb_view question.now.verb) kind (view value.now)) }
+    ensures { GivesKeyed best_view result (verb_best question.now.body.names question.now.body.verb kind (view value.now)) }
 {
-    if asks_factor(&question.verb) {
-        best_at(alloc, value, question.names.space(), kind)
+    if asks_factor(question.verb()) {
+        best_at(alloc, value, question.space(), kind)
     } else {
         Err(ReportFault::Shape { key: Key::Answer })
     }

@@ -2,7 +2,6 @@
 ghost use Rattle.std.specs.Prelude.{◌≡◌, ◌≤◌, ℕ, length, map, sum_by};
 ghost use Rattle.it_syntax.specs.Givens.{IsGivenOf, given_view};
 ghost use Rattle.it_syntax.specs.Meaning.{relation_view};
-ghost use Rattle.it_question.specs.Questions.{region_view};
 ghost use Rattle.it_question.specs.Limits.{AreLinesOver};
 ghost use Rattle.it_certificate.specs.Obligations.{obligation_count};
 ghost use Rattle.it_certificate.specs.ReportSteps.{given_form_count, relation_form_count, target_count};
@@ -35,12 +34,13 @@ fn given_form_count(given: &Given) -> usize
 
 /// The number of forms that the givens of `region` say to be at least 0.
 fn givens_form_count(region: &Region) -> usize
-    requires { AreLinesOver region.now.names (region_view region.now).lines }
-    ensures count { result ≡ sum_by given_form_count (map given_view region.now.lines.givens.items) }
+    requires { AreLinesOver region.now.names region.now.lines }
+    ensures count { result ≡ sum_by given_form_count region.now.lines.givens }
     ensures few { result ≤ 2048 }
 {
+    let givens = region.lines().givens();
     let mut count = 0;
-    for given in &region.lines.givens {
+    for given in givens {
         count += given_form_count(given);
     }
     count
@@ -61,8 +61,8 @@ fn rows_form_count(rows: &[Relation]) -> usize
 
 /// The number of obligations that the lines of `region`, a second region, make: of forms that they say to be at least 0.
 pub fn obligation_count(region: &Region) -> usize
-    requires { AreLinesOver region.now.names (region_view region.now).lines }
-    ensures { result ≡ obligation_count (region_view region.now) }
+    requires { AreLinesOver region.now.names region.now.lines }
+    ensures { result ≡ obligation_count region.now }
 {
-    givens_form_count(region) + rows_form_count(region.lines.rows.as_slice())
+    givens_form_count(region) + rows_form_count(region.lines().rows())
 }

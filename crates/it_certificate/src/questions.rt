@@ -1,7 +1,6 @@
 //! The question that a text reads as.
 ghost use Rattle.std.specs.Prelude.{All, IfOk, IfSome};
 ghost use Rattle.it_question.specs.Limits.{IsQuestion};
-ghost use Rattle.it_question.specs.Questions.{question_body};
 ghost use Rattle.it_certificate.specs.ReportSteps.{GivesOnly, IsOnly};
 
 use crate::keys::Refusal;
@@ -12,7 +11,7 @@ use std::alloc::Global;
 /// The only question of a list, if it has one.
 fn single_question(questions: Vec<Question>) -> Option<Question>
     ensures one { IsOnly questions.items result }
-    ensures limits { All (λ q. IsQuestion (question_body q)) questions.items → IfSome result (λ q. IsQuestion (question_body q)) }
+    ensures limits { All (λ q. IsQuestion q.body) questions.items → IfSome result (λ q. IsQuestion q.body) }
 {
     let mut questions = questions;
     if questions.len() == 1 {
@@ -22,13 +21,13 @@ fn single_question(questions: Vec<Question>) -> Option<Question>
     }
 }
 
-/// The question that a text of at most 1048577 bytes reads as, if it reads as exactly one.
+/// The question that a text of at most 1,048,577 bytes reads as, if it reads as exactly one.
 pub fn question_of(alloc: Global, text: &str) -> Result<Question, Refusal>
     ensures reading { GivesOnly text.now result }
-    ensures limits { IfOk result (λ q. IsQuestion (question_body q)) }
+    ensures limits { IfOk result (λ q. IsQuestion q.body) }
 {
     let bytes = text.as_bytes();
-    if bytes.len() > 1048577 {
+    if bytes.len() > 1_048_577 {
         return Err(Refusal::Shape);
     }
     match questions(alloc, bytes) {

@@ -2,7 +2,6 @@
 ghost use Rattle.std.specs.Prelude.{◌≡◌, false, true, IfOk, None, Some};
 ghost use Rattle.serde_json.specs.View.{view};
 ghost use Rattle.it_question.specs.Limits.{IsQuestion};
-ghost use Rattle.it_question.specs.Questions.{question_body};
 ghost use Rattle.it_certificate.specs.CodeReading.{tells_code};
 ghost use Rattle.it_certificate.specs.FactorReading.{factor_kind_at};
 ghost use Rattle.it_certificate.specs.OriginReading.{tells_origins};
@@ -28,7 +27,7 @@ use std::alloc::Global;
 #[tactic(auto, using(crate::proofs::ReportLemmas::no_question))]
 fn asked_question(alloc: Global, value: &Value) -> Result<Question, ReportFault>
     ensures reading { GivesAsked (view value.now) result }
-    ensures limits { IfOk result (λ q. IsQuestion (question_body q)) }
+    ensures limits { IfOk result (λ q. IsQuestion q.body) }
 {
     match source_at(alloc, value) {
         Ok(question) => Ok(question),

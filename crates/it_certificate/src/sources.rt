@@ -3,11 +3,9 @@ ghost use Rattle.std.specs.Prelude.{◌≡◌, ◌≤◌, ◌++◌, All, IfOk, c
 ghost use Rattle.serde_json.specs.Find.{get};
 ghost use Rattle.serde_json.specs.View.{view};
 ghost use Rattle.it_question.specs.Limits.{IsQuestion};
-ghost use Rattle.it_question.specs.Questions.{question_body, question_view};
 ghost use Rattle.it_copy.specs.CopyLines.{AreNamed, copy_view};
 ghost use Rattle.it_certificate.specs.Parts.{text_of};
 ghost use Rattle.it_certificate.specs.ReportSteps.{GivesCopied, GivesExtended, GivesMade, GivesMadeFrom, GivesSource, refusal_by};
-ghost use Rattle.it_sharing.specs.Sharings.{IsSharing, sharing_view};
 ghost use Rattle.it_certificate.specs.Sources.{source_key};
 
 use crate::keys::{Key, Refusal};
@@ -51,9 +49,8 @@ pub fn source_key(value: &Value) -> Key
 
 /// The question that a sharing file makes, unless its sets are too many.
 fn made_from(alloc: Global, sharing: &Sharing) -> Result<Question, Refusal>
-    requires { IsSharing (sharing_view sharing.now) }
-    ensures reading { GivesMadeFrom (sharing_view sharing.now) result }
-    ensures limits { IfOk result (λ q. IsQuestion (question_body q)) }
+    ensures reading { GivesMadeFrom sharing.now result }
+    ensures limits { IfOk result (λ q. IsQuestion q.body) }
 {
     match made(alloc, sharing) {
         Ok(made) => Ok(made.into_question()),
@@ -62,13 +59,13 @@ fn made_from(alloc: Global, sharing: &Sharing) -> Result<Question, Refusal>
     }
 }
 
-/// The question that at most 1048576 bytes make, if they are a sharing file of few sets.
+/// The question that at most 1,048,576 bytes make, if they are a sharing file of few sets.
 #[tactic(auto, using(crate::proofs::SourceLemmas::made_long, crate::proofs::SourceLemmas::made_by_file))]
 fn made_of(alloc: Global, bytes: &[u8]) -> Result<Question, Refusal>
     ensures reading { GivesMade bytes.now result }
-    ensures limits { IfOk result (λ q. IsQuestion (question_body q)) }
+    ensures limits { IfOk result (λ q. IsQuestion q.body) }
 {
-    if bytes.len() > 1048576 {
+    if bytes.len() > 1_048_576 {
         return Err(Refusal::Shape);
     }
     match sharing(alloc, bytes) {
@@ -93,11 +90,11 @@ fn refusal_by(fault: CopyFault) -> Refusal
 /// The only one of `questions`, extended with `copies`; `Shape` where there isn't just one, or it can't have them.
 #[tactic(auto, using(crate::proofs::SourceLemmas::not_one, crate::proofs::SourceLemmas::extended_only, crate::proofs::SourceLemmas::misfit_only))]
 fn extended(alloc: Global, copies: &[CopyLine], questions: &[Question]) -> Result<Question, Refusal>
-    requires limits { All (λ q. IsQuestion (question_body q)) questions.now }
+    requires limits { All (λ q. IsQuestion q.body) questions.now }
     requires names { AreNamed copies.now }
     requires few { length copies.now ≤ 4 }
-    ensures reading { GivesExtended (map copy_view copies.now) (map question_view questions.now) result }
-    ensures limits { IfOk result (λ q. IsQuestion (question_body q)) }
+    ensures reading { GivesExtended (map copy_view copies.now) questions.now result }
+    ensures limits { IfOk result (λ q. IsQuestion q.body) }
 {
     if questions.len() != 1 {
         return Err(Refusal::Shape);
@@ -108,13 +105,13 @@ fn extended(alloc: Global, copies: &[CopyLine], questions: &[Question]) -> Resul
     }
 }
 
-/// The only question of at most 1048577 bytes with the copies that their head asks for.
+/// The only question of at most 1,048,577 bytes with the copies that their head asks for.
 #[tactic(auto, using(crate::proofs::SourceLemmas::copied_long, crate::proofs::SourceLemmas::copied_by_file))]
 fn copied(alloc: Global, bytes: &[u8]) -> Result<Question, Refusal>
     ensures reading { GivesCopied bytes.now result }
-    ensures limits { IfOk result (λ q. IsQuestion (question_body q)) }
+    ensures limits { IfOk result (λ q. IsQuestion q.body) }
 {
-    if bytes.len() > 1048577 {
+    if bytes.len() > 1_048_577 {
         return Err(Refusal::Shape);
     }
     match copy_file(alloc, bytes) {
@@ -139,7 +136,7 @@ fn joined(alloc: Global, first: &str, second: &str) -> Result<Vec<u8>, AllocErro
 fn sharing_at(alloc: Global, value: &Value) -> Result<Question, Refusal>
     requires there { is_some (get (codes "sharing") (view value.now)) ≡ true }
     ensures reading { GivesSource (view value.now) result }
-    ensures limits { IfOk result (λ q. IsQuestion (question_body q)) }
+    ensures limits { IfOk result (λ q. IsQuestion q.body) }
 {
     match text_at(value, "sharing") {
         Some(text) => made_of(alloc, text.as_bytes()),
@@ -153,7 +150,7 @@ fn copies_at(alloc: Global, value: &Value) -> Result<Question, Refusal>
     requires no_sharing { is_some (get (codes "sharing") (view value.now)) ≡ false }
     requires there { is_some (get (codes "copies") (view value.now)) ≡ true }
     ensures reading { GivesSource (view value.now) result }
-    ensures limits { IfOk result (λ q. IsQuestion (question_body q)) }
+    ensures limits { IfOk result (λ q. IsQuestion q.body) }
 {
     let Some(head) = text_at(value, "copies") else {
         return Err(Refusal::Shape);
@@ -173,7 +170,7 @@ fn question_at(alloc: Global, value: &Value) -> Result<Question, Refusal>
     requires no_sharing { is_some (get (codes "sharing") (view value.now)) ≡ false }
     requires no_copies { is_some (get (codes "copies") (view value.now)) ≡ false }
     ensures reading { GivesSource (view value.now) result }
-    ensures limits { IfOk result (λ q. IsQuestion (question_body q)) }
+    ensures limits { IfOk result (λ q. IsQuestion q.body) }
 {
     match text_at(value, "question") {
         Some(text) => question_of(alloc, text),
@@ -185,7 +182,7 @@ fn question_at(alloc: Global, value: &Value) -> Result<Question, Refusal>
 /// head.
 pub fn source_at(alloc: Global, value: &Value) -> Result<Question, Refusal>
     ensures reading { GivesSource (view value.now) result }
-    ensures limits { IfOk result (λ q. IsQuestion (question_body q)) }
+    ensures limits { IfOk result (λ q. IsQuestion q.body) }
 {
     if has_member(value, "sharing") {
         sharing_at(alloc, value)

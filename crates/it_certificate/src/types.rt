@@ -1,9 +1,12 @@
 //! What a report says.
+ghost use Rattle.std.specs.Prelude.{◌≡◌};
+
 use it_codes::LinearCode;
 use it_question::types::Question;
 use it_ratio::types::Best;
 use it_space::{Answer, Certificate, Row};
 use it_spans::Step;
+use std::marker::Model;
 
 /// The texts of what a report line is about: a question, a question with copies, by the head that asks for them, or a sharing file.
 #[derive(Clone, Copy)]
@@ -34,8 +37,32 @@ impl Drop for ReportedBounds {
 
 /// The linear code that a report claims for a point, and what one symbol counts in the point's values.
 pub struct ReportedCode {
-    pub code: LinearCode,
-    pub times: u32,
+    pub(crate) code: LinearCode,
+    pub(crate) times: u32,
+}
+
+impl Model for ReportedCode {
+    ghost use Rattle.it_certificate.specs.CodeReading.{ReportedCodeView};
+
+    ghost Value = { ReportedCodeView };
+
+    ghost view = { λ c. record { code = c.code; times = c.times } };
+}
+
+impl ReportedCode {
+    /// The code itself.
+    pub fn code(&self) -> &LinearCode
+        ensures { result.now ≡ self.now.code }
+    {
+        &self.code
+    }
+
+    /// What one symbol counts in the point's values.
+    pub fn times(&self) -> u32
+        ensures { result ≡ self.now.times }
+    {
+        self.times
+    }
 }
 
 // Written by hand, so that dropping a code takes one call and not a step for each field.

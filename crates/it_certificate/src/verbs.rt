@@ -3,8 +3,8 @@ ghost use Rattle.serde_json.specs.View.{view};
 ghost use Rattle.it_space.specs.Answers.{answer_view};
 ghost use Rattle.it_space.specs.Spaces.{IsSpace};
 ghost use Rattle.it_demand.specs.QuestionSpaces.{space_of};
-ghost use Rattle.it_question.specs.Questions.{question_body, verb_view};
-ghost use Rattle.it_question.specs.Limits.{IsQuestion, IsVerbOver};
+ghost use Rattle.it_question.specs.Questions.{verb_view};
+ghost use Rattle.it_question.specs.Limits.{IsVerbOver};
 ghost use Rattle.it_certificate.specs.Reports.{verb_answer};
 ghost use Rattle.it_certificate.specs.Steps.{GivesKeyed};
 
@@ -49,9 +49,9 @@ fn verb_answer(
         },
         Verb::Contain { first, second, .. } => match kind {
             AnswerKind::Contained => {
-                let variables = first.names.space().variables;
+                let variables = first.space().variables;
                 let obligations = obligation_count(second);
-                contained_at(alloc, value, second.auxiliaries, variables, obligations)
+                contained_at(alloc, value, second.auxiliaries(), variables, obligations)
             }
             AnswerKind::Open => open_at(value),
             AnswerKind::Yes | AnswerKind::No | AnswerKind::Undecided | AnswerKind::Region => {
@@ -68,8 +68,7 @@ pub fn question_answer(
     question: &Question,
     kind: AnswerKind,
 ) -> Result<Answer, ReportFault>
-    requires { IsQuestion (question_body question.now) }
-    ensures { GivesKeyed answer_view result (verb_answer question.now.names (verb_view question.now.verb) kind (view value.now)) }
+    ensures { GivesKeyed answer_view result (verb_answer question.now.body.names question.now.body.verb kind (view value.now)) }
 {
-    verb_answer(alloc, value, &question.names, &question.verb, kind)
+    verb_answer(alloc, value, question.names(), question.verb(), kind)
 }

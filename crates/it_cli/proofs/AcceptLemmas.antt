@@ -31,7 +31,8 @@ use Rattle.it_prove.specs.declared.types.Effort.{Effort}
 use Rattle.it_syntax.specs.Meaning.{RelationView}
 use Rattle.it_syntax.specs.NamesViews.{NamesView}
 use Rattle.it_question.specs.AsciiTexts.{IsAsciiQuestion}
-use Rattle.it_question.specs.Questions.{BodyView, QuestionView, RegionView, VerbView, Prove, Eliminate, Contain}
+use Rattle.it_question.specs.OwnLines.{RegionView}
+use Rattle.it_question.specs.Questions.{BodyView, QuestionView, VerbView, Prove, Eliminate, Contain}
 use Rattle.it_question.specs.Files.{IsFile}
 use Rattle.it_question.specs.Limits.{IsQuestion, IsVerbOver}
 use Rattle.it_question.proofs.FileReadings.{file_limits}

@@ -4,8 +4,7 @@ use Rattle.std.specs.Global.{Vec}
 use Rattle.std.proofs.lemmas.List.{length-map, get_or-map}
 use Rattle.it_prove.specs.declared.types.Effort.{Effort}
 use Rattle.it_space.specs.Answers.{AnswerView}
-use Rattle.it_question.specs.declared.types.Question.{Question}
-use Rattle.it_question.specs.Questions.{BodyView, QuestionView, question_view, VerbView, Prove, Eliminate, Contain}
+use Rattle.it_question.specs.Questions.{BodyView, QuestionView, VerbView, Prove, Eliminate, Contain}
 use Rattle.it_copy.specs.CopyLines.{CopyView}
 use Rattle.it_copy.specs.declared.types.CopyFault.{CopyFault}
 use Rattle.it_copy.specs.declared.types.CopyFault.TheVariants.{Memory}
@@ -79,14 +78,14 @@ texts_are head text copies q e f = ap₂ OfCopies e f
 
 -- ---- the questions, one after the other
 
-abbrev items_of : List CopyView → List Question → List CopyQuestion
-items_of cs qs = map (with_copies cs) (map question_view qs)
+abbrev items_of : List CopyView → List QuestionView → List CopyQuestion
+items_of cs qs = map (with_copies cs) qs
 
-pub items_long : (cs : List CopyView) (qs : List Question) → length (items_of cs qs) ≡ length qs
-items_long cs qs = length-map (map question_view qs) (with_copies cs) ∙ length-map qs question_view
+pub items_long : (cs : List CopyView) (qs : List QuestionView) → length (items_of cs qs) ≡ length qs
+items_long cs qs = length-map qs (with_copies cs)
 
-pub item_at : (cs : List CopyView) (qs : List Question) (i : ℕ) (r : Question) → i < length qs → r ≡ get_or qs i r
-    → get_or (items_of cs qs) i (with_copies cs (question_view r)) ≡ with_copies cs (question_view r)
+pub item_at : (cs : List CopyView) (qs : List QuestionView) (i : ℕ) (r : QuestionView) → i < length qs → r ≡ get_or qs i r
+    → get_or (items_of cs qs) i (with_copies cs r) ≡ with_copies cs r
 item_at cs qs i r h e =
-    get_or-map (with_copies cs) (map question_view qs) i (question_view r) (with_copies cs (question_view r))
-    (omega (arith, h, length-map qs question_view)) ∙ ap (with_copies cs) (question_at qs i r h e)
+    get_or-map (with_copies cs) qs i r (with_copies cs r)
+    (omega (arith, h)) ∙ ap (with_copies cs) (question_at qs i r h e)

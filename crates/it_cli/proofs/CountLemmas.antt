@@ -1,13 +1,12 @@
 -- The counts of mode `bench`.
 use Rattle.std.proofs.Common.{◌≡◌, ℕ, zero, suc, ◌+◌, ◌<◌, ◌≤◌, List, [], ◌∷◌, ◌++◌, length, map, drop, get_or, All, refl, sym, ap, subst, ◌∙◌, arith, false}
-use Rattle.std.proofs.lemmas.List.{drop_more, length-map, get_or-map}
+use Rattle.std.proofs.lemmas.List.{drop_more, get_or-map}
 use Rattle.std.proofs.lemmas.List.Elements.{All-head, All-tail}
 use Rattle.it_space.specs.declared.answers.Answer.{Answer}
 use Rattle.it_space.specs.Answers.{AnswerView, answer_view}
 use Rattle.it_space.specs.Answers.AnswerView.{Yes, No, Undecided, Region, Contained, Open}
 use Rattle.it_syntax.specs.Meaning.{RelationView}
-use Rattle.it_question.specs.declared.types.Question.{Question}
-use Rattle.it_question.specs.Questions.{BodyView, QuestionView, VerbView, Prove, Eliminate, Contain, question_view, question_body}
+use Rattle.it_question.specs.Questions.{BodyView, QuestionView, VerbView, Prove, Eliminate, Contain}
 use Rattle.it_forms.specs.declared.types.Code.{Code}
 use Rattle.it_question.specs.Files.{FileFaultAt, FileIsOne, FileOrFault}
 use Rattle.it_gen.specs.GeneratedFiles.{GeneratedIsFile, IsProve, generated_file}
@@ -44,9 +43,9 @@ total_more c (Region rows) = omega arith
 total_more c (Contained parts proofs) = omega arith
 total_more c (Open tried) = omega arith
 
-pub counting_more : (budgets : Budgets) (plans plans_now plans_next : List Plan) (qs : List Question) (i : ℕ) (r : Question) (counts : Counts) (answer : Answer)
-    → IsCounting budgets plans (map question_view qs) i counts plans_now → i < length qs → r ≡ get_or qs i r → IsAnswered budgets plans_now r answer plans_next
-    → IsCounting budgets plans (map question_view qs) (i + 1) (with_answer counts (answer_view answer)) plans_next
+pub counting_more : (budgets : Budgets) (plans plans_now plans_next : List Plan) (qs : List QuestionView) (i : ℕ) (r : QuestionView) (counts : Counts) (answer : Answer)
+    → IsCounting budgets plans qs i counts plans_now → i < length qs → r ≡ get_or qs i r → IsAnswered budgets plans_now r answer plans_next
+    → IsCounting budgets plans qs (i + 1) (with_answer counts (answer_view answer)) plans_next
 counting_more budgets plans plans_now plans_next qs i r counts answer c h e a = record {
   found = c.found ++ a.found;
   counted = λ end rest. c.counted end (subst (λ (ys : List QuestionView). AreCounted budgets plans c.found counts ys end)
@@ -58,12 +57,12 @@ counting_more budgets plans plans_now plans_next qs i r counts answer c h e a = 
     reply : Reply
     reply = record { answer = answer_view answer; found = a.found }
 
-    reply_is_right : IsRightAfter budgets plans c.found (question_view r) reply
-    reply_is_right = subst (λ (ps : List Plan). IsRightAnswer budgets ps (question_body r) reply) c.learned a.right
+    reply_is_right : IsRightAfter budgets plans c.found r reply
+    reply_is_right = subst (λ (ps : List Plan). IsRightAnswer budgets ps r.body reply) c.learned a.right
 
-    question_is_first : drop i (map question_view qs) ≡ question_view r ∷ drop (i + 1) (map question_view qs)
-    question_is_first = drop_more (map question_view qs) i (question_view r) (simp length-map h)
-        ∙ ap (λ y. y ∷ drop (i + 1) (map question_view qs)) (get_or-map question_view qs i r (question_view r) h ∙ ap question_view (sym e))
+    question_is_first : drop i qs ≡ r ∷ drop (i + 1) qs
+    question_is_first = drop_more qs i r h
+        ∙ ap (λ y. y ∷ drop (i + 1) qs) (sym e)
 
 nothing_left : (i : ℕ) (qs : List QuestionView) → length qs ≤ i → drop i qs ≡ []
 nothing_left zero [] h = refl

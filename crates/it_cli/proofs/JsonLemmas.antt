@@ -21,10 +21,9 @@ use Rattle.it_simplex.specs.Answers.{Solves}
 use Rattle.it_prove.specs.Closed.{closed_places, spread_point}
 use Rattle.it_closure.specs.Collapse.{spread_out}
 use Rattle.it_columns.specs.Scaling.{NumbersFit, scale_of, scaled_point}
-use Rattle.it_prove.specs.Steps.{terms_of_places}
 use Rattle.it_prove.specs.ProofViews.{Follows, Runs, EndsWith, AreProofsOf}
 use Rattle.it_prove.proofs.ProofLemmas.{scaled_within}
-use Rattle.it_prove.proofs.PointLemmas.{places_rise, pairs_canonical, point_spread, spread_within}
+use Rattle.it_prove.proofs.PointLemmas.{places_rise, point_spread, spread_within}
 use Rattle.it_syntax.specs.declared.types.Sign.{Sign}
 use Rattle.it_syntax.specs.declared.types.Sign.TheVariants.{AtLeast, AtMost, Equal}
 use Rattle.it_syntax.specs.Meaning.{RelationView}
@@ -33,7 +32,7 @@ use Rattle.it_question.specs.Questions.{BodyView, Prove}
 use Rattle.it_demand.specs.Canonical.{form_of}
 use Rattle.it_demand.specs.Demands.{Demand, kind_of}
 use Rattle.it_demand.specs.Origins.{States}
-use Rattle.std.specs.List.{AllZip}
+use Rattle.std.specs.List.{AllZip, zip}
 use Rattle.it_demand.specs.Targets.{targets, inequalities_of}
 use Rattle.it_canon.specs.TrueLines.{variable_count}
 use Rattle.it_canon.specs.QuestionDemands.{question_demands, problem_of, terms_in, IsProblemOf}
@@ -90,12 +89,11 @@ module _ (q : ProblemView) (target : Terms) where
   spread_fits : (qs : List Rational) → IsProblem q → NumbersFit qs → All IsWithin (spread_point q qs)
   spread_fits qs limits fit =
       let cs = closed_places q in
-      let row = terms_of_places (closed_places q) (scaled_point qs) in
-      let canonical : IsCanonical row = pairs_canonical cs (scaled_point qs) row refl (places_rise q cs limits refl)
-      (scaled_within (scale_of qs) qs (scaled_point qs) refl fit.numbers) in
-      let values = map (spread_out q.space.variables (dependences_of q) (coefficient row)) (span 1 (size_of q.space)) in
-      subst (All IsWithin) (point_spread q q.space (dependences_of q) cs qs row values refl refl refl refl refl)
-      (spread_within q.space.variables (dependences_of q) (size_of q.space) row canonical)
+      let vs = scaled_point qs in
+      let values = map (spread_out q.space.variables (dependences_of q) (coefficient (zip cs vs))) (span 1 (size_of q.space)) in
+      subst (All IsWithin) (point_spread q q.space (dependences_of q) cs vs qs (zip cs vs) values refl refl refl refl refl refl)
+      (spread_within q.space.variables (dependences_of q) (size_of q.space) cs vs (zip cs vs) values refl refl
+      (places_rise q cs limits refl) (scaled_within (scale_of qs) qs vs refl fit.numbers))
 
   values_by_end : IsProblem q → (values : List ℤ) (e : RunEndView (List (ℕ × Rational)) (List Rational))
       → Follows q target e (proof_views.No values) → All IsWithin values

@@ -9,7 +9,7 @@ pub mod EndLemmas
 pub mod LawLemmas
 pub mod OutputLemmas
 pub mod PrefixLemmas
-pub mod CheckLemmas
+pub mod EachLineLemmas
 pub mod CopyLemmas
 pub mod CopyFactors
 pub mod BestLemmas

@@ -27,7 +27,8 @@ use Rattle.it_syntax.specs.NamesViews.{NamesView}
 use Rattle.it_question.specs.AsciiTexts.{IsAsciiQuestion}
 use Rattle.it_certificate.specs.Values.{IsWritable}
 use Rattle.it_question.specs.Limits.{IsQuestion, IsRegionOf, IsVerbOver}
-use Rattle.it_question.specs.Questions.{BodyView, QuestionView, RegionView, VerbView, Prove, Eliminate, Contain}
+use Rattle.it_question.specs.OwnLines.{RegionView}
+use Rattle.it_question.specs.Questions.{BodyView, QuestionView, VerbView, Prove, Eliminate, Contain}
 use Rattle.it_demand.specs.Demands.{Demand}
 use Rattle.it_demand.specs.Origins.{ComesFrom, States, AreStated}
 use Rattle.std.specs.List.{AllZip}
@@ -130,15 +131,6 @@ few_names q k = by_verb q.verb k.verb
     by_verb (Prove r) over = (k.few, k.few_rates)
     by_verb (Eliminate rates) over = (k.few, k.few_rates)
     by_verb (Contain a b tries) over = (over.0.few_variables, subst (λ (rs : List (List ℕ)). length rs ≤ 16) (sym over.0.rates) k.few_rates)
-
--- a question has at least one variable
-pub some_names : (q : BodyView) → IsQuestion q → 1 ≤ variable_count q
-some_names q k = by_verb q.verb k.verb
-  where
-    by_verb : (verb : VerbView) → IsVerbOver q.names verb → 1 ≤ length (names_under q.names verb).variables
-    by_verb (Prove r) over = k.some
-    by_verb (Eliminate rates) over = k.some
-    by_verb (Contain a b tries) over = omega (arith, k.some, ap length over.0.variables, length-append q.names.variables over.0.own)
 
 printable_proof : (effort : Effort) (q : BodyView) (r : RelationView) (m : ℕ) (answer : Answer) → IsQuestion q
     → m ≡ length (question_demands q) → ShowsBy q (Prove r) (answer_view answer)

@@ -15,10 +15,11 @@ use Rattle.it_cli.specs.ToldOrigins.{IsRightTold, ToldReply, told_report}
 use Rattle.it_cli.specs.declared.status.Status.{Status}
 use Rattle.it_cli.specs.declared.status.Status.TheVariants.{Done}
 use Rattle.it_question.specs.QuestionLimits.{most_file_bytes}
+use Rattle.it_syntax.specs.Lines.{most_text_bytes}
 
 -- Each verdict on the report of a right answer, with what any format tells of its rows, is `valid` or `skipped`.
 abbrev pub ReportsAreAccepted : Type 0
-ReportsAreAccepted = (format : Format) (budgets : Budgets) (plans : List Plan) (q : QuestionView) (told : ToldReply) → IfSome budgets.effort.pivots (λ n. n < 2 ^ 32) → budgets.tries < 2 ^ 32 → length q.text ≤ 1048577
+ReportsAreAccepted = (format : Format) (budgets : Budgets) (plans : List Plan) (q : QuestionView) (told : ToldReply) → IfSome budgets.effort.pivots (λ n. n < 2 ^ 32) → budgets.tries < 2 ^ 32 → length q.text ≤ most_text_bytes
     → IsFile q.text (q ∷ []) → IsRightTold format budgets plans q.body told
     → (v : LineVerdict) → IsVerdict (told_report q told.reply.answer told.origins) v → is_invalid v ≡ false
 

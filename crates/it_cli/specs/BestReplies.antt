@@ -35,12 +35,7 @@ abbrev pub IsRightBestReply : Effort → CopyQuestion → BestReply → Type 0
 IsRightBestReply effort x (Misfit fault) = IsToldMisfit x fault
 IsRightBestReply effort x (Extended e reply) = IsAskedWith x.question.body x.copies e × IsRightReply effort e reply
 
--- the line of a reply to question k
-abbrev pub best_text : ℕ → BestReply → List ℕ
-best_text k (Misfit fault) = misfit_line k fault
-best_text k (Extended e reply) = reply_line k e (question_origins e) reply
-
--- ---- as a line of a report
+-- ---- its lines
 
 -- the members of what is found, or that the question asks for no factor
 abbrev pub reply_members : ReplyView → Members
@@ -52,12 +47,9 @@ abbrev pub texts_with : List CopyView → List ℕ → SourceTexts
 texts_with [] text = OfQuestion text
 texts_with (c ∷ cs) text = OfCopies (head_text (c ∷ cs)) text
 
--- the line of a report
-abbrev pub best_report : CopyQuestion → BestReply → List ℕ
-best_report x (Misfit fault) = report_text (texts_with x.copies x.question.text) (misfit_members (misfit_words fault)) ++ codes "\n"
-best_report x (Extended e reply) = report_text (texts_with x.copies x.question.text) (reply_members reply) ++ codes "\n"
-
 -- the line of a reply to question k, or the line of a report where one is asked for
 abbrev pub best_lines : Bool → ℕ → CopyQuestion → BestReply → List ℕ
-best_lines true k x reply = best_report x reply
-best_lines false k x reply = best_text k reply
+best_lines true k x (Misfit fault) = report_text (texts_with x.copies x.question.text) (misfit_members (misfit_words fault)) ++ codes "\n"
+best_lines true k x (Extended e reply) = report_text (texts_with x.copies x.question.text) (reply_members reply) ++ codes "\n"
+best_lines false k x (Misfit fault) = misfit_line k fault
+best_lines false k x (Extended e reply) = reply_line k e (question_origins e) reply

@@ -48,12 +48,7 @@ abbrev pub IsRightCopy : Effort → CopyQuestion → CopyReply → Type 0
 IsRightCopy effort x (Misfit fault) = (fault ≡ Memory → ⊥) × IsMisfit x.question.body x.copies fault
 IsRightCopy effort x (Extended e answer) = IsExtension x.question.body x.copies e × IsRightProof effort e answer
 
--- the lines of a reply to question k
-abbrev pub copy_text : ℕ → CopyReply → List ℕ
-copy_text k (Misfit fault) = misfit_line k fault
-copy_text k (Extended e answer) = answer_line k e (question_origins e) answer
-
--- ---- as a line of a report
+-- ---- its lines
 
 -- the line of a head that asks for a copy
 unfoldable pub copy_line : CopyView → List ℕ
@@ -67,12 +62,9 @@ head_text copies = flat_map copy_line copies
 abbrev pub copy_texts : CopyQuestion → SourceTexts
 copy_texts x = OfCopies (head_text x.copies) x.question.text
 
--- the line of a report
-abbrev pub copy_report : CopyQuestion → CopyReply → List ℕ
-copy_report x (Misfit fault) = report_text (copy_texts x) (misfit_members (misfit_words fault)) ++ codes "\n"
-copy_report x (Extended e answer) = report_text (copy_texts x) (answer_members e.names answer) ++ codes "\n"
-
 -- the lines of a reply to question k, or the line of a report where one is asked for
 abbrev pub copy_lines : Bool → ℕ → CopyQuestion → CopyReply → List ℕ
-copy_lines true k x reply = copy_report x reply
-copy_lines false k x reply = copy_text k reply
+copy_lines true k x (Misfit fault) = report_text (copy_texts x) (misfit_members (misfit_words fault)) ++ codes "\n"
+copy_lines true k x (Extended e answer) = report_text (copy_texts x) (answer_members e.names answer) ++ codes "\n"
+copy_lines false k x (Misfit fault) = misfit_line k fault
+copy_lines false k x (Extended e answer) = answer_line k e (question_origins e) answer

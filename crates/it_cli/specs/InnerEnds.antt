@@ -5,8 +5,7 @@ use Rattle.it_outside.specs.Causes.{next_count}
 use Rattle.it_outside.specs.Traffic.{Gains, TookPrefix}
 use Rattle.it_forms.specs.declared.types.Code.{Code}
 use Rattle.it_prove.specs.declared.types.Effort.{Effort}
-use Rattle.it_question.specs.declared.types.Question.{Question}
-use Rattle.it_question.specs.Questions.{BodyView, QuestionView, question_view}
+use Rattle.it_question.specs.Questions.{BodyView, QuestionView}
 use Rattle.it_canon.specs.QuestionDemands.{terms_in, question_origins}
 use Rattle.it_copy.specs.declared.types.CopyLine.{CopyLine}
 use Rattle.it_copy.specs.CopyLines.{copy_view}
@@ -33,6 +32,7 @@ use Rattle.it_cli.specs.Ends.{Ends, call_of}
 use Rattle.it_cli.specs.Modes.{FirstOutput, Mode, OutputInPart, WholeOutput}
 use Rattle.it_cli.specs.Outputs.{done_mode}
 use Rattle.it_cli.specs.Refusals.{fault_line}
+use Rattle.it_cli.specs.declared.heads.Request.{Request}
 use Rattle.it_cli.specs.declared.heads.Wanted.{Wanted}
 use Rattle.it_cli.specs.declared.heads.Wanted.TheVariants.{Answers, Factors}
 use Rattle.it_cli.specs.declared.status.Status.{Status}
@@ -139,8 +139,8 @@ abbrev pub EndOfItems : (m : Mode) → Option (List ℕ) → Option (List ℕ) �
 EndOfItems m old new before now items s = (bytes : List ℕ) → m.Asks bytes items → EndOfBytes m old new before now bytes s
 
 -- questions with the copies that are asked for in them, as contracts see them
-abbrev pub questions_with : List CopyLine → List Question → List CopyQuestion
-questions_with copies questions = map (with_copies (map copy_view copies)) (map question_view questions)
+abbrev pub questions_with : List CopyLine → List QuestionView → List CopyQuestion
+questions_with copies questions = map (with_copies (map copy_view copies)) questions
 
 -- ---- what is wanted of the questions of a file with a head
 
@@ -162,6 +162,10 @@ lines_for Factors = best_lines
 -- mode `copy` or `best`
 abbrev pub head_mode : Wanted → Bool → Effort → Mode
 head_mode wanted report effort = done_mode AsksWithCopies CopyFileFaultAt (λ (earlier : List (ReplyWith (ToldFor wanted))). IsRightFor wanted effort) (lines_for wanted report)
+
+-- the mode of a request
+abbrev pub request_mode : Request → Mode
+request_mode request = head_mode request.wanted request.report request.effort
 
 -- ---- the same of a sink, by its meaning and its states before and after
 

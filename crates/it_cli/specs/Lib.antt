@@ -10,6 +10,7 @@ pub mod BestReplies
 pub mod SharingReplies
 pub mod Truth
 pub mod Outputs
+pub mod LineModes
 pub mod Ends
 pub mod Written
 pub mod InnerEnds

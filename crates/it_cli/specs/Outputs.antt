@@ -61,17 +61,21 @@ abbrev pub verdict_status : Bool → Status
 verdict_status true = Invalid
 verdict_status false = Done
 
--- the verdict on each line of a report, and whether one is invalid
-abbrev pub check_mode : Mode
-check_mode = record {
+-- a mode that goes line by line through a report, and whose status says whether a reply is an invalid one
+abbrev pub lines_mode : {Reply : Type 0} → (List ℕ → Reply → Type 0) → (ℕ → Reply → List ℕ) → (Reply → Bool) → Mode
+lines_mode {Reply} is_right text invalid = record {
   Item = List ℕ;
-  Reply = LineVerdict;
+  Reply = Reply;
   Asks = λ bytes lines. lines ≡ split_lines bytes;
   FaultAt = λ bytes line column code. ⊥;
-  IsRight = λ earlier line v. IsVerdict line v;
-  text = λ k line v. verdict_line k v;
-  status = λ verdicts. verdict_status (list_any is_invalid verdicts);
+  IsRight = λ earlier line reply. is_right line reply;
+  text = λ k line reply. text k reply;
+  status = λ replies. verdict_status (list_any invalid replies);
 }
+
+-- the verdict on each line of a report
+abbrev pub check_mode : Mode
+check_mode = lines_mode IsVerdict verdict_line is_invalid
 
 -- the line of the counts for a generated file, which is one item; the input is ignored
 abbrev pub bench_mode : Budgets → List Plan → ℕ → ℕ → Mode

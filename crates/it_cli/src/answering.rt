@@ -4,8 +4,6 @@ ghost use Rattle.it_space.specs.Answers.{answer_view};
 ghost use Rattle.it_space.specs.Rows.{IsOver};
 ghost use Rattle.it_space.specs.Spaces.{size_of};
 ghost use Rattle.it_question.specs.AsciiTexts.{IsAsciiQuestion};
-ghost use Rattle.it_question.specs.Limits.{IsQuestion};
-ghost use Rattle.it_question.specs.Questions.{question_view, question_body};
 ghost use Rattle.it_demand.specs.Origins.{AreStated};
 ghost use Rattle.it_demand.specs.QuestionSpaces.{space_of};
 ghost use Rattle.it_question.specs.ProblemLines.{problem_names};
@@ -60,9 +58,8 @@ fn answer_all<K: Sink>(
     boxes: &mut Vec<Box<dyn Proposer>>,
     sink: &mut K,
 ) -> Status
-    requires limits { All (λ q. IsQuestion (question_body q)) questions.now }
-    requires ascii { All IsAsciiQuestion (map question_view questions.now) }
-    ensures { EndsForItems K.taken K.faults (answer_mode budgets (map plan boxes.old.items) format) sink.old sink.new (map question_view questions.now) result }
+    requires ascii { All IsAsciiQuestion questions.now }
+    ensures { EndsForItems K.taken K.faults (answer_mode budgets (map plan boxes.old.items) format) sink.old sink.new questions.now result }
 {
     for (i, question) in questions.iter().enumerate() {
         let Ok(text) = answer_one(alloc, format, budgets, i + 1, question, boxes) else {
@@ -84,10 +81,10 @@ fn answer_one(
     question: &Question,
     boxes: &mut Vec<Box<dyn Proposer>>,
 ) -> Result<Vec<u8>, AllocError>
-    requires limits { IsQuestion (question_body question.now) }
-    requires ascii { IsAsciiQuestion (question_view question.now) }
-    ensures { IfOk result (λ t. IsAnswerText budgets (map plan boxes.old.items) format k (question_view question.now) (map plan boxes.new.items) t.items) }
+    requires ascii { IsAsciiQuestion question.now }
+    ensures { IfOk result (λ t. IsAnswerText budgets (map plan boxes.old.items) format k question.now (map plan boxes.new.items) t.items) }
 {
+    question.facts();
     let answered = answer(alloc, question, budgets, boxes)?;
     lines(alloc, format, k, question, &answered)
 }
@@ -100,15 +97,15 @@ fn lines(
     question: &Question,
     answered: &AnsweredProblem,
 ) -> Result<Vec<u8>, AllocError>
-    requires limits { IsQuestion (question_body question.now) }
-    requires ascii { IsAsciiQuestion (question_view question.now) }
-    requires stated { AreStated answered.now.problem.space (question_origins (question_body question.now)) (question_demands (question_body question.now)) answered.now.problem.constraints }
-    requires space { answered.now.problem.space ≡ space_of (problem_names (question_body question.now)) }
-    requires fits { IsAnswerTo (question_body question.now) (answer_view answered.now.answer) }
-    requires printable { IsPrintable (question_body question.now) (length answered.now.problem.constraints) answered.now.answer }
-    requires rows { All (IsOver (size_of (space_of (question_body question.now).names))) (rows_of (answer_view answered.now.answer)) }
-    ensures { IfOk result (λ text. IsToldText format k (question_view question.now) (answer_view answered.now.answer) text.items) }
+    requires ascii { IsAsciiQuestion question.now }
+    requires stated { AreStated answered.now.problem.space (question_origins question.now.body) (question_demands question.now.body) answered.now.problem.constraints }
+    requires space { answered.now.problem.space ≡ space_of (problem_names question.now.body) }
+    requires fits { IsAnswerTo question.now.body (answer_view answered.now.answer) }
+    requires printable { IsPrintable question.now.body (length answered.now.problem.constraints) answered.now.answer }
+    requires rows { All (IsOver (size_of (space_of question.now.body.names))) (rows_of (answer_view answered.now.answer)) }
+    ensures { IfOk result (λ text. IsToldText format k question.now (answer_view answered.now.answer) text.items) }
 {
+    question.facts();
     match format {
         Format::Text => text_lines(alloc, k, question, answered),
         Format::Json => json_line(alloc, question, &answered.answer),
@@ -124,9 +121,8 @@ pub fn text_lines(
     question: &Question,
     answered: &AnsweredProblem,
 ) -> Result<Vec<u8>, AllocError>
-    requires limits { IsQuestion (question_body question.now) }
-    requires printable { IsPrintable (question_body question.now) (length answered.now.problem.constraints) answered.now.answer }
-    ensures { IfOk result (λ text. text.items ≡ text_lines_of k (question_body question.now) answered.now) }
+    requires printable { IsPrintable question.now.body (length answered.now.problem.constraints) answered.now.answer }
+    ensures { IfOk result (λ text. text.items ≡ text_lines_of k question.now.body answered.now) }
 {
     answer_line(
         alloc,
@@ -144,12 +140,11 @@ fn proof_lines(
     question: &Question,
     answered: &AnsweredProblem,
 ) -> Result<Vec<u8>, AllocError>
-    requires limits { IsQuestion (question_body question.now) }
-    requires stated { AreStated answered.now.problem.space (question_origins (question_body question.now)) (question_demands (question_body question.now)) answered.now.problem.constraints }
-    requires space { answered.now.problem.space ≡ space_of (problem_names (question_body question.now)) }
-    requires fits { IsAnswerTo (question_body question.now) (answer_view answered.now.answer) }
-    requires printable { IsPrintable (question_body question.now) (length answered.now.problem.constraints) answered.now.answer }
-    ensures { IfOk result (λ text. text.items ≡ proof_lines_of k (question_body question.now) answered.now) }
+    requires stated { AreStated answered.now.problem.space (question_origins question.now.body) (question_demands question.now.body) answered.now.problem.constraints }
+    requires space { answered.now.problem.space ≡ space_of (problem_names question.now.body) }
+    requires fits { IsAnswerTo question.now.body (answer_view answered.now.answer) }
+    requires printable { IsPrintable question.now.body (length answered.now.problem.constraints) answered.now.answer }
+    ensures { IfOk result (λ text. text.items ≡ proof_lines_of k question.now.body answered.now) }
 {
     let targets = target_rows(alloc, question, &answered.answer)?;
     proof_text(

@@ -1,7 +1,6 @@
 //! Mode `bench`: a generated question file, and how many of its answers are of each kind.
 ghost use Rattle.std.specs.Prelude.{◌≤◌, ◌<◌, ◌^◌, ℕ, List, [], map, All, IfOk};
 ghost use Rattle.it_question.specs.Limits.{IsQuestion};
-ghost use Rattle.it_question.specs.Questions.{question_body, question_view};
 ghost use Rattle.it_question.specs.Files.{IsFile};
 ghost use Rattle.it_gen.specs.GeneratedFiles.{generated_file};
 ghost use Rattle.it_cli.specs.Counts.{AreCounted, IsBenchLine, no_counts};
@@ -62,8 +61,8 @@ fn generated_questions(alloc: Global, seed: u32, count: u32) -> Result<Vec<Quest
     requires seed { seed < 2 ^ 31 }
     requires some { 1 ≤ count }
     requires few { count ≤ 1000 }
-    ensures read { IfOk result (λ qs. IsFile (generated_file seed count) (map question_view qs.items)) }
-    ensures limits { IfOk result (λ qs. All (λ q. IsQuestion (question_body q)) qs.items) }
+    ensures read { IfOk result (λ qs. IsFile (generated_file seed count) qs.items) }
+    ensures limits { IfOk result (λ qs. All (λ q. IsQuestion q.body) qs.items) }
 {
     let bytes = questions_of(alloc, seed, count)?;
     generated_is_file();
@@ -82,8 +81,8 @@ fn counts_of(
     questions: &[Question],
     boxes: &mut Vec<Box<dyn Proposer>>,
 ) -> Result<Counts, AllocError>
-    requires limits { All (λ q. IsQuestion (question_body q)) questions.now }
-    ensures { IfOk result (λ counts. AreCounted budgets (map plan boxes.old.items) [] no_counts (map question_view questions.now) counts) }
+    requires limits { All (λ q. IsQuestion q.body) questions.now }
+    ensures { IfOk result (λ counts. AreCounted budgets (map plan boxes.old.items) [] no_counts questions.now counts) }
 {
     let mut counts = Counts::new();
     for question in questions {

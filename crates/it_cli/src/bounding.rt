@@ -1,7 +1,5 @@
 //! Mode `outer`: a question file, and the outer bounds of its eliminations in rates alone.
-ghost use Rattle.std.specs.Prelude.{◌≤◌, [], All, IfOk, length, map};
-ghost use Rattle.it_question.specs.Limits.{IsQuestion};
-ghost use Rattle.it_question.specs.Questions.{question_body, question_view};
+ghost use Rattle.std.specs.Prelude.{◌≤◌, [], IfOk, length, map};
 ghost use Rattle.it_cli.specs.InnerEnds.{EndsForBytes, EndsForItems, IsTextOf};
 ghost use Rattle.it_cli.specs.Outputs.{outer_mode};
 ghost use Rattle.it_question.specs.QuestionLimits.{most_file_bytes};
@@ -43,9 +41,8 @@ fn reply_all<K: Sink>(
     questions: &[Question],
     sink: &mut K,
 ) -> Status
-    requires questions { All (λ q. IsQuestion (question_body q)) questions.now }
     requires few_rows { limits.rows ≤ most_system_rows }
-    ensures { EndsForItems K.taken K.faults (outer_mode report limits) sink.old sink.new (map question_view questions.now) result }
+    ensures { EndsForItems K.taken K.faults (outer_mode report limits) sink.old sink.new questions.now result }
 {
     for (i, question) in questions.iter().enumerate() {
         let Ok(text) = bound_lines(alloc, report, limits, i + 1, question) else {
@@ -66,9 +63,8 @@ fn bound_lines(
     k: usize,
     question: &Question,
 ) -> Result<Vec<u8>, AllocError>
-    requires question { IsQuestion (question_body question.now) }
     requires few_rows { limits.rows ≤ most_system_rows }
-    ensures { IfOk result (λ text. IsTextOf (outer_mode report limits) [] k (question_view question.now) text.items) }
+    ensures { IfOk result (λ text. IsTextOf (outer_mode report limits) [] k question.now text.items) }
 {
     let replied = reply(alloc, question, limits)?;
     if report {

@@ -1,7 +1,5 @@
 //! Mode `copy`: the answers to questions with the copies that the head of their file asks for.
 ghost use Rattle.std.specs.Prelude.{[], ◌≤◌, IfOk, length, map, true, false};
-ghost use Rattle.it_question.specs.Limits.{IsQuestion};
-ghost use Rattle.it_question.specs.Questions.{question_body, question_view};
 ghost use Rattle.it_copy.specs.CopyLines.{AreNamed, copy_view};
 ghost use Rattle.it_copy.specs.Extensions.{IsProof};
 ghost use Rattle.it_cli.specs.Copies.{with_copies};
@@ -29,10 +27,9 @@ pub fn answer_text(
     k: usize,
     question: &Question,
 ) -> Result<Vec<u8>, AllocError>
-    requires limits { IsQuestion (question_body question.now) }
     requires names { AreNamed copies.now }
     requires few { length copies.now ≤ 4 }
-    ensures { IfOk result (λ text. IsTextOf (copy_mode report effort) [] k (with_copies (map copy_view copies.now) (question_view question.now)) text.items) }
+    ensures { IfOk result (λ text. IsTextOf (copy_mode report effort) [] k (with_copies (map copy_view copies.now) question.now) text.items) }
 {
     if report {
         reply_report(alloc, effort, copies, k, question)
@@ -49,10 +46,9 @@ fn reply_lines(
     k: usize,
     question: &Question,
 ) -> Result<Vec<u8>, AllocError>
-    requires limits { IsQuestion (question_body question.now) }
     requires names { AreNamed copies.now }
     requires few { length copies.now ≤ 4 }
-    ensures { IfOk result (λ text. IsTextOf (copy_mode false effort) [] k (with_copies (map copy_view copies.now) (question_view question.now)) text.items) }
+    ensures { IfOk result (λ text. IsTextOf (copy_mode false effort) [] k (with_copies (map copy_view copies.now) question.now) text.items) }
 {
     match extend(alloc, question, copies) {
         Ok(extended) => proof_lines(alloc, effort, k, &extended),
@@ -68,10 +64,9 @@ fn reply_report(
     k: usize,
     question: &Question,
 ) -> Result<Vec<u8>, AllocError>
-    requires limits { IsQuestion (question_body question.now) }
     requires names { AreNamed copies.now }
     requires few { length copies.now ≤ 4 }
-    ensures { IfOk result (λ text. IsTextOf (copy_mode true effort) [] k (with_copies (map copy_view copies.now) (question_view question.now)) text.items) }
+    ensures { IfOk result (λ text. IsTextOf (copy_mode true effort) [] k (with_copies (map copy_view copies.now) question.now) text.items) }
 {
     let head = head_text(alloc, copies)?;
     let text = question.text(alloc)?;
@@ -92,10 +87,10 @@ pub fn proof_lines(
     k: usize,
     question: &Question,
 ) -> Result<Vec<u8>, AllocError>
-    requires limits { IsQuestion (question_body question.now) }
-    requires proof { IsProof (question_body question.now).verb }
-    ensures { IfOk result (λ text. IsProofText effort k (question_body question.now) text.items) }
+    requires proof { IsProof question.now.body.verb }
+    ensures { IfOk result (λ text. IsProofText effort k question.now.body text.items) }
 {
+    question.facts();
     let budgets = Budgets {
         effort,
         rows: 1,

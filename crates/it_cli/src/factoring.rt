@@ -1,8 +1,6 @@
 //! Mode `best`: the best factors between the sides of a question's relation, with the copies that the file's head asks for, if there are
 //! any.
 ghost use Rattle.std.specs.Prelude.{◌≡◌, ◌≤◌, [], IfOk, length, map, true, false};
-ghost use Rattle.it_question.specs.Limits.{IsQuestion};
-ghost use Rattle.it_question.specs.Questions.{question_body, question_view};
 ghost use Rattle.it_copy.specs.CopyLines.{AreNamed, copy_view};
 ghost use Rattle.it_cli.specs.Copies.{with_copies};
 ghost use Rattle.it_cli.specs.InnerEnds.{IsFactorText, IsTextOf};
@@ -27,10 +25,9 @@ pub fn factor_text(
     k: usize,
     question: &Question,
 ) -> Result<Vec<u8>, AllocError>
-    requires limits { IsQuestion (question_body question.now) }
     requires names { AreNamed copies.now }
     requires few { length copies.now ≤ 4 }
-    ensures { IfOk result (λ text. IsTextOf (best_mode report effort) [] k (with_copies (map copy_view copies.now) (question_view question.now)) text.items) }
+    ensures { IfOk result (λ text. IsTextOf (best_mode report effort) [] k (with_copies (map copy_view copies.now) question.now) text.items) }
 {
     if report {
         reply_report(alloc, effort, copies, k, question)
@@ -47,10 +44,9 @@ fn reply_text(
     k: usize,
     question: &Question,
 ) -> Result<Vec<u8>, AllocError>
-    requires limits { IsQuestion (question_body question.now) }
     requires names { AreNamed copies.now }
     requires few { length copies.now ≤ 4 }
-    ensures { IfOk result (λ text. IsTextOf (best_mode false effort) [] k (with_copies (map copy_view copies.now) (question_view question.now)) text.items) }
+    ensures { IfOk result (λ text. IsTextOf (best_mode false effort) [] k (with_copies (map copy_view copies.now) question.now) text.items) }
 {
     if copies.is_empty() {
         return factor_line(alloc, effort, k, question);
@@ -69,10 +65,9 @@ fn reply_report(
     k: usize,
     question: &Question,
 ) -> Result<Vec<u8>, AllocError>
-    requires limits { IsQuestion (question_body question.now) }
     requires names { AreNamed copies.now }
     requires few { length copies.now ≤ 4 }
-    ensures { IfOk result (λ text. IsTextOf (best_mode true effort) [] k (with_copies (map copy_view copies.now) (question_view question.now)) text.items) }
+    ensures { IfOk result (λ text. IsTextOf (best_mode true effort) [] k (with_copies (map copy_view copies.now) question.now) text.items) }
 {
     let text = question.text(alloc)?;
     if copies.is_empty() {
@@ -101,8 +96,7 @@ pub fn factor_line(
     k: usize,
     question: &Question,
 ) -> Result<Vec<u8>, AllocError>
-    requires { IsQuestion (question_body question.now) }
-    ensures { IfOk result (λ text. IsFactorText effort k (question_body question.now) text.items) }
+    ensures { IfOk result (λ text. IsFactorText effort k question.now.body text.items) }
 {
     let replied = reply(alloc, question, effort)?;
     reply_line(

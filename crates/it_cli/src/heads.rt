@@ -1,10 +1,8 @@
 //! Modes `copy` and `best`: replies to the questions of a file whose head may ask for copies.
-ghost use Rattle.std.specs.Prelude.{[], ◌≤◌, All, IfOk, length, map};
-ghost use Rattle.it_question.specs.Limits.{IsQuestion};
-ghost use Rattle.it_question.specs.Questions.{question_body, question_view};
+ghost use Rattle.std.specs.Prelude.{[], ◌≤◌, IfOk, length, map};
 ghost use Rattle.it_copy.specs.CopyLines.{AreNamed, copy_view};
 ghost use Rattle.it_cli.specs.Copies.{with_copies};
-ghost use Rattle.it_cli.specs.InnerEnds.{EndsForBytes, EndsForItems, IsTextOf, head_mode, questions_with};
+ghost use Rattle.it_cli.specs.InnerEnds.{EndsForBytes, EndsForItems, IsTextOf, head_mode, questions_with, request_mode};
 ghost use Rattle.it_question.specs.QuestionLimits.{most_file_bytes};
 
 use crate::answering::tell_fault;
@@ -27,6 +25,14 @@ pub enum Wanted {
     Factors,
 }
 
+/// What is asked of each question, whether the reply is a line of a report, and the effort for each target.
+#[derive(Clone, Copy)]
+struct Request {
+    wanted: Wanted,
+    report: bool,
+    effort: Effort,
+}
+
 /// Answers the questions of a file with a head, or finds their factors.
 pub fn reply_to_file<K: Sink>(
     alloc: Global,
@@ -39,12 +45,15 @@ pub fn reply_to_file<K: Sink>(
     requires { length bytes.now ≤ most_file_bytes }
     ensures { EndsForBytes K.taken K.faults (head_mode wanted report effort) sink.old sink.new bytes.now result }
 {
+    let request = Request {
+        wanted,
+        report,
+        effort,
+    };
     match copy_file(alloc, bytes) {
         Ok(file) => reply_all(
             alloc,
-            wanted,
-            report,
-            effort,
+            request,
             file.copies.as_slice(),
             file.questions.as_slice(),
             sink,
@@ -57,20 +66,17 @@ pub fn reply_to_file<K: Sink>(
 /// Writes the lines of each question as soon as they are there.
 fn reply_all<K: Sink>(
     alloc: Global,
-    wanted: Wanted,
-    report: bool,
-    effort: Effort,
+    request: Request,
     copies: &[CopyLine],
     questions: &[Question],
     sink: &mut K,
 ) -> Status
-    requires limits { All (λ q. IsQuestion (question_body q)) questions.now }
     requires names { AreNamed copies.now }
     requires few { length copies.now ≤ 4 }
-    ensures { EndsForItems K.taken K.faults (head_mode wanted report effort) sink.old sink.new (questions_with copies.now questions.now) result }
+    ensures { EndsForItems K.taken K.faults (request_mode request) sink.old sink.new (questions_with copies.now questions.now) result }
 {
     for (i, question) in questions.iter().enumerate() {
-        let Ok(text) = text(alloc, wanted, report, effort, copies, i + 1, question) else {
+        let Ok(text) = text(alloc, request, copies, i + 1, question) else {
             return Status::Memory;
         };
         let Ok(()) = write_all(sink, text.as_slice()) else {
@@ -83,20 +89,17 @@ fn reply_all<K: Sink>(
 /// The lines of the right reply to question `k`, counted from 1, with the copies.
 fn text(
     alloc: Global,
-    wanted: Wanted,
-    report: bool,
-    effort: Effort,
+    request: Request,
     copies: &[CopyLine],
     k: usize,
     question: &Question,
 ) -> Result<Vec<u8>, AllocError>
-    requires limits { IsQuestion (question_body question.now) }
     requires names { AreNamed copies.now }
     requires few { length copies.now ≤ 4 }
-    ensures { IfOk result (λ text. IsTextOf (head_mode wanted report effort) [] k (with_copies (map copy_view copies.now) (question_view question.now)) text.items) }
+    ensures { IfOk result (λ text. IsTextOf (request_mode request) [] k (with_copies (map copy_view copies.now) question.now) text.items) }
 {
-    match wanted {
-        Wanted::Answers => answer_text(alloc, report, effort, copies, k, question),
-        Wanted::Factors => factor_text(alloc, report, effort, copies, k, question),
+    match request.wanted {
+        Wanted::Answers => answer_text(alloc, request.report, request.effort, copies, k, question),
+        Wanted::Factors => factor_text(alloc, request.report, request.effort, copies, k, question),
     }
 }

@@ -6,8 +6,6 @@ ghost use Rattle.it_settings.specs.declared.types.Format.TheVariants.{Derived};
 ghost use Rattle.it_space.specs.Answers.{answer_view, certificate_view};
 ghost use Rattle.it_space.specs.Rows.{IsOver};
 ghost use Rattle.it_space.specs.Spaces.{size_of};
-ghost use Rattle.it_question.specs.Limits.{IsQuestion};
-ghost use Rattle.it_question.specs.Questions.{question_body, question_view};
 ghost use Rattle.it_demand.specs.QuestionSpaces.{space_of};
 ghost use Rattle.it_answer.specs.Truth.{region_rows};
 ghost use Rattle.it_certificate.specs.AnswerShapes.{IsNumbered, IsNumberedAmount};
@@ -26,12 +24,12 @@ use std::alloc::{AllocError, Global};
 
 /// The line of an answer in the format `json`.
 pub fn json_line(alloc: Global, question: &Question, answer: &Answer) -> Result<Vec<u8>, AllocError>
-    requires ascii { IsAscii (question_view question.now).text }
-    requires writable { IsWritable question.now.names (answer_view answer.now) }
-    ensures { IfOk result (λ line. line.items ≡ answer_text (question_view question.now).text question.now.names (answer_view answer.now) ++ codes "\n") }
+    requires ascii { IsAscii question.now.text }
+    requires writable { IsWritable question.now.body.names (answer_view answer.now) }
+    ensures { IfOk result (λ line. line.items ≡ answer_text question.now.text question.now.body.names (answer_view answer.now) ++ codes "\n") }
 {
     let text = question.text(alloc)?;
-    let mut line = answer_json(alloc, text.as_slice(), &question.names, answer)?;
+    let mut line = answer_json(alloc, text.as_slice(), question.names(), answer)?;
     line.extend_from_slice(b"\n")?;
     Ok(line)
 }
@@ -43,11 +41,10 @@ pub fn derived_line(
     question: &Question,
     answer: &Answer,
 ) -> Result<Vec<u8>, AllocError>
-    requires limits { IsQuestion (question_body question.now) }
-    requires ascii { IsAscii (question_view question.now).text }
-    requires writable { IsWritable question.now.names (answer_view answer.now) }
-    requires rows { All (IsOver (size_of (space_of (question_body question.now).names))) (rows_of (answer_view answer.now)) }
-    ensures { IfOk result (λ line. IsDerivedLine (question_view question.now) (answer_view answer.now) line.items) }
+    requires ascii { IsAscii question.now.text }
+    requires writable { IsWritable question.now.body.names (answer_view answer.now) }
+    requires rows { All (IsOver (size_of (space_of question.now.body.names))) (rows_of (answer_view answer.now)) }
+    ensures { IfOk result (λ line. IsDerivedLine question.now (answer_view answer.now) line.items) }
 {
     let origins = told_origins(alloc, question, answer)?;
     match origins {
@@ -68,9 +65,8 @@ fn told_origins(
     question: &Question,
     answer: &Answer,
 ) -> Result<Option<Vec<Certificate>>, AllocError>
-    requires limits { IsQuestion (question_body question.now) }
-    requires rows { All (IsOver (size_of (space_of (question_body question.now).names))) (rows_of (answer_view answer.now)) }
-    ensures { IfOk result (λ o. AreToldOrigins Derived (question_body question.now) (answer_view answer.now) (option_map (λ v. map certificate_view v.items) o)) }
+    requires rows { All (IsOver (size_of (space_of question.now.body.names))) (rows_of (answer_view answer.now)) }
+    ensures { IfOk result (λ o. AreToldOrigins Derived question.now.body (answer_view answer.now) (option_map (λ v. map certificate_view v.items) o)) }
 {
     match answer {
         Answer::Region(rows) => {
@@ -161,9 +157,9 @@ fn region_line(
     answer: &Answer,
     origins: &[Certificate],
 ) -> Result<Vec<u8>, AllocError>
-    requires ascii { IsAscii (question_view question.now).text }
+    requires ascii { IsAscii question.now.text }
     requires region { IsRegion (answer_view answer.now) }
-    ensures { IfOk result (λ line. line.items ≡ told_report (question_view question.now) (answer_view answer.now) (Some (map certificate_view origins.now)) ++ codes "\n") }
+    ensures { IfOk result (λ line. line.items ≡ told_report question.now (answer_view answer.now) (Some (map certificate_view origins.now)) ++ codes "\n") }
 {
     let Answer::Region(rows) = answer else {
         unreachable!()
@@ -172,7 +168,7 @@ fn region_line(
     let mut line = derived_json(
         alloc,
         text.as_slice(),
-        &question.names,
+        question.names(),
         rows.as_slice(),
         origins,
     )?;

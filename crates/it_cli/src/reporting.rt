@@ -1,7 +1,5 @@
 //! The lines of reports in modes `copy`, `best` and `sharing`.
 ghost use Rattle.std.specs.Prelude.{◌≡◌, ◌++◌, IfOk, OnOk, codes, map, true, false};
-ghost use Rattle.it_question.specs.Limits.{IsQuestion};
-ghost use Rattle.it_question.specs.Questions.{question_body};
 ghost use Rattle.it_certificate.specs.Values.{report_text, source_texts};
 ghost use Rattle.it_copy.specs.CopyLines.{copy_view};
 ghost use Rattle.it_copy.specs.Extensions.{IsProof};
@@ -75,9 +73,8 @@ pub fn proof_report(
     source: SourceText<'_>,
     question: &Question,
 ) -> Result<Vec<u8>, AllocError>
-    requires limits { IsQuestion (question_body question.now) }
-    requires proof { IsProof (question_body question.now).verb }
-    ensures { IfOk result (λ text. IsReportOf effort (source_texts source.entry) (question_body question.now) text.items) }
+    requires proof { IsProof question.now.body.verb }
+    ensures { IfOk result (λ text. IsReportOf effort (source_texts source.entry) question.now.body text.items) }
 {
     let budgets = Budgets {
         effort,
@@ -86,7 +83,7 @@ pub fn proof_report(
     };
     let mut boxes = Vec::new(alloc);
     let answered = answer(alloc, question, budgets, &mut boxes)?;
-    let mut line = report_json(alloc, source, &question.names, &answered.answer)?;
+    let mut line = report_json(alloc, source, question.names(), &answered.answer)?;
     line.extend_from_slice(b"\n")?;
     Ok(line)
 }
@@ -108,8 +105,7 @@ pub fn factor_report(
     source: SourceText<'_>,
     question: &Question,
 ) -> Result<Vec<u8>, AllocError>
-    requires { IsQuestion (question_body question.now) }
-    ensures { IfOk result (λ text. IsFactorReportOf effort (source_texts source.entry) (question_body question.now) text.items) }
+    ensures { IfOk result (λ text. IsFactorReportOf effort (source_texts source.entry) question.now.body text.items) }
 {
     let replied = reply(alloc, question, effort)?;
     let mut line = reply_json(alloc, source, &replied.reply)?;

@@ -2,8 +2,7 @@
 ghost use Rattle.std.specs.Prelude.{◌≡◌, ◌+◌, ◌<◌, ◌≤◌, ◌∷◌, ◌++◌, [], codes, length, IfOk, true, false};
 ghost use Rattle.it_question.specs.Limits.{IsQuestion};
 ghost use Rattle.it_question.specs.QuestionLimits.{most_lines, most_file_bytes};
-ghost use Rattle.it_question.specs.Questions.{question_body, question_view};
-ghost use Rattle.it_sharing.specs.Sharings.{IsSharing, made_question, sharing_view, maximal_count, minimal_count};
+ghost use Rattle.it_sharing.specs.Sharings.{made_question, maximal_count, minimal_count};
 ghost use Rattle.it_cli.specs.InnerEnds.{EndsForBytes, EndsForItems, IsTextOf};
 ghost use Rattle.it_cli.specs.Outputs.{sharing_mode};
 ghost use Rattle.it_cli.specs.SharingReplies.{said_by, sharing_heading};
@@ -54,8 +53,7 @@ fn reply<K: Sink>(
     sharing: &Sharing,
     sink: &mut K,
 ) -> Status
-    requires { IsSharing (sharing_view sharing.now) }
-    ensures { EndsForItems K.taken K.faults (sharing_mode report effort) sink.old sink.new (said_by bytes.now (sharing_view sharing.now) ∷ []) result }
+    ensures { EndsForItems K.taken K.faults (sharing_mode report effort) sink.old sink.new (said_by bytes.now sharing.now ∷ []) result }
 {
     match text(alloc, report, effort, bytes, sharing) {
         Ok(text) => tell(sink, text.as_slice(), Status::Done),
@@ -71,8 +69,7 @@ fn text(
     bytes: &[u8],
     sharing: &Sharing,
 ) -> Result<Vec<u8>, AllocError>
-    requires { IsSharing (sharing_view sharing.now) }
-    ensures { IfOk result (λ text. IsTextOf (sharing_mode report effort) [] 1 (said_by bytes.now (sharing_view sharing.now)) text.items) }
+    ensures { IfOk result (λ text. IsTextOf (sharing_mode report effort) [] 1 (said_by bytes.now sharing.now) text.items) }
 {
     if report {
         report_line(alloc, effort, bytes, sharing)
@@ -88,8 +85,7 @@ fn lines(
     bytes: &[u8],
     sharing: &Sharing,
 ) -> Result<Vec<u8>, AllocError>
-    requires { IsSharing (sharing_view sharing.now) }
-    ensures { IfOk result (λ text. IsTextOf (sharing_mode false effort) [] 1 (said_by bytes.now (sharing_view sharing.now)) text.items) }
+    ensures { IfOk result (λ text. IsTextOf (sharing_mode false effort) [] 1 (said_by bytes.now sharing.now) text.items) }
 {
     match made(alloc, sharing) {
         Ok(made) => made_lines(alloc, effort, bytes, sharing, &made),
@@ -105,8 +101,7 @@ fn report_line(
     bytes: &[u8],
     sharing: &Sharing,
 ) -> Result<Vec<u8>, AllocError>
-    requires { IsSharing (sharing_view sharing.now) }
-    ensures { IfOk result (λ text. IsTextOf (sharing_mode true effort) [] 1 (said_by bytes.now (sharing_view sharing.now)) text.items) }
+    ensures { IfOk result (λ text. IsTextOf (sharing_mode true effort) [] 1 (said_by bytes.now sharing.now) text.items) }
 {
     match made(alloc, sharing) {
         Ok(made) => made_report(alloc, effort, bytes, sharing, &made),
@@ -132,14 +127,14 @@ fn made_report(
     sharing: &Sharing,
     made: &Made,
 ) -> Result<Vec<u8>, AllocError>
-    requires question { question_view made.now.question ≡ made_question (sharing_view sharing.now) }
-    requires limits { IsQuestion (question_body made.now.question) }
-    requires minimal { made.now.minimal ≡ minimal_count (sharing_view sharing.now) }
-    requires maximal { made.now.maximal ≡ maximal_count (sharing_view sharing.now) }
+    requires question { made.now.question ≡ made_question sharing.now }
+    requires limits { IsQuestion made.now.question.body }
+    requires minimal { made.now.minimal ≡ minimal_count sharing.now }
+    requires maximal { made.now.maximal ≡ maximal_count sharing.now }
     requires few { made.now.minimal + made.now.maximal ≤ most_lines }
-    ensures { IfOk result (λ text. IsTextOf (sharing_mode true effort) [] 1 (said_by bytes.now (sharing_view sharing.now)) text.items) }
+    ensures { IfOk result (λ text. IsTextOf (sharing_mode true effort) [] 1 (said_by bytes.now sharing.now) text.items) }
 {
-    if sharing.best {
+    if sharing.asks_best() {
         let text = factor_report(alloc, effort, SourceText::Sharing(bytes), &made.question)?;
         Ok(text)
     } else {
@@ -165,14 +160,14 @@ fn made_lines(
     sharing: &Sharing,
     made: &Made,
 ) -> Result<Vec<u8>, AllocError>
-    requires question { question_view made.now.question ≡ made_question (sharing_view sharing.now) }
-    requires limits { IsQuestion (question_body made.now.question) }
-    requires minimal { made.now.minimal ≡ minimal_count (sharing_view sharing.now) }
-    requires maximal { made.now.maximal ≡ maximal_count (sharing_view sharing.now) }
+    requires question { made.now.question ≡ made_question sharing.now }
+    requires limits { IsQuestion made.now.question.body }
+    requires minimal { made.now.minimal ≡ minimal_count sharing.now }
+    requires maximal { made.now.maximal ≡ maximal_count sharing.now }
     requires few { made.now.minimal + made.now.maximal ≤ most_lines }
-    ensures { IfOk result (λ text. IsTextOf (sharing_mode false effort) [] 1 (said_by bytes.now (sharing_view sharing.now)) text.items) }
+    ensures { IfOk result (λ text. IsTextOf (sharing_mode false effort) [] 1 (said_by bytes.now sharing.now) text.items) }
 {
-    if sharing.best {
+    if sharing.asks_best() {
         let line = factor_line(alloc, effort, 1, &made.question)?;
         let text = with_heading(alloc, made.minimal, made.maximal, line.as_slice())?;
         Ok(text)

@@ -100,18 +100,24 @@ fn read<S: Source, K: Sink>(
     }
 }
 
+/// The most bytes of a file, 2^20.
+const MOST_FILE_BYTES: usize = 1_048_576;
+
+/// The most bytes of a report, 2^26.
+const MOST_REPORT_BYTES: usize = 67_108_864;
+
 /// The most bytes of an input; None where the mode has no input.
 fn limit(settings: Settings) -> Option<usize>
     ensures { result ≡ most_bytes settings }
 {
     match settings {
-        Settings::Answer { .. } => Some(1048576),
-        Settings::Check => Some(67108864),
+        Settings::Answer { .. } => Some(MOST_FILE_BYTES),
+        Settings::Check => Some(MOST_REPORT_BYTES),
         Settings::Bench { .. } => None,
-        Settings::Copy { .. } => Some(1048576),
-        Settings::Best { .. } => Some(1048576),
-        Settings::Outer { .. } => Some(1048576),
-        Settings::Sharing { .. } => Some(1048576),
+        Settings::Copy { .. } => Some(MOST_FILE_BYTES),
+        Settings::Best { .. } => Some(MOST_FILE_BYTES),
+        Settings::Outer { .. } => Some(MOST_FILE_BYTES),
+        Settings::Sharing { .. } => Some(MOST_FILE_BYTES),
     }
 }
 
@@ -193,26 +199,18 @@ fn reply<K: Sink>(
             report,
             run,
             pivots,
-        } => reply_to_file(
-            alloc,
-            Wanted::Answers,
-            report,
-            effort_of(run, pivots),
-            bytes,
-            sink,
-        ),
+        } => {
+            let effort = effort_of(run, pivots);
+            reply_to_file(alloc, Wanted::Answers, report, effort, bytes, sink)
+        }
         Settings::Best {
             report,
             run,
             pivots,
-        } => reply_to_file(
-            alloc,
-            Wanted::Factors,
-            report,
-            effort_of(run, pivots),
-            bytes,
-            sink,
-        ),
+        } => {
+            let effort = effort_of(run, pivots);
+            reply_to_file(alloc, Wanted::Factors, report, effort, bytes, sink)
+        }
         Settings::Outer {
             report,
             run,

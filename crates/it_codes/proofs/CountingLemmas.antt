@@ -3,11 +3,10 @@ use Rattle.std.proofs.Common.{◌≡◌, ◌<◌, ◌+◌, ◌*◌, ◌/◌, ◌
 use Rattle.std.proofs.Math.Nat.{mod-add-mod, mod-eq_of_lt, mod-lt, mul-add, mul_assoc, mul-zero, add_assoc, add-zero, pow-suc}
 use Rattle.std.proofs.Math.Numerals.{suc-eq-add-one}
 use Rattle.std.proofs.Math.Pow.{pow_mono}
-use Rattle.std.proofs.lemmas.List.{at_drop_more, drop_all, get_or-map, length-map}
+use Rattle.std.proofs.lemmas.List.{at_drop_more, drop_all, get_or-map}
 use Rattle.std.proofs.lemmas.List.Folds.{list_all-map}
 use Rattle.std.specs.List.{list_all}
-use Rattle.it_codes.specs.Codes.{IsCode, code_view, functions_of, is_zero_at, value_at, zero_set, vanishes}
-use Rattle.it_codes.specs.declared.codes.LinearCode.{LinearCode}
+use Rattle.it_codes.specs.Codes.{functions_of, is_zero_at, value_at, zero_set, vanishes}
 use Rattle.it_codes.specs.declared.codes.Variable.{Variable}
 
 -- a further coefficient was added to a sum, which was then reduced
@@ -58,10 +57,6 @@ set_step q m variables i v set place total lt is inv =
 pub item_functions : (variables : List Variable) (i : ℕ) (v : Variable) → i < length variables → v ≡ get_or variables i v
     → functions_of v ≡ get_or (map functions_of variables) i (functions_of v)
 item_functions variables i v lt is = ap functions_of is ∙ sym (get_or-map functions_of variables i v (functions_of v) lt)
-
--- a code has at most ten
-pub few_items : (code : LinearCode) → IsCode (code_view code) → length code.variables.items ≤ 10
-few_items code is = subst (λ n. n ≤ 10) (length-map code.variables.items functions_of) is.few
 
 -- and no variable is left
 pub set_end : (q m : ℕ) (variables : List (List (List ℕ))) (i set place total : ℕ) → length variables ≤ i

@@ -3,7 +3,6 @@
 use Rattle.std.specs.Prelude.{◌≡◌, ℕ, ◌+◌, ◌*◌, ◌/◌, ◌%◌, ◌^◌, ◌≤◌, ◌<◌, Bool, cond, nat_eq, bit_and, pos, ℤ, List, [], ◌∷◌, map, length, Option, Some, None}
 use Rattle.std.specs.List.{list_all, count_by, range_with_len}
 use Rattle.it_space.specs.Rows.{point_of}
-use Rattle.it_codes.specs.declared.codes.LinearCode.{LinearCode}
 use Rattle.it_codes.specs.declared.codes.Field.{Field}
 use Rattle.it_codes.specs.declared.codes.Field.TheVariants.{Two, Three}
 use Rattle.it_codes.specs.declared.codes.Variable.{Variable}
@@ -18,10 +17,6 @@ pub record CodeView : Type 0 where
 -- a variable's functions
 abbrev pub functions_of : Variable → List (List ℕ)
 functions_of v = map (λ f. f.items) v.functions.items
-
--- a code as contracts see it
-abbrev pub code_view : LinearCode → CodeView
-code_view c = record { field = c.field; symbols = c.symbols; variables = map functions_of c.variables.items }
 
 -- the number of elements of a field: they are the remainders modulo this number
 abbrev pub size : Field → ℕ

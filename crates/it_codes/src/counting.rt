@@ -1,7 +1,7 @@
 //! Counts of the messages at which functions are 0.
 ghost use Rattle.std.specs.Prelude.{◌≡◌, ◌+◌, ◌*◌, ◌≤◌, ◌^◌, ◌<◌, cond, length, map, IfOk};
 ghost use Rattle.std.specs.List.{list_all, range_with_len};
-ghost use Rattle.it_codes.specs.Codes.{IsCode, code_sets, code_view, count_around, functions_of, is_zero_at, size, vanishes, zero_set};
+ghost use Rattle.it_codes.specs.Codes.{code_sets, count_around, functions_of, is_zero_at, size, vanishes, zero_set};
 ghost use Rattle.it_space.specs.Spaces.{most_variables};
 
 use crate::codes::{LinearCode, Variable};
@@ -68,14 +68,6 @@ fn zero_set(size: u32, message: u32, variables: &[Variable]) -> u16
     set
 }
 
-/// The number of messages of `code`.
-pub fn message_count(code: &LinearCode) -> u32
-    requires { IsCode (code_view code.now) }
-    ensures { result ≡ size code.now.field ^ code.now.symbols }
-{
-    code.field.size().pow(code.symbols as u32)
-}
-
 /// The set of the variables that are 0 at each of the first `count` messages.
 fn sets_at(
     alloc: Global,
@@ -94,16 +86,14 @@ fn sets_at(
 }
 
 /// The set of the variables that are 0 at each message of `code`.
-#[tactic(auto, using(crate::proofs::CountingLemmas::few_items))]
 pub fn zero_sets(alloc: Global, code: &LinearCode) -> Result<Vec<u16>, AllocError>
-    requires { IsCode (code_view code.now) }
-    ensures { IfOk result (λ v. v.items ≡ code_sets (code_view code.now)) }
+    ensures { IfOk result (λ v. v.items ≡ code_sets code.now) }
 {
     sets_at(
         alloc,
-        code.field.size(),
-        message_count(code),
-        code.variables.as_slice(),
+        code.field().size(),
+        code.message_count(),
+        code.variables(),
     )
 }
 

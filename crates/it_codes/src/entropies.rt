@@ -1,10 +1,10 @@
 //! The entropies of a code's variables.
 ghost use Rattle.std.specs.Prelude.{◌≡◌, ◌≤◌, ◌<◌, ◌*◌, ◌-◌, ◌^◌, ℕ, pos, length, IfSome, IfNone, IfOk};
 ghost use Rattle.std.specs.Bool.{OnFalse, OnTrue};
-ghost use Rattle.it_codes.specs.Codes.{code_sets, code_view, variables_of, AreEntropies, FirstOtherIs, HasEntropy, IsCode, IsEntropy, LackEntropy};
+ghost use Rattle.it_codes.specs.Codes.{code_sets, variables_of, AreEntropies, FirstOtherIs, HasEntropy, IsEntropy, LackEntropy};
 
 use crate::codes::LinearCode;
-use crate::counting::{count_around, message_count, zero_sets};
+use crate::counting::{count_around, zero_sets};
 use it_space::{Point, Space};
 use std::alloc::{AllocError, Global};
 
@@ -34,16 +34,16 @@ fn exponent(count: u32, size: u32, total: u32) -> Option<u32>
 /// isn't a whole number.
 #[tactic(auto, using(crate::proofs::EntropyLemmas::zero_set_count, crate::proofs::EntropyLemmas::some_message, crate::proofs::EntropyLemmas::two_elements, crate::proofs::EntropyLemmas::three_elements))]
 fn entropy(code: &LinearCode, sets: &[u16], set: u16) -> Option<u32>
-    requires code { IsCode (code_view code.now) }
-    requires sets { sets.now ≡ code_sets (code_view code.now) }
-    ensures found { IfSome result (λ h. IsEntropy (code_view code.now) set h) }
+    requires sets { sets.now ≡ code_sets code.now }
+    ensures found { IfSome result (λ h. IsEntropy code.now set h) }
     ensures small { IfSome result (λ h. h ≤ 4096) }
-    ensures none { IfNone result ((h : ℕ) → ¬ IsEntropy (code_view code.now) set h) }
+    ensures none { IfNone result ((h : ℕ) → ¬ IsEntropy code.now set h) }
 {
+    code.facts();
     exponent(
         count_around(set, sets),
-        code.field.size(),
-        message_count(code),
+        code.field().size(),
+        code.message_count(),
     )
 }
 
@@ -63,12 +63,11 @@ fn is_product(value: i128, times: u64, entropy: u32) -> bool
 /// Whether the value of `set` at `point` is `times` times its entropy. `sets` are as for `entropy`.
 #[tactic(auto, using(crate::proofs::EntropyLemmas::one_entropy))]
 fn has_entropy(code: &LinearCode, sets: &[u16], times: u64, point: &Point, set: u16) -> bool
-    requires code { IsCode (code_view code.now) }
-    requires sets { sets.now ≡ code_sets (code_view code.now) }
+    requires sets { sets.now ≡ code_sets code.now }
     requires from_one { 1 ≤ set }
     requires within { set ≤ length point.now }
-    ensures yes { OnTrue result (HasEntropy (code_view code.now) times point.now set) }
-    ensures no { OnFalse result (¬ HasEntropy (code_view code.now) times point.now set) }
+    ensures yes { OnTrue result (HasEntropy code.now times point.now set) }
+    ensures no { OnFalse result (¬ HasEntropy code.now times point.now set) }
 {
     match entropy(code, sets, set) {
         Some(h) => is_product(point.at(set as u32), times, h),
@@ -78,12 +77,11 @@ fn has_entropy(code: &LinearCode, sets: &[u16], times: u64, point: &Point, set: 
 
 /// The first set whose value at `point` isn't `times` times its entropy. `sets` are as for `entropy`.
 fn first_other_of(code: &LinearCode, sets: &[u16], times: u64, point: &Point) -> Option<u16>
-    requires code { IsCode (code_view code.now) }
-    requires sets { sets.now ≡ code_sets (code_view code.now) }
-    requires complete { 2 ^ variables_of (code_view code.now) - 1 ≤ length point.now }
-    ensures { FirstOtherIs (code_view code.now) times point.now result }
+    requires sets { sets.now ≡ code_sets code.now }
+    requires complete { 2 ^ variables_of code.now - 1 ≤ length point.now }
+    ensures { FirstOtherIs code.now times point.now result }
 {
-    for set in 1..1u16 << code.variables.len() {
+    for set in 1..1u16 << code.variable_count() {
         if !has_entropy(code, sets, times, point, set) {
             return Some(set);
         }
@@ -99,9 +97,8 @@ pub fn first_other(
     times: u64,
     point: &Point,
 ) -> Result<Option<u16>, AllocError>
-    requires code { IsCode (code_view code.now) }
-    requires complete { 2 ^ variables_of (code_view code.now) - 1 ≤ length point.now }
-    ensures { IfOk result (FirstOtherIs (code_view code.now) times point.now) }
+    requires complete { 2 ^ variables_of code.now - 1 ≤ length point.now }
+    ensures { IfOk result (FirstOtherIs code.now times point.now) }
 {
     let sets = zero_sets(alloc, code)?;
     let other = first_other_of(code, sets.as_slice(), times, point);
@@ -110,14 +107,13 @@ pub fn first_other(
 
 /// The entropies of all nonempty sets of the code's variables, by number, in units of one symbol; `None` if one has none.
 pub fn entropies_of(alloc: Global, code: &LinearCode) -> Result<Option<Point>, AllocError>
-    requires { IsCode (code_view code.now) }
-    ensures complete { IfOk result (λ o. IfSome o (λ p. length p ≡ 2 ^ variables_of (code_view code.now) - 1)) }
-    ensures values { IfOk result (λ o. IfSome o (AreEntropies (code_view code.now) 1)) }
-    ensures none { IfOk result (λ o. IfNone o (LackEntropy (code_view code.now))) }
+    ensures complete { IfOk result (λ o. IfSome o (λ p. length p ≡ 2 ^ variables_of code.now - 1)) }
+    ensures values { IfOk result (λ o. IfSome o (AreEntropies code.now 1)) }
+    ensures none { IfOk result (λ o. IfNone o (LackEntropy code.now)) }
 {
     let sets = zero_sets(alloc, code)?;
     let space = Space {
-        variables: code.variables.len() as u8,
+        variables: code.variable_count(),
         rates: 0,
     };
     let mut values = Vec::with_capacity(alloc, space.size() as usize)?;

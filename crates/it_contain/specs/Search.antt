@@ -16,6 +16,7 @@ use Rattle.it_region.specs.declared.types.Pair.{Pair}
 use Rattle.it_contain.specs.declared.types.Shape.{Shape}
 use Rattle.it_region.specs.Pairs.{FitsPair, pair_obligations}
 use Rattle.it_contain.specs.Proposals.{Plan, plan_after}
+use Rattle.it_contain.specs.Shapes.{shape_of}
 
 -- what is looked for: which candidates fit, the targets that each is to prove, and the outcomes that a target may have
 pub record Goal : Type 1 where
@@ -89,6 +90,6 @@ abbrev pub SearchEnds : Goal → ℕ → List Candidate → List Plan → Contai
 SearchEnds goal tries plan plans (Found c proofs) plans_after = IsFirstProved goal tries plan c × IsProof goal c proofs × (plans_after ≡ map (plan_after c) plans)
 SearchEnds goal tries plan plans (Open tried) plans_after = IsOpen goal tries plan tried × (plans_after ≡ plans)
 
--- The end of a search about a pair: its candidates are those of the list `first`, and then those that the boxes set for the shape.
-abbrev pub PairEnds : Pair → Effort → ℕ → List Candidate → Shape → List Plan → Contained → List Plan → Type 0
-PairEnds p effort tries first shape plans end plans_after = SearchEnds (pair_goal p effort) tries (plan_of first plans shape) plans end plans_after
+-- The end of a search about a pair: its candidates are those of the list `first`, and then those that the boxes set for the pair's shape.
+abbrev pub PairEnds : Pair → Effort → ℕ → List Candidate → List Plan → Contained → List Plan → Type 0
+PairEnds p effort tries first plans end plans_after = SearchEnds (pair_goal p effort) tries (plan_of first plans (shape_of p)) plans end plans_after

@@ -1,8 +1,8 @@
 //! The search for a candidate that is proved.
 ghost use Rattle.std.specs.Prelude.{◌≡◌, ◌<◌, ◌+◌, map, drop, vec_len, IfOk, OnOk};
 ghost use Rattle.it_region.specs.Pairs.{IsPair};
-ghost use Rattle.it_contain.specs.Shapes.{IsShape, shape_of};
 ghost use Rattle.it_contain.specs.Search.{pair_goal, PairEnds};
+ghost use Rattle.it_contain.specs.Shapes.{IsShape, shape_of};
 ghost use Rattle.it_contain.specs.SearchSteps.{AreOutcomes, BoxEnds, Judges, KeepsLater, KeepsPending, ListEnds, plans_after_try};
 
 use crate::boxes::{begin_all, next_at, teach_all, tell_all};
@@ -35,16 +35,12 @@ pub fn contain(
     effort: Effort,
 ) -> Result<Contained, AllocError>
     requires pair { IsPair pair.now }
-    ensures { IfOk result (λ r. PairEnds pair.now effort tries first.now (shape_of pair.now) (map plan boxes.old.items) r (map plan boxes.new.items)) }
+    ensures { IfOk result (λ r. PairEnds pair.now effort tries first.now (map plan boxes.old.items) r (map plan boxes.new.items)) }
 {
-    let shape = Shape {
-        variables: pair.first.space.variables,
-        parts: pair.parts,
-    };
     let mut outcomes = Outcomes::new(alloc, &pair.first, effort)?;
     let goal = Goal { pair, effort };
     // named before it is answered, so that the contract of the call stands at the answer
-    let end = try_all(alloc, &goal, shape, first, boxes, tries, &mut outcomes)?;
+    let end = try_all(alloc, &goal, first, boxes, tries, &mut outcomes)?;
     Ok(end)
 }
 
@@ -131,11 +127,22 @@ fn try_box(
     Ok(Contained::Open { tried: tries })
 }
 
-/// Tries the first `tries` candidates of the plan for a shape.
+/// The shape of a pair's candidates.
+fn shape_of(pair: &Pair) -> Shape
+    requires pair { IsPair pair.now }
+    ensures value { result ≡ shape_of pair.now }
+    ensures shape { IsShape result }
+{
+    Shape {
+        variables: pair.first.space.variables,
+        parts: pair.parts,
+    }
+}
+
+/// Tries the first `tries` candidates of the plan for the shape of the goal's pair.
 fn try_all(
     alloc: Global,
     goal: &Goal<'_>,
-    shape: Shape,
     first: &[Candidate],
     boxes: &mut Vec<Box<dyn Proposer>>,
     tries: u32,
@@ -143,9 +150,9 @@ fn try_all(
 ) -> Result<Contained, AllocError>
     requires pair { IsPair goal.now.pair.now }
     requires outcomes { AreOutcomes goal.now.pair.now.first goal.now.effort outcomes.old }
-    requires shape { IsShape shape }
-    ensures { IfOk result (λ r. PairEnds goal.now.pair.now goal.now.effort tries first.now shape (map plan boxes.old.items) r (map plan boxes.new.items)) }
+    ensures { IfOk result (λ r. PairEnds goal.now.pair.now goal.now.effort tries first.now (map plan boxes.old.items) r (map plan boxes.new.items)) }
 {
+    let shape = shape_of(goal.pair);
     begin_all(boxes, shape);
     let mut count = match try_list(alloc, goal, first, boxes, tries, outcomes)? {
         Contained::Found(candidate, proof) => return Ok(Contained::Found(candidate, proof)),

@@ -9,12 +9,11 @@ use Rattle.it_forms.specs.Letters.{Letter, FlaggedLetters}
 use Rattle.it_forms.specs.Words.{limit_flag, to_end}
 use Rattle.it_forms.proofs.LineEnds.{HasNoEnd}
 use Rattle.it_question.specs.declared.bodies.Body.{Body}
-use Rattle.it_question.specs.declared.types.Question.{Question}
 use Rattle.it_question.specs.Bodies.{body_view}
 use Rattle.it_question.specs.Limits.{IsQuestion}
 use Rattle.it_question.specs.Lines.{LineView, AreLinesOf, letters_of_lines}
 use Rattle.it_question.specs.QuestionForms.{file}
-use Rattle.it_question.specs.Questions.{BodyView, QuestionView, question_body, question_view}
+use Rattle.it_question.specs.Questions.{BodyView, QuestionView}
 use Rattle.it_question.specs.Texts.{with_texts}
 use Rattle.it_question.proofs.FileLemmas.{file_ends}
 use Rattle.it_question.proofs.FileReadings.{body_again, from_map}
@@ -86,8 +85,6 @@ bodies_keep_limits bodies ls r e = from_map IsQuestion body_view bodies
 pub texts_keep_limits : (lines : List LineView) (ys : List BodyView) → All IsQuestion ys → All (λ (q : QuestionView). IsQuestion q.body) (with_texts lines ys)
 texts_keep_limits lines ys h = from_map IsQuestion (λ (q : QuestionView). q.body) (with_texts lines ys) (subst (All IsQuestion) (sym (body_again lines ys)) h)
 
-pub questions_keep_limits : (qs : List Question) (lines : List LineView) (ys : List BodyView) → All IsQuestion ys
-    → map question_view qs ≡ with_texts lines ys → All (λ q. IsQuestion (question_body q)) qs
-questions_keep_limits qs lines ys h are =
-    from_map (λ (q : QuestionView). IsQuestion q.body) question_view qs (subst (All (λ (q : QuestionView). IsQuestion q.body)) (sym are)
-    (texts_keep_limits lines ys h))
+pub questions_keep_limits : (qs : List QuestionView) (lines : List LineView) (ys : List BodyView) → All IsQuestion ys
+    → qs ≡ with_texts lines ys → All (λ q. IsQuestion q.body) qs
+questions_keep_limits qs lines ys h are = subst (All (λ (q : QuestionView). IsQuestion q.body)) (sym are) (texts_keep_limits lines ys h)

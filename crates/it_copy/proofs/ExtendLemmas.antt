@@ -1,11 +1,9 @@
 -- What comes of a question with copies.
 use Rattle.std.proofs.Common.{◌≡◌, ◌<◌, ◌≤◌, false, List, ◌++◌, length, None, sym, ap, subst, ◌∙◌, arith}
-use Rattle.std.proofs.lemmas.List.{length-map}
 use Rattle.it_syntax.specs.NamesViews.{NamesView}
-use Rattle.it_syntax.specs.Givens.{GivenView, given_view}
+use Rattle.it_syntax.specs.Givens.{GivenView}
 use Rattle.it_syntax.specs.Meaning.{RelationView}
-use Rattle.it_question.specs.declared.types.Question.{Question}
-use Rattle.it_question.specs.Questions.{BodyView, VerbView, Prove, question_body}
+use Rattle.it_question.specs.Questions.{BodyView, VerbView, Prove}
 use Rattle.it_question.specs.Limits.{IsQuestion}
 use Rattle.it_copy.specs.declared.types.CopyFault.{CopyFault}
 use Rattle.it_copy.specs.declared.types.CopyFault.TheVariants.{Memory, Verb, Copy, Many, Large}
@@ -33,23 +31,20 @@ made_of : (q : BodyView) (cs : List CopyView) (r : RelationView) → q.verb ≡ 
 made_of q cs r e placed = record { proof = proof_of q r e; placed = placed }
 
 -- the question with copies keeps the limits where it has few constraints
-pub few_is_question : (q : BodyView) (cs : List CopyView) (r : RelationView) (e : Question) → IsQuestion q → q.verb ≡ Prove r
-    → first_unplaced 1 q.names cs ≡ None → question_body e ≡ extended q cs → length e.lines.givens.items ≤ 64 → IsQuestion (question_body e)
-few_is_question q cs r e limits verb placed is few =
-    let counted : length (question_body e).lines.givens ≤ 64 = omega (arith, length-map e.lines.givens.items given_view, few) in
-    subst IsQuestion (sym is) (extended_is_question q cs limits (made_of q cs r verb placed) (subst (λ (b : BodyView). length b.lines.givens ≤ 64) is counted))
+pub few_is_question : (q : BodyView) (cs : List CopyView) (r : RelationView) (e : BodyView) → IsQuestion q → q.verb ≡ Prove r
+    → first_unplaced 1 q.names cs ≡ None → e ≡ extended q cs → length e.lines.givens ≤ 64 → IsQuestion e
+few_is_question q cs r e limits verb placed is few = subst IsQuestion (sym is)
+    (extended_is_question q cs limits (made_of q cs r verb placed) (subst (λ (b : BodyView). length b.lines.givens ≤ 64) is few))
 
 -- and then it is the extension
-pub extension_of : (q : BodyView) (cs : List CopyView) (r : RelationView) (e : Question) → q.verb ≡ Prove r
-    → first_unplaced 1 q.names cs ≡ None → question_body e ≡ extended q cs → length e.lines.givens.items ≤ 64
-    → IsLargeBy (question_body e) false
-    → IsExtension q cs (question_body e)
+pub extension_of : (q : BodyView) (cs : List CopyView) (r : RelationView) (e : BodyView) → q.verb ≡ Prove r
+    → first_unplaced 1 q.names cs ≡ None → e ≡ extended q cs → length e.lines.givens ≤ 64 → IsLargeBy e false
+    → IsExtension q cs e
 unfolding IsLargeBy
-extension_of q cs r e verb placed is few small =
-    record { made = made_of q cs r verb placed; few = omega (arith, length-map e.lines.givens.items given_view, few); small = small; is = is }
+extension_of q cs r e verb placed is few small = record { made = made_of q cs r verb placed; few = few; small = small; is = is }
 
-pub past_is_misfit : (q : BodyView) (cs : List CopyView) (r : RelationView) (e : Question) (f : CopyFault) → q.verb ≡ Prove r
-    → first_unplaced 1 q.names cs ≡ None → question_body e ≡ extended q cs → IsPastLimits (question_body e) f → IsMisfit q cs f
+pub past_is_misfit : (q : BodyView) (cs : List CopyView) (r : RelationView) (e : BodyView) (f : CopyFault) → q.verb ≡ Prove r
+    → first_unplaced 1 q.names cs ≡ None → e ≡ extended q cs → IsPastLimits e f → IsMisfit q cs f
 unfolding IsLargeBy
 past_is_misfit q cs r e Memory verb placed is past = tt
 past_is_misfit q cs r e Verb verb placed is past = absurd past

@@ -7,8 +7,8 @@ use Rattle.it_canon.proofs.AgreeLemmas.{holds_same}
 use Rattle.it_copy.specs.Points.{YesByCopies}
 
 -- the map and its image agree the other way too
-turned : (common rates n m : ℕ) (p image : ℕ → ℤ) → AgreeOnCommon common rates n m p image → AgreeOnCommon common rates m n image p
-turned common rates n m p image a = record {
+negated : (common rates n m : ℕ) (p image : ℕ → ℤ) → AgreeOnCommon common rates n m p image → AgreeOnCommon common rates m n image p
+negated common rates n m p image a = record {
   on_sets = λ s h. sym (a.on_sets s h);
   on_rates = λ r h. sym (a.on_rates r h);
 }
@@ -19,5 +19,5 @@ yes_by_copies q e cs r limits verb extension holds p h =
     let n = length q.names.variables in
     let m = length e.names.variables in
     let relation : IsRelationOf n (length q.names.rates) r = subst (IsVerbOver q.names) verb limits.verb in
-    holds_same n (length q.names.rates) m n h.image p (turned n (length q.names.rates) n m p h.image h.agree) r relation
+    holds_same n (length q.names.rates) m n h.image p (negated n (length q.names.rates) n m p h.image h.agree) r relation
     (holds h.image h.polymatroid h.lines_hold)

@@ -3,10 +3,11 @@ ghost use Rattle.std.specs.Prelude.{◌≡◌, ◌≤◌, ◌<◌, ◌^◌, ◌+
 ghost use Rattle.it_closure.specs.Sizes.{table_size};
 ghost use Rattle.it_syntax.specs.Givens.{given_view};
 ghost use Rattle.it_syntax.specs.Meaning.{relation_view};
+ghost use Rattle.it_question.specs.Bodies.{body_view};
 ghost use Rattle.it_question.specs.Limits.{IsQuestion};
 ghost use Rattle.it_question.specs.NewNames.{Variable, is_taken, with_name};
 ghost use Rattle.it_question.specs.TableSizes.{most_entries};
-ghost use Rattle.it_question.specs.Questions.{Prove, question_body, question_view};
+ghost use Rattle.it_question.specs.Questions.{Prove};
 ghost use Rattle.it_question.specs.QuestionLimits.{most_lines};
 ghost use Rattle.it_copy.specs.CopyLines.{AreNamed, copy_view};
 ghost use Rattle.it_copy.specs.Extensions.{IsExtension, IsMisfit, equations_of, extended, first_unplaced, named_parts, placed, set_with, unless_member, with_copies, equations_at};
@@ -18,7 +19,7 @@ use crate::types::{CopyFault, CopyLine};
 use it_canon::problem;
 use it_closure::size;
 use it_problems::Problem;
-use it_question::readers::{MOST_ENTRIES, MOST_LINES, MOST_VARIABLES};
+use it_question::readers::{Body, MOST_ENTRIES, MOST_LINES, MOST_VARIABLES};
 use it_question::types::{OwnLines, Question, Verb};
 use it_space::VarSet;
 use it_syntax::types::{Given, Relation};
@@ -152,8 +153,7 @@ fn is_large(alloc: Global, problem: &Problem) -> Result<bool, AllocError>
 
 /// Whether the table of a question is too large.
 fn has_large_table(alloc: Global, question: &Question) -> Result<bool, AllocError>
-    requires { IsQuestion (question_body question.now) }
-    ensures { IfOk result (λ large. IsLargeBy (question_body question.now) large) }
+    ensures { IfOk result (λ large. IsLargeBy question.now.body large) }
 {
     let problem = problem(alloc, question)?;
     let large = is_large(alloc, &problem)?;
@@ -162,73 +162,76 @@ fn has_large_table(alloc: Global, question: &Question) -> Result<bool, AllocErro
 
 /// The error `Large` if the table of the question is too large.
 fn judge_size(alloc: Global, question: &Question) -> Result<(), CopyFault>
-    requires { IsQuestion (question_body question.now) }
-    ensures small { OnOk result (IsLargeBy (question_body question.now) false) }
-    ensures large { IfErr result (IsLarge (question_body question.now)) }
+    ensures small { OnOk result (IsLargeBy question.now.body false) }
+    ensures large { IfErr result (IsLarge question.now.body) }
 {
     let large = has_large_table(alloc, question)?;
     if large { Err(CopyFault::Large) } else { Ok(()) }
 }
 
-/// The question about a relation with copies of variables added, without a test of its size; the error is the first copy that can't
-/// be made.
+/// The question about a relation with copies of variables added, without its text and without a test of its limits; the error is the
+/// first copy that can't be made.
 fn copied(
     alloc: Global,
     question: &Question,
     relation: &Relation,
     lines: &[CopyLine],
-) -> Result<Question, CopyFault>
-    requires verb { (question_body question.now).verb ≡ Prove (relation_view relation.now) }
+) -> Result<Body, CopyFault>
+    requires verb { question.now.body.verb ≡ Prove (relation_view relation.now) }
     requires names { AreNamed lines.now }
     requires few { length lines.now ≤ 4 }
-    ensures body { IfOk result (λ e. question_body e ≡ extended (question_body question.now) (map copy_view lines.now)) }
-    ensures placed { IfOk result (λ e. first_unplaced 1 (question_body question.now).names (map copy_view lines.now) ≡ None) }
-    ensures text { IfOk result (λ e. (question_view e).text ≡ []) }
-    ensures first { IfErr result (IsUnplaced (question_body question.now).names (map copy_view lines.now)) }
+    ensures body { IfOk result (λ e. body_view e ≡ extended question.now.body (map copy_view lines.now)) }
+    ensures placed { IfOk result (λ e. first_unplaced 1 question.now.body.names (map copy_view lines.now) ≡ None) }
+    ensures first { IfErr result (IsUnplaced question.now.body.names (map copy_view lines.now)) }
 {
-    let mut names = question.names.copy()?;
-    let mut givens = copies::givens(alloc, question.lines.givens.as_slice())?;
+    let own = question.lines();
+    let mut names = question.names().copy()?;
+    let mut givens = copies::givens(alloc, own.givens())?;
     match add_copies(alloc, &mut names, &mut givens, lines) {
         Ok(()) => {}
         Err(fault) => return Err(fault),
     }
-    let rows = copies::relations(alloc, question.lines.rows.as_slice())?;
+    let rows = copies::relations(alloc, own.rows())?;
     let relation = relation.copy()?;
-    Ok(Question {
+    Ok(Body {
         names,
-        source: Vec::new(alloc),
         lines: OwnLines { givens, rows },
         verb: Verb::Prove(relation),
     })
 }
 
-/// The error `Many` if the question has too many constraints, else `Large` if its table is too large.
-fn judge_limits(alloc: Global, question: &Question) -> Result<(), CopyFault>
-    requires { length question.now.lines.givens.items ≤ most_lines → IsQuestion (question_body question.now) }
-    ensures few { OnOk result (length question.now.lines.givens.items ≤ most_lines) }
-    ensures small { OnOk result (IsLargeBy (question_body question.now) false) }
-    ensures past { IfErr result (IsPastLimits (question_body question.now)) }
+/// The question of `body`, without a text; the error `Many` if it has too many constraints, else `Large` if its table is too large.
+fn within_limits(alloc: Global, body: Body) -> Result<Question, CopyFault>
+    requires { length (body_view body).lines.givens ≤ most_lines → IsQuestion (body_view body) }
+    ensures whole { IfOk result (λ q. q ≡ record { body = body_view body; text = [] }) }
+    ensures few { IfOk result (λ q. length q.body.lines.givens ≤ most_lines) }
+    ensures small { IfOk result (λ q. IsLargeBy q.body false) }
+    ensures past { IfErr result (IsPastLimits (body_view body)) }
 {
-    if question.lines.givens.len() > MOST_LINES {
+    if body.lines.givens().len() > MOST_LINES {
         return Err(CopyFault::Many);
     }
-    judge_size(alloc, question)
+    let question = body.with_source(Vec::new(alloc));
+    match judge_size(alloc, &question) {
+        Ok(()) => Ok(question),
+        Err(fault) => Err(fault),
+    }
 }
 
 /// A question about a relation with copies of variables added, each with its equations as further constraints.
 pub fn extend(alloc: Global, question: &Question, lines: &[CopyLine]) -> Result<Question, CopyFault>
-    requires limits { IsQuestion (question_body question.now) }
     requires names { AreNamed lines.now }
     requires few { length lines.now ≤ 4 }
-    ensures extension { IfOk result (λ e. IsExtension (question_body question.now) (map copy_view lines.now) (question_body e)) }
-    ensures limits { IfOk result (λ e. IsQuestion (question_body e)) }
-    ensures text { IfOk result (λ e. (question_view e).text ≡ []) }
-    ensures misfit { IfErr result (IsMisfit (question_body question.now) (map copy_view lines.now)) }
+    ensures extension { IfOk result (λ e. IsExtension question.now.body (map copy_view lines.now) e.body) }
+    ensures limits { IfOk result (λ e. IsQuestion e.body) }
+    ensures text { IfOk result (λ e. e.text ≡ []) }
+    ensures misfit { IfErr result (IsMisfit question.now.body (map copy_view lines.now)) }
 {
-    match &question.verb {
+    question.facts();
+    match question.verb() {
         Verb::Prove(relation) => match copied(alloc, question, relation, lines) {
-            Ok(extended) => match judge_limits(alloc, &extended) {
-                Ok(()) => Ok(extended),
+            Ok(body) => match within_limits(alloc, body) {
+                Ok(extended) => Ok(extended),
                 Err(fault) => Err(fault),
             },
             Err(fault) => Err(fault),

@@ -4,11 +4,11 @@ ghost use Rattle.it_forms.specs.FormReading.{read};
 ghost use Rattle.it_question.specs.Bodies.{body_view};
 ghost use Rattle.it_question.specs.Cursors.{ParsesBy};
 ghost use Rattle.it_question.specs.Limits.{IsQuestion};
-ghost use Rattle.it_question.specs.Questions.{question_body, question_view};
 ghost use Rattle.it_copy.specs.CopyForms as forms;
 ghost use Rattle.it_copy.specs.CopyLines.{AreNamed, copy_view};
 ghost use Rattle.it_copy.specs.Files.{IsCopyFile, IsFirstCopyFault};
 ghost use Rattle.it_copy.specs.FileSteps.{file_view};
+ghost use Rattle.it_syntax.specs.Lines.{most_text_bytes};
 
 use crate::copy_lines::copies;
 use crate::types::{CopyFile, CopyLine};
@@ -53,9 +53,9 @@ fn without_first(lines: Vec<Line>, n: usize) -> Result<Vec<Line>, AllocError>
 /// The fault is the first one at which no rule of the language goes on, with the codes and the places of question files: in the
 /// head `Word` also at `H` and `I` in the place of a name, `Many` at the word `copy` of a fifth copy and at a fifth name.
 pub fn copy_file(alloc: Global, bytes: &[u8]) -> Result<CopyFile, FileFault>
-    requires { length bytes.now ≤ 1048577 }
-    ensures read { IfOk result (λ f. IsCopyFile bytes.now (map copy_view f.copies.items) (map question_view f.questions.items)) }
-    ensures limits { IfOk result (λ f. All (λ q. IsQuestion (question_body q)) f.questions.items) }
+    requires { length bytes.now ≤ most_text_bytes }
+    ensures read { IfOk result (λ f. IsCopyFile bytes.now (map copy_view f.copies.items) f.questions.items) }
+    ensures limits { IfOk result (λ f. All (λ q. IsQuestion q.body) f.questions.items) }
     ensures names { IfOk result (λ f. AreNamed f.copies.items) }
     ensures few { IfOk result (λ f. length f.copies.items ≤ 4) }
     ensures fault { IfErr result (IsFirstCopyFault bytes.now) }

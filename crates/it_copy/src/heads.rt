@@ -7,6 +7,7 @@ ghost use Rattle.it_copy.specs.CopyForms as forms;
 ghost use Rattle.it_copy.specs.CopyLines.{AreNamed, copy_view};
 ghost use Rattle.it_copy.specs.Heads.{IsFirstHeadFault, IsHead, begins_questions, lines_before};
 ghost use Rattle.it_copy.specs.HeadSteps.{StopsInHead};
+ghost use Rattle.it_syntax.specs.Lines.{most_text_bytes};
 
 use crate::copy_lines::copies;
 use crate::types::{CopyLine, Head};
@@ -87,7 +88,7 @@ fn start_after(bytes: &[u8], skipped: u32) -> usize
 /// line that has tokens asks for a copy; there are at most four. The fault is the first one of the first of these lines that doesn't
 /// ask for a copy, or asks for a fifth one.
 pub fn head(alloc: Global, bytes: &[u8]) -> Result<Head, FileFault>
-    requires { length bytes.now ≤ 1048577 }
+    requires { length bytes.now ≤ most_text_bytes }
     ensures read { IfOk result (λ h. IsHead bytes.now (map copy_view h.lines.items) h.from h.skipped) }
     ensures names { IfOk result (λ h. AreNamed h.lines.items) }
     ensures few { IfOk result (λ h. length h.lines.items ≤ 4) }

@@ -19,24 +19,24 @@ pub fn canon(alloc: Global, relation: &Relation, space: Space) -> Result<Row, Al
     requires within { IsRelationOf space.variables space.rates (relation_view relation.now) }
     ensures { IfOk result (IsRowOf space (form_of space.variables (relation_view relation.now))) }
 {
-    let turned = relation.sign == Sign::AtMost;
-    difference(alloc, relation, turned, space)
+    let negated = relation.sign == Sign::AtMost;
+    difference(alloc, relation, negated, space)
 }
 
-/// The row of the left side less the right one, negated if `turned`, times the least common multiple of the denominators.
+/// The row of the left side less the right one, negated if `negated`, times the least common multiple of the denominators.
 pub fn difference(
     alloc: Global,
     relation: &Relation,
-    turned: bool,
+    negated: bool,
     space: Space,
 ) -> Result<Row, AllocError>
     requires space { IsSpace space }
     requires within { IsRelationOf space.variables space.rates (relation_view relation.now) }
-    ensures { IfOk result (IsRowOf space (λ p. signed_by turned (difference_at space.variables p (relation_view relation.now)))) }
+    ensures { IfOk result (IsRowOf space (λ p. signed_by negated (difference_at space.variables p (relation_view relation.now)))) }
 {
     let multiple = common_denominator(relation);
     let mut sums = Coefficients::new(alloc, space)?;
-    sums.add_side(space, relation.left.terms.as_slice(), multiple, turned);
-    sums.add_side(space, relation.right.terms.as_slice(), multiple, !turned);
+    sums.add_side(space, relation.left.terms.as_slice(), multiple, negated);
+    sums.add_side(space, relation.right.terms.as_slice(), multiple, !negated);
     sums.into_row(alloc)
 }

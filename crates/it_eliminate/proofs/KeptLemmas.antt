@@ -1,7 +1,9 @@
 -- Rows kept up to a number of them, row after row.
-use Rattle.std.proofs.Common.{◌≡◌, inl, ◌↔◌, ℕ, ◌+◌, ◌<◌, pos, refl, sym, ap, ap₂, subst, List, [], ◌∷◌, ◌++◌, map, length, drop, get_or, Bool, true, false, cond, if◌then◌else◌}
+use Rattle.std.proofs.Common.{◌≡◌, ◌⊎◌, inl, inr, ◌↔◌, ℕ, ◌+◌, ◌<◌, ◌≤◌, ℤ, arith, pos, refl, sym, ap, ap₂, subst, List, [], ◌∷◌, ◌++◌, map, length, drop, get_or, Bool, true, false, cond, if◌then◌else◌}
 use Rattle.std.specs.List.{flat_map, AllByRecursion as Every}
+use Rattle.std.specs.Global.{Vec}
 use Rattle.std.specs.Prelude.{filter}
+use Rattle.std.proofs.lemmas.List.{length-map}
 use Rattle.it_space.proofs.ListLemmas.{drop_item}
 use Rattle.it_space.specs.Rows.{Terms, IsCanonical, coefficient}
 use Rattle.it_space.specs.Divisors.{lowest_terms}
@@ -9,7 +11,7 @@ use Rattle.it_space.specs.Cancelling.{cancelled_row}
 use Rattle.it_eliminate.proofs.MemberLemmas.{member_of, contains_of, every_member, member_every}
 use Rattle.it_eliminate.proofs.StepLemmas.{test_from_zero}
 use Rattle.it_eliminate.specs.Elimination.{with_row, with_lowest_rows, is_positive_at, is_negative_at, is_zero_at, pairs_of, results, next_list, PairsFit}
-use Rattle.it_eliminate.specs.Gathering.{flat_of, pair_of, up_pairs, DownFits, UpFits, IsKeptList, Gathers}
+use Rattle.it_eliminate.specs.Gathering.{flat_of, pair_of, up_pairs, DownFits, UpFits, IsKeptList, Gathers, rows_of}
 
 -- ---- one row
 
@@ -113,3 +115,24 @@ fit_pairs at rows f = member_every (UpFits at rows) rows (λ up m h. member_ever
 
 pub wide_pair : {W : Type 0} (at : ℕ) (rows : List Terms) → (W → ¬ (Every (UpFits at rows) rows)) → W → ¬ (PairsFit at rows)
 wide_pair at rows f w p = f w (fit_pairs at rows p)
+
+-- ---- how many there are
+
+module _ (most : ℕ) (exact : List Terms) (lists : List (Vec (ℕ × ℤ))) (k : IsKeptList most exact (rows_of lists)) where
+  -- a kept list that isn't above the limit is the exact one
+  pub kept_few : length lists ≤ most → (rows_of lists ≡ exact) × (length exact ≤ most)
+  kept_few few = by_cases k.is
+    where
+      by_cases : (rows_of lists ≡ exact) ⊎ ((most < length (rows_of lists)) × (most < length exact)) → (rows_of lists ≡ exact) × (length exact ≤ most)
+      by_cases (inl e) = let same : length (rows_of lists) ≡ length lists = length-map lists (λ v. v.items) in
+          (e, subst (λ (rs : List Terms). length rs ≤ most) e (omega (arith, few, same)))
+      by_cases (inr e) = let same : length (rows_of lists) ≡ length lists = length-map lists (λ v. v.items) in absurd (omega (arith, few, same, e.0))
+
+  -- and one above it stands for one above it
+  pub kept_many : most < length lists → most < length exact
+  kept_many many = by_cases k.is
+    where
+      by_cases : (rows_of lists ≡ exact) ⊎ ((most < length (rows_of lists)) × (most < length exact)) → most < length exact
+      by_cases (inl e) = let same : length (rows_of lists) ≡ length lists = length-map lists (λ v. v.items) in
+          subst (λ (rs : List Terms). most < length rs) e (omega (arith, many, same))
+      by_cases (inr e) = e.1

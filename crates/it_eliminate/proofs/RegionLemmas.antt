@@ -7,7 +7,7 @@ use Rattle.it_eliminate.proofs.SpaceLemmas.{projection_up_to}
 pub not_wide : (next : List Terms) (r : ℕ) → Region next ≡ Wide r → ⊥
 not_wide next r e = cc
 
-not_rows : (next : List Terms) (r : ℕ) → Region next ≡ Rows r → ⊥
+pub not_rows : (next : List Terms) (r : ℕ) → Region next ≡ Rows r → ⊥
 not_rows next r e = cc
 
 pub same_list : (xs ys : List Terms) → Region xs ≡ Region ys → xs ≡ ys

@@ -1,12 +1,10 @@
--- No public clause cites this module: the list after one rate gathered row by row, and the result of the elimination of one rate.
-use Rattle.std.specs.Prelude.{◌≡◌, ◌⊎◌, ℕ, ℤ, pos, ◌<◌, ◌≤◌, ◌<ℤ◌, List, [], ◌∷◌, length, map, if◌then◌else◌}
+-- No public clause cites this module: the list after one rate gathered row by row.
+use Rattle.std.specs.Prelude.{◌≡◌, ◌⊎◌, ℕ, ℤ, pos, ◌<◌, ◌<ℤ◌, List, [], ◌∷◌, length, map, if◌then◌else◌}
 use Rattle.std.specs.Global.{Vec}
 use Rattle.std.specs.List.{flat_map, AllByRecursion as Every}
 use Rattle.it_space.specs.Rows.{Terms, IsCanonical, coefficient}
 use Rattle.it_space.specs.Cancelling.{cancelled_row, CancelFits}
-use Rattle.it_eliminate.specs.declared.types.RateEnd.{RateEnd}
-use Rattle.it_eliminate.specs.declared.types.RateEnd.TheVariants as ends
-use Rattle.it_eliminate.specs.Elimination.{with_lowest_rows, is_positive_at, is_negative_at, is_zero_at, next_list, PairsFit}
+use Rattle.it_eliminate.specs.Elimination.{with_lowest_rows, is_positive_at, is_negative_at, is_zero_at}
 
 -- the items of each of some vectors of terms, in order
 abbrev pub rows_of : List (Vec (ℕ × ℤ)) → List Terms
@@ -40,9 +38,3 @@ pub record IsKeptList (most : ℕ) (exact kept : List Terms) : Type 0 where
 -- if old is the kept list of an exact one, new is the kept list of that with the rows more appended in order
 pub record Gathers (most : ℕ) (more old new : List Terms) : Type 0 where
   pub keeps : (exact : List Terms) → IsKeptList most exact old → IsKeptList most (with_lowest_rows exact more) new
-
--- the end of the elimination of the rate at a coordinate: the list after it, or that there are too many rows or a pair is wide
-abbrev pub IsRateEnd : ℕ → ℕ → List Terms → RateEnd → Type 0
-IsRateEnd at most rows (ends.List next) = PairsFit at rows × (length (next_list at rows) ≤ most) × (next.items ≡ next_list at rows)
-IsRateEnd at most rows ends.Rows = PairsFit at rows × (most < length (next_list at rows))
-IsRateEnd at most rows ends.Wide = ¬ (PairsFit at rows)

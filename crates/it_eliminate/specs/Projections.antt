@@ -1,10 +1,16 @@
 -- Points of a system, and its projection. A point is a map from coordinates to numbers: the values of the sets and of the rates.
 use Rattle.std.specs.Prelude.{◌≡◌, ◌↔◌, ℕ, ◌+◌, ◌≤◌, ◌^◌, ℤ, pos, ◌*ℤ◌, ◌≤ℤ◌, List, map, All, Contains}
+use Rattle.std.specs.Global.{Vec}
+use Rattle.it_space.specs.declared.spaces.Space.{Space}
 use Rattle.it_problems.specs.declared.problems.System.{System}
 use Rattle.it_problems.specs.Problems.{IsSystem}
 use Rattle.it_space.specs.Rows.{Terms, value, coefficient}
 use Rattle.it_eliminate.specs.declared.types.Eliminated.{Eliminated}
 use Rattle.it_eliminate.specs.declared.types.Eliminated.TheVariants as elimination_ends
+
+-- the system of rows over a space
+abbrev pub system_of : Space → Vec Terms → System
+system_of space rows = record { space = space; rows = rows }
 
 -- every row is at least 0 at the point
 abbrev pub IsPointOf : List Terms → (ℕ → ℤ) → Type 0

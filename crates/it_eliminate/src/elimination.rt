@@ -1,14 +1,15 @@
 //! Rates eliminated one after the other.
-ghost use Rattle.std.specs.Prelude.{◌≡◌, ◌+◌, ◌^◌, ◌<◌, All, IfOk, [], ◌∷◌};
+ghost use Rattle.std.specs.Prelude.{◌≡◌, ◌+◌, ◌^◌, ◌<◌, All, IfErr, IfOk, [], ◌∷◌};
 ghost use Rattle.it_problems.specs.Problems.{IsSystem};
 ghost use Rattle.it_space.specs.Spaces.{IsSpace};
-ghost use Rattle.it_eliminate.specs.Views.{SystemEnds};
-ghost use Rattle.it_eliminate.specs.Projections.{RegionIsProjection};
-ghost use Rattle.it_eliminate.specs.Gathering.{IsRateEnd};
+ghost use Rattle.it_eliminate.specs.Elimination.{Region as RegionOf, EliminationEnds, ordered_rows};
+ghost use Rattle.it_eliminate.specs.Views.{StopsBy, SystemEnds};
+ghost use Rattle.it_eliminate.specs.Projections.{IsProjection, RegionIsProjection, system_of};
 
+use crate::copying::copied_rows;
 use crate::ordered::{ordered_rows, row_list};
 use crate::pairs::next_list;
-use crate::types::{Eliminated, RateEnd};
+use crate::types::{Eliminated, Stop};
 use it_problems::System;
 use it_space::{Row, RowFault, Space};
 use std::alloc::{AllocError, Global};
@@ -26,24 +27,14 @@ pub fn eliminate(
     ensures ends { IfOk result (SystemEnds system.now rows rates.now) }
     ensures region { IfOk result (RegionIsProjection system.now rates.now) }
 {
-    let ordered = ordered_rows(alloc, system.rows.as_slice())?;
-    let mut current = row_list(alloc, &ordered)?;
-    for rate in rates {
-        match after_rate(
-            alloc,
-            current.as_slice(),
-            coordinate(system.space, *rate),
-            rows,
-        )? {
-            RateEnd::List(next) => current = next,
-            RateEnd::Rows => return Ok(Eliminated::Rows { rate: *rate }),
-            RateEnd::Wide => return Ok(Eliminated::Wide { rate: *rate }),
-        }
+    let space = system.space;
+    let own = copied_rows(alloc, system.rows.as_slice())?;
+    match rows_after(alloc, space, own, rates, rows) {
+        Ok(left) => Ok(Eliminated::Region(System { space, rows: left })),
+        Err(Stop::Rows { rate }) => Ok(Eliminated::Rows { rate }),
+        Err(Stop::Wide { rate }) => Ok(Eliminated::Wide { rate }),
+        Err(Stop::Memory) => Err(AllocError),
     }
-    Ok(Eliminated::Region(System {
-        space: system.space,
-        rows: current,
-    }))
 }
 
 /// Eliminates `rate`, with results like those of `eliminate`.
@@ -56,27 +47,57 @@ pub fn step(alloc: Global, system: &System, rate: u8, rows: usize) -> Result<Eli
     eliminate(alloc, system, [rate].as_slice(), rows)
 }
 
+/// The rows over `space` that are left of `rows` after the elimination of `rates`, or why that stops, as `eliminate` has it. After a
+/// rate there may be `most` rows.
+pub fn rows_after(
+    alloc: Global,
+    space: Space,
+    rows: Vec<Row>,
+    rates: &[u8],
+    most: usize,
+) -> Result<Vec<Row>, Stop>
+    requires system { IsSystem (system_of space rows) }
+    requires rates { All (λ r. r < space.rates) rates.now }
+    ensures ends { IfOk result (λ v. EliminationEnds (2 ^ space.variables) most (ordered_rows rows.items) rates.now (RegionOf v.items)) }
+    ensures region { IfOk result (λ v. IsProjection (system_of space rows) rates.now (system_of space v)) }
+    ensures stop { IfErr result (StopsBy (EliminationEnds (2 ^ space.variables) most (ordered_rows rows.items) rates.now)) }
+{
+    let ordered = ordered_rows(alloc, rows)?;
+    let mut current = row_list(alloc, ordered)?;
+    for rate in rates {
+        current = after_rate(alloc, current.as_slice(), space, *rate, most)?;
+    }
+    Ok(current)
+}
+
+/// The rows in order after the elimination of `rate`, if they are at most `most`.
+fn after_rate(
+    alloc: Global,
+    rows: &[Row],
+    space: Space,
+    rate: u8,
+    most: usize,
+) -> Result<Vec<Row>, Stop>
+    requires { IsSpace space }
+    ensures rows { IfOk result (λ v. EliminationEnds (2 ^ space.variables) most rows.now (rate ∷ []) (RegionOf v.items)) }
+    ensures stop { IfErr result (StopsBy (EliminationEnds (2 ^ space.variables) most rows.now (rate ∷ []))) }
+{
+    let list = match next_list(alloc, rows, coordinate(space, rate), most) {
+        Ok(list) => list,
+        Err(RowFault::Wide) => return Err(Stop::Wide { rate }),
+        Err(RowFault::Memory) => return Err(Stop::Memory),
+    };
+    if list.len() > most {
+        return Err(Stop::Rows { rate });
+    }
+    let next = row_list(alloc, list)?;
+    Ok(next)
+}
+
 /// The coordinate of `rate`.
 fn coordinate(space: Space, rate: u8) -> u32
     requires { IsSpace space }
     ensures { result ≡ 2 ^ space.variables + rate }
 {
     (1u32 << space.variables) + rate as u32
-}
-
-/// The rows after the elimination of the rate at coordinate `at`, in order, if they are at most `most`.
-fn after_rate(alloc: Global, rows: &[Row], at: u32, most: usize) -> Result<RateEnd, AllocError>
-    ensures { IfOk result (IsRateEnd at most rows.now) }
-{
-    match next_list(alloc, rows, at, most) {
-        Ok(list) => {
-            if list.len() > most {
-                Ok(RateEnd::Rows)
-            } else {
-                Ok(RateEnd::List(row_list(alloc, &list)?))
-            }
-        }
-        Err(RowFault::Wide) => Ok(RateEnd::Wide),
-        Err(RowFault::Memory) => Err(AllocError),
-    }
 }

@@ -46,34 +46,25 @@ pub fn gather(
 }
 
 /// The rows as a list.
-pub fn row_list(alloc: Global, rows: &IndexSet<Vec<(u32, i128)>>) -> Result<Vec<Row>, AllocError>
-    requires { Every IsCanonical (rows_of rows.now.keys) }
-    ensures { IfOk result (λ v. v.items ≡ rows_of rows.now.keys) }
+pub fn row_list(alloc: Global, rows: IndexSet<Vec<(u32, i128)>>) -> Result<Vec<Row>, AllocError>
+    requires { Every IsCanonical (rows_of rows.keys) }
+    ensures { IfOk result (λ v. v.items ≡ rows_of rows.keys) }
 {
-    rows_from(alloc, rows.as_slice())
-}
-
-/// The rows whose terms are in `lists`, in order.
-fn rows_from(alloc: Global, lists: &[Vec<(u32, i128)>]) -> Result<Vec<Row>, AllocError>
-    requires { Every IsCanonical (rows_of lists.now) }
-    ensures { IfOk result (λ v. v.items ≡ rows_of lists.now) }
-{
-    let mut rows = Vec::new(alloc);
-    for terms in lists {
-        let terms = terms.iter().copied().collect(alloc)?;
-        rows.push(Row::new(terms))?;
+    let mut list = Vec::new(alloc);
+    for terms in rows {
+        list.push(Row::new(terms))?;
     }
-    Ok(rows)
+    Ok(list)
 }
 
 /// `rows` in order, in lowest terms, without zero rows and duplicates.
-pub fn ordered_rows(alloc: Global, rows: &[Row]) -> Result<IndexSet<Vec<(u32, i128)>>, AllocError>
-    ensures rows { IfOk result (λ s. rows_of s.keys ≡ ordered_rows rows.now) }
+pub fn ordered_rows(alloc: Global, rows: Vec<Row>) -> Result<IndexSet<Vec<(u32, i128)>>, AllocError>
+    ensures rows { IfOk result (λ s. rows_of s.keys ≡ ordered_rows rows.items) }
     ensures canonical { IfOk result (λ s. Every IsCanonical (rows_of s.keys)) }
 {
     let mut ordered = IndexSet::new(alloc);
     for row in rows {
-        put_lowest(&mut ordered, row.copy(alloc)?)?;
+        put_lowest(&mut ordered, row)?;
     }
     Ok(ordered)
 }

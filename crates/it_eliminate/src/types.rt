@@ -1,6 +1,6 @@
-//! The results of elimination.
+//! The results of elimination, and why one stops.
 use it_problems::System;
-use it_space::Row;
+use std::alloc::AllocError;
 
 /// The result of elimination.
 #[derive(Debug, Drop)]
@@ -13,13 +13,23 @@ pub enum Eliminated {
     Wide { rate: u8 },
 }
 
-/// The result of the elimination of one rate.
-#[derive(Debug, Drop)]
-pub enum RateEnd {
-    /// The rows after the rate, in order.
-    List(Vec<Row>),
-    /// After it there are more rows than are allowed.
-    Rows,
-    /// At it two rows can't be cancelled within 2^127 - 1.
-    Wide,
+/// Why an elimination stops before it has a region.
+#[derive(Clone, Copy)]
+pub enum Stop {
+    Memory,
+    /// After `rate` there are more rows than are allowed.
+    Rows { rate: u8 },
+    /// At `rate` two rows can't be cancelled within 2^127 - 1.
+    Wide { rate: u8 },
+}
+
+impl From<AllocError> for Stop {
+    ghost use Rattle.std.specs.Prelude.{◌≡◌};
+    ghost use Rattle.it_eliminate.specs.declared.types.Stop.TheVariants.{Memory};
+
+    ghost from_gives = { λ _ e. e ≡ Memory };
+
+    fn from(_error: AllocError) -> Stop {
+        Stop::Memory
+    }
 }

@@ -113,12 +113,13 @@ module _ (columns : List Terms) (rows : List WholeRowView) (basis : List ℕ) (m
       (entries_are : AreMovedEntries (slice_index_or columns c []) rows moved entries)
       (multiple_is : IsCommonMultiple rows moved (length basis) multiple)
       (bounds : BoundsShares norm rows (has_moved moved) (share_of multiple rows) (length basis) shares)
-      (numbers_fit : norm * most * multiple + norm * most * shares < 2 ^ 63) (bottoms_fit : low * multiple < 2 ^ 63)
+      (numbers_fit : norm * most * multiple + norm * most * shares < 2 ^ 63) (denominators_fit : low * multiple < 2 ^ 63)
       (base : AreBaseBounds most low rows moved (length basis))
       (height : length rows ≡ length basis + 1)
       (combined : Terms) (combined_is : combined ≡ column_less_moved columns rows basis moved entries multiple c (length basis)) where
-    shares_whole : (q : ℕ) → q < length basis → has_moved moved q ≡ true → (whole_row_at rows q).bottom * share_of multiple rows q ≡ multiple
-    shares_whole q l e = mul_comm (whole_row_at rows q).bottom (share_of multiple rows q) ∙ div-mul_cancel (whole_row_at rows q).bottom (multiple_is.each q l e)
+    shares_whole : (q : ℕ) → q < length basis → has_moved moved q ≡ true → (whole_row_at rows q).denominator * share_of multiple rows q ≡ multiple
+    shares_whole q l e = mul_comm (whole_row_at rows q).denominator (share_of multiple rows q)
+        ∙ div-mul_cancel (whole_row_at rows q).denominator (multiple_is.each q l e)
 
     module _ (p : FeasibilityProblem Rational) (b t : SimplexTable Rational) (s : ShowsBehind p b t columns limit rows basis (has_moved moved)) where
       number_enters : (i : ℕ) → T.number_now p b t columns limit rows basis (has_moved moved) s i c
@@ -190,8 +191,8 @@ module _ (columns : List Terms) (rows : List WholeRowView) (basis : List ℕ) (m
               (T.table_is_short p b t columns limit rows basis (has_moved moved) s multiple
               (share_of multiple rows) multiple_is.some shares_whole norm most shares is_norm
               (λ i l f. (base i l f).0) bounds
-              (λ i l f. let w = (base i l f).1 in let k = mul-le (whole_row_at rows i).bottom multiple low multiple w (omega arith)
-              in omega (arith, k, bottoms_fit))
+              (λ i l f. let w = (base i l f).1 in let k = mul-le (whole_row_at rows i).denominator multiple low multiple w (omega arith)
+              in omega (arith, k, denominators_fit))
               numbers_fit);
         }
 

@@ -69,19 +69,19 @@ module _ (columns : List Terms) (limit : ℕ) (old : List WholeRowView) (basis :
           row_by_cases : (p : FeasibilityProblem Rational) (b t : SimplexTable Rational)
               (s : ShowsBehind p b t columns limit old basis (has_moved moved)) (i : ℕ) → i < length basis + 1 → (i ≡ r) ⊎ (i ≡ r → ⊥)
               → IsRow (length basis + 1) limit (λ k. cond (moved_with (has_moved moved) r i) (t.entry i (length columns + k))
-              (b.entry i (length columns + k))) (whole_row_at now i).numbers (whole_row_at now i).bottom
+              (b.entry i (length columns + k))) (whole_row_at now i).numbers (whole_row_at now i).denominator
           row_by_cases p b t s i l (inl w) = subst (λ (x : ℕ). IsRow (length basis + 1) limit
               (λ k. cond (moved_with (has_moved moved) r x) (t.entry x (length columns + k)) (b.entry x (length columns + k)))
-              (whole_row_at now x).numbers (whole_row_at now x).bottom) (sym w)
+              (whole_row_at now x).numbers (whole_row_at now x).denominator) (sym w)
               (subst (λ (c : Bool). IsRow (length basis + 1) limit (λ k. cond (cond c true (has_moved moved r))
               (t.entry r (length columns + k)) (b.entry r (length columns + k))) (whole_row_at now r).numbers
-              (whole_row_at now r).bottom) (sym (eq-eqb r r refl))
+              (whole_row_at now r).denominator) (sym (eq-eqb r r refl))
               ((brought e).own old r (λ q f. refl) row e refl p b t s))
           row_by_cases p b t s i l (inr d) = subst (λ (c : Bool). IsRow (length basis + 1) limit
               (λ k. cond (cond c true (has_moved moved i)) (t.entry i (length columns + k)) (b.entry i (length columns + k)))
-              (whole_row_at now i).numbers (whole_row_at now i).bottom) (sym (ne_eqb i r d))
+              (whole_row_at now i).numbers (whole_row_at now i).denominator) (sym (ne_eqb i r d))
               (subst (λ (w : WholeRowView). IsRow (length basis + 1) limit (λ k. cond (has_moved moved i) (t.entry i (length columns + k))
-              (b.entry i (length columns + k))) w.numbers w.bottom) (sym ((brought e).others i d)) (s.shows.row i l))
+              (b.entry i (length columns + k))) w.numbers w.denominator) (sym ((brought e).others i d)) (s.shows.row i l))
 
   module _ (c : ℕ) (enters : c < length columns) (even : length moved ≡ length old) (now : List WholeRowView)
       (w : AreReady columns limit old basis moved r now) (entries : List ℤ)

@@ -35,19 +35,19 @@ no_multiple : (rows : List WholeRowView) (moved : List Bool) → IsCommonMultipl
 no_multiple rows moved = record { some = omega arith; low = omega arith; each = λ q l e. absurd (omega (arith, l)) }
 
 moved_multiple : (rows : List WholeRowView) (moved : List Bool) (q multiple new : ℕ) → IsCommonMultiple rows moved q multiple → 0 < new
-    → new < 2 ^ 63 → multiple ∣ new → (whole_row_at rows q).bottom ∣ new
+    → new < 2 ^ 63 → multiple ∣ new → (whole_row_at rows q).denominator ∣ new
     → IsCommonMultiple rows moved (q + 1) new
 moved_multiple rows moved q multiple new h some low old own = record { some = some; low = low; each = λ k l e. by_cases k l e (cases_eq k q) }
   where
-    by_cases : (k : ℕ) → k < q + 1 → has_moved moved k ≡ true → (k ≡ q) ⊎ (k ≡ q → ⊥) → (whole_row_at rows k).bottom ∣ new
-    by_cases k l e (inl f) = subst (λ (x : ℕ). (whole_row_at rows x).bottom ∣ new) (sym f) own
-    by_cases k l e (inr d) = dvd_trans (whole_row_at rows k).bottom (h.each k (omega (arith, l, d)) e) old
+    by_cases : (k : ℕ) → k < q + 1 → has_moved moved k ≡ true → (k ≡ q) ⊎ (k ≡ q → ⊥) → (whole_row_at rows k).denominator ∣ new
+    by_cases k l e (inl f) = subst (λ (x : ℕ). (whole_row_at rows x).denominator ∣ new) (sym f) own
+    by_cases k l e (inr d) = dvd_trans (whole_row_at rows k).denominator (h.each k (omega (arith, l, d)) e) old
 
 still_multiple : (rows : List WholeRowView) (moved : List Bool) (q multiple : ℕ) → has_moved moved q ≡ false
     → IsCommonMultiple rows moved q multiple → IsCommonMultiple rows moved (q + 1) multiple
 still_multiple rows moved q multiple f h = record { some = h.some; low = h.low; each = λ k l e. by_cases k l e (cases_eq k q) }
   where
-    by_cases : (k : ℕ) → k < q + 1 → has_moved moved k ≡ true → (k ≡ q) ⊎ (k ≡ q → ⊥) → (whole_row_at rows k).bottom ∣ multiple
+    by_cases : (k : ℕ) → k < q + 1 → has_moved moved k ≡ true → (k ≡ q) ⊎ (k ≡ q → ⊥) → (whole_row_at rows k).denominator ∣ multiple
     by_cases k l e (inl g) = absurd (true≢false (sym e ∙ ap (has_moved moved) g ∙ f))
     by_cases k l e (inr d) = h.each k (omega (arith, l, d)) e
 
@@ -74,11 +74,11 @@ moved_shares norm rows moved share q bound most next f m g h = λ y k.
     let w = mul-le (unsigned_abs (y q)) (share q) (norm * most) (share q) (k q (omega arith) f most m) (omega arith) in omega (arith, b, w, g)))
 
 -- the share in a multiple new of multiple is the share in multiple, times new / multiple
-share_grows : (multiple new bottom : ℕ) → bottom ∣ multiple → multiple ∣ new → new / bottom ≡ new / multiple * (multiple / bottom)
-share_grows multiple new bottom d e = sym (ap (λ x. x / bottom) (div-mul_cancel multiple e)) ∙ mul-div_assoc bottom (new / multiple) d
+share_grows : (multiple new denominator : ℕ) → denominator ∣ multiple → multiple ∣ new → new / denominator ≡ new / multiple * (multiple / denominator)
+share_grows multiple new denominator d e = sym (ap (λ x. x / denominator) (div-mul_cancel multiple e)) ∙ mul-div_assoc denominator (new / multiple) d
 
 sum_grows : (rows : List WholeRowView) (moved : List Bool) (most : ℕ → ℕ) (multiple new k : ℕ) → multiple ∣ new
-    → ((q : ℕ) → q < k → has_moved moved q ≡ true → (whole_row_at rows q).bottom ∣ multiple)
+    → ((q : ℕ) → q < k → has_moved moved q ≡ true → (whole_row_at rows q).denominator ∣ multiple)
     → share_sum (has_moved moved) most (share_of new rows) k ≡ new / multiple * share_sum (has_moved moved) most (share_of multiple rows) k
 sum_grows rows moved most multiple new zero e d = nothing (new / multiple)
   where
@@ -86,7 +86,7 @@ sum_grows rows moved most multiple new zero e d = nothing (new / multiple)
     nothing f = omega arith
 sum_grows rows moved most multiple new (suc k) e d =
     ap (λ x. cond (has_moved moved k) (most k * share_of new rows k) 0 + x) (sum_grows rows moved most multiple new k e (λ q l. d q (omega (arith, l))))
-    ∙ by_move (has_moved moved k) (λ f. share_grows multiple new (whole_row_at rows k).bottom (d k (omega arith) f) e)
+    ∙ by_move (has_moved moved k) (λ f. share_grows multiple new (whole_row_at rows k).denominator (d k (omega arith) f) e)
   where
     by_move : (b : Bool) → (b ≡ true → share_of new rows k ≡ new / multiple * share_of multiple rows k)
         → cond b (most k * share_of new rows k) 0 + new / multiple * share_sum (has_moved moved) most (share_of multiple rows) k
@@ -129,7 +129,7 @@ same_shares norm rows moved multiple bound q f h =
 pub added_shares : (norm : ℕ) (rows : List WholeRowView) (moved : List Bool) (q multiple bound most entry new_multiple new_bound : ℕ)
     → has_moved moved q ≡ true → AreAtMost (whole_row_at rows q).numbers most
     → entry ≡ norm * most → AreShares norm rows moved q multiple bound
-    → AddsShare multiple bound (whole_row_at rows q).bottom entry new_multiple new_bound
+    → AddsShare multiple bound (whole_row_at rows q).denominator entry new_multiple new_bound
     → AreShares norm rows moved (q + 1) new_multiple new_bound
 added_shares norm rows moved q multiple bound most entry new_multiple new_bound f m g h a = record {
   common = moved_multiple rows moved q multiple new_multiple h.common a.some a.low a.old a.own;
@@ -139,36 +139,37 @@ added_shares norm rows moved q multiple bound most entry new_multiple new_bound 
 }
 
 -- a denominator that divides the multiple: this stays
-pub added_in_place : (multiple bound bottom entry share new_multiple new_bound : ℕ) → 0 < multiple → multiple < 2 ^ 63 → bottom ∣ multiple
-    → share ≡ multiple / bottom
-    → (new_multiple ≡ multiple) × (new_bound ≡ bound + entry * share) → AddsShare multiple bound bottom entry new_multiple new_bound
-added_in_place multiple bound bottom entry share new_multiple new_bound some low d e h =
-    subst (λ (x : ℕ). AddsShare multiple bound bottom entry x new_bound) (sym h.0) record {
+pub added_in_place : (multiple bound denominator entry share new_multiple new_bound : ℕ) → 0 < multiple → multiple < 2 ^ 63 → denominator ∣ multiple
+    → share ≡ multiple / denominator
+    → (new_multiple ≡ multiple) × (new_bound ≡ bound + entry * share) → AddsShare multiple bound denominator entry new_multiple new_bound
+added_in_place multiple bound denominator entry share new_multiple new_bound some low d e h =
+    subst (λ (x : ℕ). AddsShare multiple bound denominator entry x new_bound) (sym h.0) record {
       some = some;
       low = low;
       old = dvd_refl multiple;
       own = d;
-      bound_is = h.1 ∙ ap (λ x. bound + entry * x) e ∙ ap (λ x. x + entry * (multiple / bottom)) (once bound ∙ ap (λ x. bound * x) (sym (div_self some)));
+      bound_is = h.1 ∙ ap (λ x. bound + entry * x) e ∙ ap (λ x. x + entry * (multiple / denominator)) (once bound ∙ ap (λ x. bound * x) (sym (div_self some)));
     }
   where
     once : (x : ℕ) → x ≡ x * 1
     once x = omega arith
 
 -- and one that doesn't: the least common multiple
-pub added_over_both : (multiple bound bottom entry divisor wider grown new_multiple new_bound : ℕ) → 0 < multiple → 0 < bottom → divisor ≡ gcd multiple bottom
-    → (wider < 2 ^ 63) × (wider ≡ multiple * (bottom / divisor)) × (grown ≡ bound * (bottom / divisor))
-    → (new_multiple ≡ wider) × (new_bound ≡ grown + entry * (wider / bottom))
-    → AddsShare multiple bound bottom entry new_multiple new_bound
-added_over_both multiple bound bottom entry divisor wider grown new_multiple new_bound some own_some g w h =
-    let q : wider ≡ lcm multiple bottom = w.1 ∙ ap (λ x. multiple * (bottom / x)) g ∙ lcm-over multiple bottom in
-    let l = lcm_is multiple bottom in
-    let f : wider / multiple ≡ bottom / divisor = ap (λ x. x / multiple) w.1 ∙ mul-div_cancel_left (bottom / divisor) some in
-    subst (λ (x : ℕ). AddsShare multiple bound bottom entry x new_bound) (sym h.0) record {
-      some = subst (λ (x : ℕ). 0 < x) (sym q) (lcm-pos multiple bottom some own_some);
+pub added_over_both : (multiple bound denominator entry divisor wider grown new_multiple new_bound : ℕ)
+    → 0 < multiple → 0 < denominator → divisor ≡ gcd multiple denominator
+    → (wider < 2 ^ 63) × (wider ≡ multiple * (denominator / divisor)) × (grown ≡ bound * (denominator / divisor))
+    → (new_multiple ≡ wider) × (new_bound ≡ grown + entry * (wider / denominator))
+    → AddsShare multiple bound denominator entry new_multiple new_bound
+added_over_both multiple bound denominator entry divisor wider grown new_multiple new_bound some own_some g w h =
+    let q : wider ≡ lcm multiple denominator = w.1 ∙ ap (λ x. multiple * (denominator / x)) g ∙ lcm-over multiple denominator in
+    let l = lcm_is multiple denominator in
+    let f : wider / multiple ≡ denominator / divisor = ap (λ x. x / multiple) w.1 ∙ mul-div_cancel_left (denominator / divisor) some in
+    subst (λ (x : ℕ). AddsShare multiple bound denominator entry x new_bound) (sym h.0) record {
+      some = subst (λ (x : ℕ). 0 < x) (sym q) (lcm-pos multiple denominator some own_some);
       low = w.0;
       old = subst (λ (x : ℕ). multiple ∣ x) (sym q) l.0;
-      own = subst (λ (x : ℕ). bottom ∣ x) (sym q) l.1;
-      bound_is = h.1 ∙ ap (λ x. x + entry * (wider / bottom)) (w.2 ∙ ap (λ x. bound * x) (sym f));
+      own = subst (λ (x : ℕ). denominator ∣ x) (sym q) l.1;
+      bound_is = h.1 ∙ ap (λ x. x + entry * (wider / denominator)) (w.2 ∙ ap (λ x. bound * x) (sym f));
     }
 
 pub column_more : (columns : List Terms) (rows : List WholeRowView) (basis : List ℕ) (moved : List Bool) (entries : List ℤ) (multiple c q : ℕ) (now new : Terms)

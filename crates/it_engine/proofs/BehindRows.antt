@@ -98,22 +98,22 @@ module _ (p : FeasibilityProblem Rational) (b t : SimplexTable Rational) (column
 
   -- the row shows what is left after the first q rows
   abbrev pub ShowsAfter : ℕ → WholeRowView → Type 0
-  ShowsAfter q now = IsRow (m + 1) limit (λ k. entry_after q (n + k)) now.numbers now.bottom
+  ShowsAfter q now = IsRow (m + 1) limit (λ k. entry_after q (n + k)) now.numbers now.denominator
 
   pub none_taken : ShowsAfter 0 (whole_row_at rows r)
-  none_taken = subst (λ (f : ℕ → Rational). IsRow (m + 1) limit f (whole_row_at rows r).numbers (whole_row_at rows r).bottom)
+  none_taken = subst (λ (f : ℕ → Rational). IsRow (m + 1) limit f (whole_row_at rows r).numbers (whole_row_at rows r).denominator)
       (same_functions (λ k. base_entry k (moved r) stays)) (s.shows.row r (omega (arith, row)))
     where
       base_entry : (k : ℕ) (d : Bool) → d ≡ false → cond d (t.entry r (n + k)) (b.entry r (n + k)) ≡ entry_after 0 (n + k)
       base_entry k d e = ap (λ c. cond c (t.entry r (n + k)) (b.entry r (n + k))) e ∙ ring ring_ℚ (b.entry r (n + k) ∷ []) (v 0) (plus (v 0) (minus nil)) refl
 
   pub still_taken : (q : ℕ) (now : WholeRowView) → moved q ≡ false → ShowsAfter q now → ShowsAfter (suc q) now
-  still_taken q now e h = subst (λ (f : ℕ → Rational). IsRow (m + 1) limit f now.numbers now.bottom) (same_functions (λ k. sym (still_step q (n + k) e))) h
+  still_taken q now e h = subst (λ (f : ℕ → Rational). IsRow (m + 1) limit f now.numbers now.denominator) (same_functions (λ k. sym (still_step q (n + k) e))) h
 
   pub moved_taken : (q : ℕ) (now new : WholeRowView) → q < m → moved q ≡ true → ShowsAfter q now
       → IsWholeRowReduced (m + 1) limit now (whole_row_at rows q) (value (slice_index_or columns (slice_index_or basis q 0) [])
-      (number_at now.numbers)) (pos (whole_row_at rows q).bottom) new → ShowsAfter (suc q) new
-  moved_taken q now new l e h a = subst (λ (f : ℕ → Rational). IsRow (m + 1) limit f new.numbers new.bottom)
+      (number_at now.numbers)) (pos (whole_row_at rows q).denominator) new → ShowsAfter (suc q) new
+  moved_taken q now new l e h a = subst (λ (f : ℕ → Rational). IsRow (m + 1) limit f new.numbers new.denominator)
       (same_functions (λ k. ap (λ y. difference ring_ℚ (entry_after q (n + k)) (Q.times (t.entry q (n + k)) y))
       (by_one (b.entry r (t.basis q))) ∙ sym (moved_step q (n + k) e)))
       (a (λ k. entry_after q (n + k)) (λ k. t.entry q (n + k)) (b.entry r (t.basis q)) (Q.integer (pos 1)) h own_row entry_is one_is)
@@ -121,8 +121,8 @@ module _ (p : FeasibilityProblem Rational) (b t : SimplexTable Rational) (column
       own : WholeRowView
       own = whole_row_at rows q
 
-      own_row : IsRow (m + 1) limit (λ k. t.entry q (n + k)) own.numbers own.bottom
-      own_row = subst (λ (d : Bool). IsRow (m + 1) limit (λ k. cond d (t.entry q (n + k)) (b.entry q (n + k))) own.numbers own.bottom) e
+      own_row : IsRow (m + 1) limit (λ k. t.entry q (n + k)) own.numbers own.denominator
+      own_row = subst (λ (d : Bool). IsRow (m + 1) limit (λ k. cond d (t.entry q (n + k)) (b.entry q (n + k))) own.numbers own.denominator) e
           (s.shows.row q (omega (arith, l)))
 
       inverse_of_one : Q.inverse (Q.integer (pos 1)) ≡ Q.integer (pos 1)
@@ -131,8 +131,8 @@ module _ (p : FeasibilityProblem Rational) (b t : SimplexTable Rational) (column
       by_one : (x : Rational) → Q.times x (Q.inverse (Q.integer (pos 1))) ≡ x
       by_one x = ap (Q.times x) inverse_of_one ∙ ring_ℚ.mul_comm x (Q.integer (pos 1)) ∙ ring_ℚ.unit-mul x
 
-      one_is : IsRatio (Q.integer (pos 1)) (pos own.bottom) own.bottom
-      one_is = one_over own.bottom
+      one_is : IsRatio (Q.integer (pos 1)) (pos own.denominator) own.denominator
+      one_is = one_over own.denominator
         where
           one_over : (d : ℕ) → IsRatio (Q.integer (pos 1)) (pos d) d
           one_over d = let z : pos 1 *ℤ pos d ≡ pos d = omega (arith, ints) in let k : 1 * d ≡ d = omega arith in
@@ -142,16 +142,16 @@ module _ (p : FeasibilityProblem Rational) (b t : SimplexTable Rational) (column
       basic : t.basis q < n
       basic = s.entered q l e
 
-      entry_is : IsRatio (b.entry r (t.basis q)) (value (slice_index_or columns (slice_index_or basis q 0) []) (number_at now.numbers)) now.bottom
-      entry_is = subst (λ (j : ℕ). IsRatio (b.entry r (t.basis q)) (value (slice_index_or columns j []) (number_at now.numbers)) now.bottom)
+      entry_is : IsRatio (b.entry r (t.basis q)) (value (slice_index_or columns (slice_index_or basis q 0) []) (number_at now.numbers)) now.denominator
+      entry_is = subst (λ (j : ℕ). IsRatio (b.entry r (t.basis q)) (value (slice_index_or columns j []) (number_at now.numbers)) now.denominator)
           (s.shows.basis_is q l)
           (let c = s.columns_are.column (t.basis q) basic in
-          subst (λ (x : Rational). IsRatio x (value (slice_index_or columns (t.basis q) []) (number_at now.numbers)) now.bottom)
+          subst (λ (x : Rational). IsRatio x (value (slice_index_or columns (t.basis q) []) (number_at now.numbers)) now.denominator)
           (sym (c.value_is (λ k. entry_after q (n + k))) ∙ sym (after_combines q (omega (arith, l)) (t.basis q)) ∙ entry_stays q l)
           (value_named (slice_index_or columns (t.basis q) []) m (λ k. entry_after q (n + k))
-          (number_at now.numbers) now.bottom h.some c.within (λ k g. h.named k (omega (arith, g)))))
+          (number_at now.numbers) now.denominator h.some c.within (λ k g. h.named k (omega (arith, g)))))
 
   -- after all rows it is up to date
-  pub all_taken : (now : WholeRowView) → ShowsAfter m now → IsRow (m + 1) limit (λ k. t.entry r (n + k)) now.numbers now.bottom
-  all_taken now h = subst (λ (f : ℕ → Rational). IsRow (m + 1) limit f now.numbers now.bottom)
+  pub all_taken : (now : WholeRowView) → ShowsAfter m now → IsRow (m + 1) limit (λ k. t.entry r (n + k)) now.numbers now.denominator
+  all_taken now h = subst (λ (f : ℕ → Rational). IsRow (m + 1) limit f now.numbers now.denominator)
       (same_functions (λ k. sym (row_behind field_ℚ m n p b t s.behind.base s.behind.holds moved s.behind.same r (n + k) row stays))) h

@@ -34,7 +34,7 @@ module _ (columns : List Terms) (limit : ℕ) (rows : List WholeRowView) (basis 
       subst (λ (x : ℕ). R.ShowsAfter p b t columns limit whole basis (has_moved moved) s r l e x new) next
       (R.moved_taken p b t columns limit whole basis (has_moved moved) s r l e q now new k g (h whole r a l e f p b t s)
       (subst (λ (own : WholeRowView). IsWholeRowReduced (length basis + 1) limit now own
-      (value (slice_index_or columns (slice_index_or basis q 0) []) (number_at now.numbers)) (pos own.bottom) new) (sym (a q g)) m))
+      (value (slice_index_or columns (slice_index_or basis q 0) []) (number_at now.numbers)) (pos own.denominator) new) (sym (a q g)) m))
 
   -- a row that didn't move subtracts nothing
   pub still_off : (old now : WholeRowView) (q : ℕ) → has_moved moved q ≡ false → IsTakenOff columns limit rows basis moved old q now
@@ -55,9 +55,9 @@ module _ (columns : List Terms) (limit : ℕ) (rows : List WholeRowView) (basis 
   less_by_row false q old new terms et el u = tt
   less_by_row true q old new terms et el u =
       subst (λ (w : ℕ). IsWholeRowReduced w limit old (whole_row_at rows q)
-      (value (slice_index_or columns (slice_index_or basis q 0) []) (number_at old.numbers)) (pos (whole_row_at rows q).bottom) new) el
+      (value (slice_index_or columns (slice_index_or basis q 0) []) (number_at old.numbers)) (pos (whole_row_at rows q).denominator) new) el
       (subst (λ (ts : Terms). IsWholeRowReduced (length (whole_row_at rows q).numbers) limit old (whole_row_at rows q)
-      (value ts (number_at old.numbers)) (pos (whole_row_at rows q).bottom) new) et u.less)
+      (value ts (number_at old.numbers)) (pos (whole_row_at rows q).denominator) new) et u.less)
 
   pub none_brought : AreUsable (length rows) limit rows → AreBrought columns limit rows basis moved 0 rows
   none_brought u = record { same_length = refl; kept = λ q e. refl; rest = λ i l. refl; done = λ i l e. absurd (omega (arith, l)); usable = u }
@@ -105,16 +105,16 @@ module _ (columns : List Terms) (limit : ℕ) (rows : List WholeRowView) (basis 
   put_back false r dest old new l f e h u = tt
   put_back true r dest old new l f e h u = record {
     same_length = length-set (slice_set rows r dest) r new ∙ length-set rows r dest;
-    others = λ i n. get_or-set_other (slice_set rows r dest) r i new record { numbers = []; bottom = 1 } n
-        ∙ get_or-set_other rows r i dest record { numbers = []; bottom = 1 } n;
+    others = λ i n. get_or-set_other (slice_set rows r dest) r i new record { numbers = []; denominator = 1 } n
+        ∙ get_or-set_other rows r i dest record { numbers = []; denominator = 1 } n;
     own = λ whole k a m g w. subst (IsUpToDate columns limit whole basis moved k) (sym here)
-        (h whole k (λ q v. a q v ∙ sym (get_or-set_other rows r q dest record { numbers = []; bottom = 1 }
+        (h whole k (λ q v. a q v ∙ sym (get_or-set_other rows r q dest record { numbers = []; denominator = 1 }
         (λ x. true≢false (sym v ∙ ap (has_moved moved) x ∙ f)))) m g (w ∙ sym e));
     usable = subst (IsUsable (length rows) limit) (sym here) (subst (λ (x : ℕ). IsUsable x limit new) (length-set rows r dest) u);
   }
     where
       here : whole_row_at (slice_set (slice_set rows r dest) r new) r ≡ new
-      here = get_or-set_same (slice_set rows r dest) r new record { numbers = []; bottom = 1 } (omega (arith, l, length-set rows r dest))
+      here = get_or-set_same (slice_set rows r dest) r new record { numbers = []; denominator = 1 } (omega (arith, l, length-set rows r dest))
 
   pub one_brought : (now new : List WholeRowView) (k : ℕ) → k < length basis
       → (has_moved moved k ≡ false → IsRowBrought columns limit now basis moved k new) → (has_moved moved k ≡ true → new ≡ now)

@@ -57,32 +57,32 @@ module _ (p : FeasibilityProblem Rational) (b t : SimplexTable Rational) (column
       (entry_null : (i : ℕ) → i < m + 1 → moved_with moved r i ≡ false → entry i ≡ pos 0)
       (new : List WholeRowView) (pivoted : AreWholeRowsPivoted (m + 1) limit now entry r new) where
     now_moved : (i : ℕ) → i < m + 1 → moved_with moved r i ≡ true
-        → IsRow (m + 1) limit (λ k. t.entry i (n + k)) (whole_row_at now i).numbers (whole_row_at now i).bottom
+        → IsRow (m + 1) limit (λ k. t.entry i (n + k)) (whole_row_at now i).numbers (whole_row_at now i).denominator
     now_moved i l e = subst (λ (d : Bool). IsRow (m + 1) limit (λ k. cond d (t.entry i (n + k)) (b.entry i (n + k)))
-        (whole_row_at now i).numbers (whole_row_at now i).bottom) e (shown.row i l)
+        (whole_row_at now i).numbers (whole_row_at now i).denominator) e (shown.row i l)
 
     now_behind : (i : ℕ) → i < m + 1 → moved_with moved r i ≡ false
-        → IsRow (m + 1) limit (λ k. b.entry i (n + k)) (whole_row_at now i).numbers (whole_row_at now i).bottom
+        → IsRow (m + 1) limit (λ k. b.entry i (n + k)) (whole_row_at now i).numbers (whole_row_at now i).denominator
     now_behind i l e = subst (λ (d : Bool). IsRow (m + 1) limit (λ k. cond d (t.entry i (n + k)) (b.entry i (n + k)))
-        (whole_row_at now i).numbers (whole_row_at now i).bottom) e (shown.row i l)
+        (whole_row_at now i).numbers (whole_row_at now i).denominator) e (shown.row i l)
 
-    entry_named : (i : ℕ) → i < m + 1 → moved_with moved r i ≡ true → IsRatio (t.entry i c) (entry i) (whole_row_at now i).bottom
-    entry_named i l e = subst (λ (z : ℤ). IsRatio (t.entry i c) z (whole_row_at now i).bottom) (sym (entry_is i l e))
+    entry_named : (i : ℕ) → i < m + 1 → moved_with moved r i ≡ true → IsRatio (t.entry i c) (entry i) (whole_row_at now i).denominator
+    entry_named i l e = subst (λ (z : ℤ). IsRatio (t.entry i c) z (whole_row_at now i).denominator) (sym (entry_is i l e))
         (let k = s.columns_are.column c enters in let w = now_moved i l e in
         subst (λ (q : Rational). IsRatio q (value (slice_index_or columns c []) (number_at (whole_row_at now i).numbers))
-        (whole_row_at now i).bottom) (sym (s.behind.holds.combines i c (omega (arith, l)) ∙ k.value_is (λ k. t.entry i (n + k))))
+        (whole_row_at now i).denominator) (sym (s.behind.holds.combines i c (omega (arith, l)) ∙ k.value_is (λ k. t.entry i (n + k))))
         (value_named (slice_index_or columns c []) m (λ k. t.entry i (n + k)) (number_at (whole_row_at now i).numbers)
-        (whole_row_at now i).bottom w.some k.within (λ k g. w.named k (omega (arith, g)))))
+        (whole_row_at now i).denominator w.some k.within (λ k g. w.named k (omega (arith, g)))))
 
     own_moved : moved_with moved r r ≡ true
     own_moved = ap (λ d. cond d true (moved r)) (eq-eqb r r refl)
 
-    own_row : IsRow (m + 1) limit (λ k. t.entry r (n + k)) (whole_row_at now r).numbers (whole_row_at now r).bottom
+    own_row : IsRow (m + 1) limit (λ k. t.entry r (n + k)) (whole_row_at now r).numbers (whole_row_at now r).denominator
     own_row = now_moved r (omega (arith, row)) own_moved
 
     -- row i shows these entries after the step
     abbrev Shows : ℕ → (ℕ → Rational) → Type 0
-    Shows i f = IsRow (m + 1) limit f (whole_row_at new i).numbers (whole_row_at new i).bottom
+    Shows i f = IsRow (m + 1) limit f (whole_row_at new i).numbers (whole_row_at new i).denominator
 
     row_shown : (i : ℕ) → i < m + 1 → Shows i (λ k. cond (moved_with moved r i) ((pivot rationals t r c).entry i (n + k)) (b.entry i (n + k)))
     row_shown i l = by_cases (cases_eq i r)
@@ -94,8 +94,8 @@ module _ (p : FeasibilityProblem Rational) (b t : SimplexTable Rational) (column
         by_move apart false e = subst (Shows i) (same_functions (λ k. nothing_taken (b.entry i (n + k)) (t.entry r (n + k)) (Q.inverse (t.entry r c))))
             ((pivoted.others i (omega (arith, l, shown.rows_are)) apart).less (λ k. b.entry i (n + k)) (λ k. t.entry r (n + k))
             (Q.integer (pos 0)) (t.entry r c) (now_behind i l e) own_row
-            (subst (λ (z : ℤ). IsRatio (Q.integer (pos 0)) z (whole_row_at now i).bottom) (sym (entry_null i l e))
-            (zero_named (whole_row_at now i).bottom)) (entry_named r (omega (arith, row)) own_moved))
+            (subst (λ (z : ℤ). IsRatio (Q.integer (pos 0)) z (whole_row_at now i).denominator) (sym (entry_null i l e))
+            (zero_named (whole_row_at now i).denominator)) (entry_named r (omega (arith, row)) own_moved))
           where
             nothing_taken : (x y z : Rational) → difference ring_ℚ x (Q.times y (Q.times (Q.integer (pos 0)) z)) ≡ x
             nothing_taken x y z = ring ring_ℚ (x ∷ y ∷ z ∷ []) (plus (v 0) (minus (times (v 1) (times nil (v 2))))) (v 0) refl

@@ -28,7 +28,7 @@ use Rattle.it_engine.specs.Loading.{IsNorm}
 use Rattle.it_vectors.specs.Sizes.{AreAtMost, IsShort}
 use Rattle.it_whole.specs.WholeRows.{WholeRowView}
 use Rattle.it_engine.specs.Tables.{IsTableOver, whole_row_at}
-use Rattle.it_engine.proofs.Generators.{table_is_over, number, bottom, price_named, value_bounded}
+use Rattle.it_engine.proofs.Generators.{table_is_over, number, denominator, price_named, value_bounded}
 use Rattle.it_engine.proofs.NoWide as W
 use Rattle.it_engine.proofs.NamedBehind.{difference_is_named, sum_is_bounded}
 use Rattle.it_whole.proofs.Names.{sign_named, minus_names, null_named, number_null}
@@ -57,25 +57,27 @@ module _ (p : FeasibilityProblem Rational) (b t : SimplexTable Rational) (column
   abbrev pub number_now : ℕ → ℕ → ℤ
   number_now = number m n limit s.norm p mixed columns rows basis mixed_combines s.shows s.columns_are s.fit s.some
 
-  abbrev pub bottom_now : ℕ → ℕ
-  bottom_now = bottom m n limit s.norm p mixed columns rows basis mixed_combines s.shows s.columns_are s.fit s.some
+  abbrev pub denominator_now : ℕ → ℕ
+  denominator_now = denominator m n limit s.norm p mixed columns rows basis mixed_combines s.shows s.columns_are s.fit s.some
 
-  pub mixed_is_over : IsTableOver m n mixed number_now bottom_now
+  pub mixed_is_over : IsTableOver m n mixed number_now denominator_now
   mixed_is_over = table_is_over m n limit s.norm p mixed columns rows basis mixed_combines s.shows s.columns_are s.fit s.some
 
-  pub moved_named : (i j : ℕ) → i ≤ m → j ≤ n + m → moved i ≡ true → IsRatio (t.entry i j) (number_now i j) (bottom_now i)
-  moved_named i j hi hj e = subst (λ (d : Bool). IsRatio (cond d (t.entry i j) (b.entry i j)) (number_now i j) (bottom_now i)) e (mixed_is_over.named i j hi hj)
+  pub moved_named : (i j : ℕ) → i ≤ m → j ≤ n + m → moved i ≡ true → IsRatio (t.entry i j) (number_now i j) (denominator_now i)
+  moved_named i j hi hj e = subst (λ (d : Bool). IsRatio (cond d (t.entry i j) (b.entry i j)) (number_now i j) (denominator_now i))
+      e (mixed_is_over.named i j hi hj)
 
-  pub base_named : (i j : ℕ) → i ≤ m → j ≤ n + m → moved i ≡ false → IsRatio (b.entry i j) (number_now i j) (bottom_now i)
-  base_named i j hi hj e = subst (λ (d : Bool). IsRatio (cond d (t.entry i j) (b.entry i j)) (number_now i j) (bottom_now i)) e (mixed_is_over.named i j hi hj)
+  pub base_named : (i j : ℕ) → i ≤ m → j ≤ n + m → moved i ≡ false → IsRatio (b.entry i j) (number_now i j) (denominator_now i)
+  base_named i j hi hj e = subst (λ (d : Bool). IsRatio (cond d (t.entry i j) (b.entry i j)) (number_now i j) (denominator_now i))
+      e (mixed_is_over.named i j hi hj)
 
-  pub right_named : (i : ℕ) → i < m → IsRatio (t.entry i (n + m)) (number_at (whole_row_at rows i).numbers m) (bottom_now i)
+  pub right_named : (i : ℕ) → i < m → IsRatio (t.entry i (n + m)) (number_at (whole_row_at rows i).numbers m) (denominator_now i)
   right_named i hi = by_move (moved i) ((s.shows.row i (omega (arith, hi))).named m (omega arith))
     where
       by_move : (d : Bool) → IsRatio (cond d (t.entry i (n + m)) (b.entry i (n + m))) (number_at (whole_row_at rows i).numbers m)
-          (bottom_now i) → IsRatio (t.entry i (n + m)) (number_at (whole_row_at rows i).numbers m) (bottom_now i)
+          (denominator_now i) → IsRatio (t.entry i (n + m)) (number_at (whole_row_at rows i).numbers m) (denominator_now i)
       by_move true r = r
-      by_move false r = subst (λ (q : Rational). IsRatio q (number_at (whole_row_at rows i).numbers m) (bottom_now i)) (sym (s.behind.rights i hi)) r
+      by_move false r = subst (λ (q : Rational). IsRatio q (number_at (whole_row_at rows i).numbers m) (denominator_now i)) (sym (s.behind.rights i hi)) r
 
   -- a row that stays behind isn't the cost row
   pub behind_below : (i : ℕ) → i ≤ m → moved i ≡ false → i < m
@@ -100,9 +102,9 @@ module _ (p : FeasibilityProblem Rational) (b t : SimplexTable Rational) (column
     where
       cost_sign : (j : ℕ) → j < n → is_at_least_zero (t.entry m j) ≡ sign_least (value (slice_index_or columns j []) (number_at (whole_row_at rows m).numbers))
       cost_sign j l = sign_named (t.entry m j) (value (slice_index_or columns j []) (number_at (whole_row_at rows m).numbers))
-          (whole_row_at rows m).bottom (s.shows.row m (omega arith)).some
+          (whole_row_at rows m).denominator (s.shows.row m (omega arith)).some
           (subst (λ (d : Bool). IsRatio (cond d (t.entry m j) (b.entry m j))
-          (value (slice_index_or columns j []) (number_at (whole_row_at rows m).numbers)) (whole_row_at rows m).bottom) s.cost
+          (value (slice_index_or columns j []) (number_at (whole_row_at rows m).numbers)) (whole_row_at rows m).denominator) s.cost
           (price_named m n limit s.norm p mixed columns rows basis mixed_combines s.shows s.columns_are s.fit s.some m j (omega arith) l))
 
   pub stuck_behind : first_negative_cost columns (whole_row_at rows m).numbers ≡ n → IsStuck rationals m n t
@@ -111,7 +113,7 @@ module _ (p : FeasibilityProblem Rational) (b t : SimplexTable Rational) (column
   pub moves_behind : (c : ℕ) → c < n → first_negative_cost columns (whole_row_at rows m).numbers ≡ c → ¬ (IsStuck rationals m n t)
   moves_behind c h e = not_stuck_with_entering m n t c record { within = h; is = entering_behind ∙ e }
 
-  module _ (multiple : ℕ) (share : ℕ → ℕ) (whole : 0 < multiple) (e_share : (q : ℕ) → q < m → moved q ≡ true → bottom_now q * share q ≡ multiple) where
+  module _ (multiple : ℕ) (share : ℕ → ℕ) (whole : 0 < multiple) (e_share : (q : ℕ) → q < m → moved q ≡ true → denominator_now q * share q ≡ multiple) where
     -- the number of row i at column j, over its denominator times the common multiple where it stays behind
     abbrev pub behind_sum : ℕ → ℕ → ℤ
     behind_sum i j = sum_to ring_ℤ m (λ q. cond (moved q) ((number_now i (t.basis q) *ℤ number_now q j) *ℤ pos (share q)) (pos 0))
@@ -119,26 +121,26 @@ module _ (p : FeasibilityProblem Rational) (b t : SimplexTable Rational) (column
     abbrev pub true_number : ℕ → ℕ → ℤ
     true_number i j = cond (moved i) (number_now i j) (number_now i j *ℤ pos multiple +ℤ neg_ℤ (behind_sum i j))
 
-    abbrev pub true_bottom : ℕ → ℕ
-    true_bottom i = cond (moved i) (bottom_now i) (bottom_now i * multiple)
+    abbrev pub true_denominator : ℕ → ℕ
+    true_denominator i = cond (moved i) (denominator_now i) (denominator_now i * multiple)
 
-    pub true_some : (i : ℕ) → i ≤ m → 0 < true_bottom i
+    pub true_some : (i : ℕ) → i ≤ m → 0 < true_denominator i
     true_some i hi = by_move (moved i)
       where
-        by_move : (d : Bool) → 0 < cond d (bottom_now i) (bottom_now i * multiple)
+        by_move : (d : Bool) → 0 < cond d (denominator_now i) (denominator_now i * multiple)
         by_move true = mixed_is_over.some i hi
         by_move false = mul-pos (mixed_is_over.some i hi) whole
 
-    pub true_named : (i j : ℕ) → i ≤ m → j ≤ n + m → IsRatio (t.entry i j) (true_number i j) (true_bottom i)
+    pub true_named : (i j : ℕ) → i ≤ m → j ≤ n + m → IsRatio (t.entry i j) (true_number i j) (true_denominator i)
     true_named i j hi hj = by_move (moved i) refl
       where
         by_move : (d : Bool) → moved i ≡ d → IsRatio (t.entry i j) (cond d (number_now i j)
-            (number_now i j *ℤ pos multiple +ℤ neg_ℤ (behind_sum i j))) (cond d (bottom_now i) (bottom_now i * multiple))
+            (number_now i j *ℤ pos multiple +ℤ neg_ℤ (behind_sum i j))) (cond d (denominator_now i) (denominator_now i * multiple))
         by_move true e = moved_named i j hi hj e
-        by_move false e = subst (λ (q : Rational). IsRatio q (number_now i j *ℤ pos multiple +ℤ neg_ℤ (behind_sum i j)) (bottom_now i * multiple))
+        by_move false e = subst (λ (q : Rational). IsRatio q (number_now i j *ℤ pos multiple +ℤ neg_ℤ (behind_sum i j)) (denominator_now i * multiple))
             (sym (row_behind field_ℚ m n p b t s.behind.base s.behind.holds moved s.behind.same i j (behind_below i hi e) e))
-            (difference_is_named m (bottom_now i) multiple (mixed_is_over.some i hi) whole moved (λ q. b.entry i (t.basis q))
-            (λ q. t.entry q j) (λ q. number_now i (t.basis q)) (λ q. number_now q j) bottom_now share
+            (difference_is_named m (denominator_now i) multiple (mixed_is_over.some i hi) whole moved (λ q. b.entry i (t.basis q))
+            (λ q. t.entry q j) (λ q. number_now i (t.basis q)) (λ q. number_now q j) denominator_now share
             (λ q l. base_named i (t.basis q) hi (basic_within q l) e)
             (λ q l f. moved_named q j (omega (arith, l)) hj f)
             (λ q l f. mixed_is_over.some q (omega (arith, l)))
@@ -148,7 +150,7 @@ module _ (p : FeasibilityProblem Rational) (b t : SimplexTable Rational) (column
     module _ (norm most shares : ℕ) (is_norm : IsNorm columns norm)
         (base_most : (i : ℕ) → i < m → moved i ≡ false → AreAtMost (whole_row_at rows i).numbers most)
         (bounds : BoundsShares norm rows moved share m shares)
-        (low : (i : ℕ) → i < m → moved i ≡ false → bottom_now i * multiple < 2 ^ 63)
+        (low : (i : ℕ) → i < m → moved i ≡ false → denominator_now i * multiple < 2 ^ 63)
         (fits : norm * most * multiple + norm * most * shares < 2 ^ 63) where
       -- at all columns, where a bound on the row's numbers is given
       number_bounded : (i j l : ℕ) → i ≤ m → j ≤ n + m → AreAtMost (whole_row_at rows i).numbers l → unsigned_abs (number_now i j) ≤ norm * l
@@ -174,8 +176,8 @@ module _ (p : FeasibilityProblem Rational) (b t : SimplexTable Rational) (column
       behind_short i j hi hj e =
           difference_short (number_now i j *ℤ pos multiple) (behind_sum i j) (norm * most * multiple) (norm * most * shares)
           (product_at_most (number_now i j) multiple (norm * most) (number_bounded i j most (omega (arith, hi)) hj (base_most i hi e)))
-          (let b = sum_is_bounded m (bottom_now i) multiple (mixed_is_over.some i (omega (arith, hi))) whole moved
-          (λ q. b.entry i (t.basis q)) (λ q. t.entry q j) (λ q. number_now i (t.basis q)) (λ q. number_now q j) bottom_now share
+          (let b = sum_is_bounded m (denominator_now i) multiple (mixed_is_over.some i (omega (arith, hi))) whole moved
+          (λ q. b.entry i (t.basis q)) (λ q. t.entry q j) (λ q. number_now i (t.basis q)) (λ q. number_now q j) denominator_now share
           (λ q l. base_named i (t.basis q) (omega (arith, hi)) (basic_within q l) e)
           (λ q l f. moved_named q j (omega (arith, l)) hj f)
           (λ q l f. mixed_is_over.some q (omega (arith, l)))
@@ -194,7 +196,7 @@ module _ (p : FeasibilityProblem Rational) (b t : SimplexTable Rational) (column
           difference_short x y k l hx hy h = omega (arith, ints, hx, hy, h)
 
       -- all numbers of the table are short, those of the rows that stay behind too, though they aren't formed
-      pub table_is_short : IsTableOver m n t true_number true_bottom
+      pub table_is_short : IsTableOver m n t true_number true_denominator
       table_is_short = record {
         some = true_some;
         low = λ i hi. low_by_move i hi (moved i) refl;
@@ -202,7 +204,7 @@ module _ (p : FeasibilityProblem Rational) (b t : SimplexTable Rational) (column
         short = λ i j hi hj. short_by_move i j hi hj (moved i) refl;
       }
         where
-          low_by_move : (i : ℕ) → i ≤ m → (d : Bool) → moved i ≡ d → cond d (bottom_now i) (bottom_now i * multiple) < 2 ^ 63
+          low_by_move : (i : ℕ) → i ≤ m → (d : Bool) → moved i ≡ d → cond d (denominator_now i) (denominator_now i * multiple) < 2 ^ 63
           low_by_move i hi true e = mixed_is_over.low i hi
           low_by_move i hi false e = low i (behind_below i hi e) e
 
@@ -219,12 +221,12 @@ module _ (p : FeasibilityProblem Rational) (b t : SimplexTable Rational) (column
       column_enters = entering_behind ∙ column_is
 
       above_named : (i : ℕ) → i ≤ m → is_candidate rationals t c i ≡ is_above_zero (true_number i c)
-      above_named i hi = ap not (sign_named (Q.minus (t.entry i c)) (neg_ℤ (true_number i c)) (true_bottom i) (true_some i hi)
-          (minus_names (t.entry i c) (true_number i c) (true_bottom i) (true_named i c hi (omega (arith, enters)))))
+      above_named i hi = ap not (sign_named (Q.minus (t.entry i c)) (neg_ℤ (true_number i c)) (true_denominator i) (true_some i hi)
+          (minus_names (t.entry i c) (true_number i c) (true_denominator i) (true_named i c hi (omega (arith, enters)))))
 
       pub right_is_null : t.entry r (n + m) ≡ Q.integer (pos 0)
-      right_is_null = null_named (t.entry r (n + m)) (bottom_now r) (mixed_is_over.some r (omega (arith, row)))
-          (subst (λ (z : ℤ). IsRatio (t.entry r (n + m)) z (bottom_now r)) still (right_named r row))
+      right_is_null = null_named (t.entry r (n + m)) (denominator_now r) (mixed_is_over.some r (omega (arith, row)))
+          (subst (λ (z : ℤ). IsRatio (t.entry r (n + m)) z (denominator_now r)) still (right_named r row))
 
       pub row_is_candidate : is_candidate rationals t c r ≡ true
       row_is_candidate = above_named r (omega (arith, row)) ∙ above
@@ -235,7 +237,7 @@ module _ (p : FeasibilityProblem Rational) (b t : SimplexTable Rational) (column
         still = right_is_null;
         above = not-true (is_at_least_zero (Q.minus (t.entry r c))) row_is_candidate;
         first = λ i l e a. subst (λ k. k ≤ t.basis i) (sym (s.shows.basis_is r row)) (subst (λ k. slice_index_or basis r 0 ≤ k) (sym (s.shows.basis_is i l))
-            (first i l (number_null (number_at (whole_row_at rows i).numbers m) (t.entry i (n + m)) (bottom_now i) (right_named i l)
+            (first i l (number_null (number_at (whole_row_at rows i).numbers m) (t.entry i (n + m)) (denominator_now i) (right_named i l)
             (ap (λ (q : Rational). q.num) e ∙ zero_parts.0))
             (sym (above_named i (omega (arith, l))) ∙ ap not a)));
       }
@@ -249,6 +251,6 @@ module _ (p : FeasibilityProblem Rational) (b t : SimplexTable Rational) (column
       pub step_is : (P : ℕ → ℕ → Type 0) → P r c → P (leaving_row rationals m n t (entering_column rationals m n t)) (entering_column rationals m n t)
       step_is P x = subst (λ (y : ℕ). P (leaving_row rationals m n t y) y) (sym column_enters) (subst (λ (x : ℕ). P x c) (sym row_leaves) x)
 
-      pub step_fits_behind : IsTableOver m n t true_number true_bottom → StepFits m n t
-      step_fits_behind o = W.step_fits m n t true_number true_bottom o (step_is (λ r c. r < m) row) (step_is (λ r c. c < n) enters)
+      pub step_fits_behind : IsTableOver m n t true_number true_denominator → StepFits m n t
+      step_fits_behind o = W.step_fits m n t true_number true_denominator o (step_is (λ r c. r < m) row) (step_is (λ r c. c < n) enters)
           (step_is (λ r c. is_candidate rationals t c r ≡ true) row_is_candidate)

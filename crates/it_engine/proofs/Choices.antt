@@ -65,12 +65,12 @@ abbrev pub IsBestRowBelow : ℕ → ℕ → SimplexTable Rational → ℕ → �
 IsBestRowBelow m n t c i None = leaving_row_of rationals m n t c i ≡ m
 IsBestRowBelow m n t c i (Some k) = (leaving_row_of rationals m n t c i ≡ k) × (k < i) × (is_candidate rationals t c k ≡ true)
 
-module _ (m n : ℕ) (t : SimplexTable Rational) (c : ℕ) (entry right : ℕ → ℤ) (bottom basis : ℕ → ℕ)
-    (some : (i : ℕ) → i < m → 0 < bottom i) (entries : (i : ℕ) → i < m → IsRatio (t.entry i c) (entry i) (bottom i))
-    (rights : (i : ℕ) → i < m → IsRatio (t.entry i (n + m)) (right i) (bottom i)) (basis_is : (i : ℕ) → i < m → t.basis i ≡ basis i) where
+module _ (m n : ℕ) (t : SimplexTable Rational) (c : ℕ) (entry right : ℕ → ℤ) (denominator basis : ℕ → ℕ)
+    (some : (i : ℕ) → i < m → 0 < denominator i) (entries : (i : ℕ) → i < m → IsRatio (t.entry i c) (entry i) (denominator i))
+    (rights : (i : ℕ) → i < m → IsRatio (t.entry i (n + m)) (right i) (denominator i)) (basis_is : (i : ℕ) → i < m → t.basis i ≡ basis i) where
   pub candidate_is_above : (i : ℕ) → i < m → is_candidate rationals t c i ≡ is_above_zero (entry i)
-  candidate_is_above i h = ap not (sign_named (Q.minus (t.entry i c)) (neg_ℤ (entry i)) (bottom i) (some i h)
-      (minus_names (t.entry i c) (entry i) (bottom i) (entries i h)))
+  candidate_is_above i h = ap not (sign_named (Q.minus (t.entry i c)) (neg_ℤ (entry i)) (denominator i) (some i h)
+      (minus_names (t.entry i c) (entry i) (denominator i) (entries i h)))
 
   above_number : (z : ℤ) → is_above_zero z ≡ true → (p : ℕ) × (0 < p) × (z ≡ pos p)
   above_number (pos zero) e = absurd (true≢false (sym e))
@@ -78,8 +78,8 @@ module _ (m n : ℕ) (t : SimplexTable Rational) (c : ℕ) (entry right : ℕ �
   above_number (negsuc p) e = absurd (true≢false (sym e))
 
   ratio_named : (i p : ℕ) → i < m → 0 < p → entry i ≡ pos p → IsRatio (ratio rationals m n t c i) (right i) p
-  ratio_named i p h hp e = quotient_in_row (t.entry i (n + m)) (t.entry i c) (right i) p (bottom i) (some i h) hp (rights i h)
-      (subst (λ (z : ℤ). IsRatio (t.entry i c) z (bottom i)) e (entries i h))
+  ratio_named i p h hp e = quotient_in_row (t.entry i (n + m)) (t.entry i c) (right i) p (denominator i) (some i h) hp (rights i h)
+      (subst (λ (z : ℤ). IsRatio (t.entry i c) z (denominator i)) e (entries i h))
 
   precedes_is : (i k : ℕ) → i < m → k < m → is_above_zero (entry i) ≡ true → is_above_zero (entry k) ≡ true
       → precedes rationals m n t c i k ≡ comes_first (right i) (entry i) (basis i) (right k) (entry k) (basis k)

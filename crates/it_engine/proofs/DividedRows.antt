@@ -27,37 +27,37 @@ row_divided width limit g by e w p r ew hp low = record {
 }
 
 pub divided_row : (width limit : ℕ) (old new : WholeRowView) (p : ℤ) → pos 1 ≤ℤ p → unsigned_abs p < 2 ^ 63 → new.numbers ≡ old.numbers
-    → new.bottom ≡ unsigned_abs p → IsWholeRowDivided width limit old p new
+    → new.denominator ≡ unsigned_abs p → IsWholeRowDivided width limit old p new
 divided_row width limit old new (negsuc p) h k e d = absurd (omega (arith, ints))
 divided_row width limit old new (pos p) h k e d = λ g w r ew.
-    subst (λ (ns : List ℤ). IsRow width limit (λ k. Q.times (g k) (Q.inverse w)) ns new.bottom) (sym e)
+    subst (λ (ns : List ℤ). IsRow width limit (λ k. Q.times (g k) (Q.inverse w)) ns new.denominator) (sym e)
     (subst (λ (b : ℕ). IsRow width limit (λ k. Q.times (g k) (Q.inverse w)) old.numbers b) (sym d)
-    (row_divided width limit g old.numbers old.bottom w p r ew (omega (arith, ints, h)) k))
+    (row_divided width limit g old.numbers old.denominator w p r ew (omega (arith, ints, h)) k))
 
 -- the multiple of the leaving row that makes an entry 0 may also be formed with that row divided by its entry, where it has 1
 pub less_divided : (width limit : ℕ) (old own mid new : WholeRowView) (z p : ℤ) → IsWholeRowDivided width limit own p mid
-    → IsWholeRowReduced width limit old mid z (pos mid.bottom) new → IsWholeRowReduced width limit old own z p new
+    → IsWholeRowReduced width limit old mid z (pos mid.denominator) new → IsWholeRowReduced width limit old own z p new
 less_divided width limit old own mid new z p d l = λ f g x w rf rg ex ew.
     same_row (λ k. Q.plus (f k) (Q.minus (Q.times (Q.times (g k) (Q.inverse w)) (Q.times x (Q.inverse (Q.integer (pos 1)))))))
     (λ k. Q.plus (f k) (Q.minus (Q.times (g k) (Q.times x (Q.inverse w)))))
     (λ k. same_difference (f k) (g k) x (Q.inverse w))
     (l f (λ k. Q.times (g k) (Q.inverse w)) x (Q.integer (pos 1)) rf (d g w rg ew) ex
-    (one_named (Q.integer (pos 1)).num (Q.integer (pos 1)).den mid.bottom (whole_names (pos 1))))
+    (one_named (Q.integer (pos 1)).num (Q.integer (pos 1)).den mid.denominator (whole_names (pos 1))))
   where
-    same_row : (f g : ℕ → Rational) → ((k : ℕ) → f k ≡ g k) → IsRow width limit f new.numbers new.bottom → IsRow width limit g new.numbers new.bottom
+    same_row : (f g : ℕ → Rational) → ((k : ℕ) → f k ≡ g k) → IsRow width limit f new.numbers new.denominator → IsRow width limit g new.numbers new.denominator
     same_row f g e r = record {
       length_is = r.length_is;
       some = r.some;
       low = r.low;
-      named = λ k h. subst (λ (q : Rational). IsRatio q (number_at new.numbers k) new.bottom) (e k) (r.named k h);
+      named = λ k h. subst (λ (q : Rational). IsRatio q (number_at new.numbers k) new.denominator) (e k) (r.named k h);
       small = r.small;
     }
 
     one_named : (x : ℤ) (b d : ℕ) → x *ℤ pos 1 ≡ pos 1 *ℤ pos b → x *ℤ pos d ≡ pos d *ℤ pos b
-    one_named x b d e = ap (λ z. z *ℤ pos d) number_is_bottom ∙ omega (arith, zring)
+    one_named x b d e = ap (λ z. z *ℤ pos d) number_is_denominator ∙ omega (arith, zring)
       where
-        number_is_bottom : x ≡ pos b
-        number_is_bottom = omega (arith, ints, e)
+        number_is_denominator : x ≡ pos b
+        number_is_denominator = omega (arith, ints, e)
 
     inverse_one : Q.inverse (Q.integer (pos 1)) ≡ Q.integer (pos 1)
     inverse_one = same_value (Q.inverse (Q.integer (pos 1))) (Q.integer (pos 1)) (pos 1) (pos 1) 1 1 (omega arith) (omega arith)

@@ -69,15 +69,15 @@ module _ (m n limit norm : ℕ) (p : FeasibilityProblem Rational) (t : SimplexTa
   price i j = value (column_terms j) (number_at (whole_row_at rows i).numbers)
 
   -- the denominator of row i
-  abbrev pub bottom : ℕ → ℕ
-  bottom i = (whole_row_at rows i).bottom
+  abbrev pub denominator : ℕ → ℕ
+  denominator i = (whole_row_at rows i).denominator
 
-  pub price_named : (i j : ℕ) → i ≤ m → j < n → IsRatio (t.entry i j) (price i j) (bottom i)
+  pub price_named : (i j : ℕ) → i ≤ m → j < n → IsRatio (t.entry i j) (price i j) (denominator i)
   price_named i j hi hj =
       let c = cs.column j hj in
       let r = s.row i (omega (arith, hi)) in
-      subst (λ (q : Rational). IsRatio q (price i j) (bottom i)) (sym (h i j hi ∙ c.value_is (λ k. t.entry i (n + k))))
-      (value_named (column_terms j) m (λ k. t.entry i (n + k)) (number_at (whole_row_at rows i).numbers) (bottom i) r.some c.within
+      subst (λ (q : Rational). IsRatio q (price i j) (denominator i)) (sym (h i j hi ∙ c.value_is (λ k. t.entry i (n + k))))
+      (value_named (column_terms j) m (λ k. t.entry i (n + k)) (number_at (whole_row_at rows i).numbers) (denominator i) r.some c.within
       (λ k l. r.named k (omega (arith, l))))
 
   pub price_short : (i j : ℕ) → i ≤ m → j < n → IsShort (price i j)
@@ -96,7 +96,7 @@ module _ (m n limit norm : ℕ) (p : FeasibilityProblem Rational) (t : SimplexTa
   abbrev pub number : ℕ → ℕ → ℤ
   number i j = cond (ltb j n) (price i j) (number_at (whole_row_at rows i).numbers (j - n))
 
-  pub table_is_over : IsTableOver m n t number bottom
+  pub table_is_over : IsTableOver m n t number denominator
   table_is_over = record {
     some = λ i hi. (s.row i (omega (arith, hi))).some;
     low = λ i hi. (s.row i (omega (arith, hi))).low;
@@ -104,13 +104,13 @@ module _ (m n limit norm : ℕ) (p : FeasibilityProblem Rational) (t : SimplexTa
     short = λ i j hi hj. number_is_short i j hi hj (cases_lt j n);
   }
     where
-      name : (i j : ℕ) → i ≤ m → j ≤ n + m → (j < n) ⊎ (n ≤ j) → IsRatio (t.entry i j) (number i j) (bottom i)
+      name : (i j : ℕ) → i ≤ m → j ≤ n + m → (j < n) ⊎ (n ≤ j) → IsRatio (t.entry i j) (number i j) (denominator i)
       name i j hi hj (inl l) = subst (λ (b : Bool). IsRatio (t.entry i j)
-          (cond b (price i j) (number_at (whole_row_at rows i).numbers (j - n))) (bottom i)) (sym (lt-ltb j n l)) (price_named i j hi l)
+          (cond b (price i j) (number_at (whole_row_at rows i).numbers (j - n))) (denominator i)) (sym (lt-ltb j n l)) (price_named i j hi l)
       name i j hi hj (inr l) = subst (λ (b : Bool). IsRatio (t.entry i j)
-          (cond b (price i j) (number_at (whole_row_at rows i).numbers (j - n))) (bottom i)) (sym (le-ltb j n l))
+          (cond b (price i j) (number_at (whole_row_at rows i).numbers (j - n))) (denominator i)) (sym (le-ltb j n l))
           (let back : n + (j - n) ≡ j = omega (arith, l) in
-          subst (λ (k : ℕ). IsRatio (t.entry i k) (number_at (whole_row_at rows i).numbers (j - n)) (bottom i)) back
+          subst (λ (k : ℕ). IsRatio (t.entry i k) (number_at (whole_row_at rows i).numbers (j - n)) (denominator i)) back
           ((s.row i (omega (arith, hi))).named (j - n) (omega (arith, hj, l))))
 
       number_is_short : (i j : ℕ) → i ≤ m → j ≤ n + m → (j < n) ⊎ (n ≤ j) → IsShort (number i j)

@@ -45,5 +45,5 @@ pub rows_more : (coordinates : List ℕ) (target : Terms) (limit i : ℕ) (rows 
     → AreReadRows coordinates target limit i rows → AreReadRows coordinates target limit (i + 1) (rows ++ row ∷ [])
 rows_more coordinates target limit i rows row r a = (
   length_more i rows row a.0,
-  item_more (IsReadRow coordinates target limit) i rows row record { numbers = []; bottom = 1 } a.0 a.1 r,
+  item_more (IsReadRow coordinates target limit) i rows row record { numbers = []; denominator = 1 } a.0 a.1 r,
 )

@@ -89,10 +89,10 @@ module _ (columns : List Terms) (limit : ℕ) (old : List WholeRowView) (basis :
       not_done : (p : FeasibilityProblem Rational) (b u : SimplexTable Rational)
           → ShowsBehind p b u columns limit now now_basis (has_moved now_moved) → ¬ (IsDone rationals (length now_basis) (length columns) u)
       not_done p b u s d = g.not_done (number_null (right_side_of (length now_basis) now (length now_basis))
-          (u.entry (length now_basis) (length columns + length now_basis)) (whole_row_at now (length now_basis)).bottom
+          (u.entry (length now_basis) (length columns + length now_basis)) (whole_row_at now (length now_basis)).denominator
           (subst (λ (x : Bool). IsRatio (cond x (u.entry (length now_basis) (length columns + length now_basis))
           (b.entry (length now_basis) (length columns + length now_basis))) (right_side_of (length now_basis) now (length now_basis))
-          (whole_row_at now (length now_basis)).bottom) s.cost
+          (whole_row_at now (length now_basis)).denominator) s.cost
           ((s.shows.row (length now_basis) (omega arith)).named (length now_basis) (omega arith)))
           (ap (λ (q : Rational). q.num) d ∙ zero_parts.0))
 
@@ -122,7 +122,7 @@ shows_base p t columns limit rows basis moved s none cost = record {
   where
     row_by_move : (i : ℕ) → i < length basis + 1 → (d : Bool)
         → IsRow (length basis + 1) limit (λ k. cond d (t.entry i (length columns + k)) (t.entry i (length columns + k)))
-        (whole_row_at rows i).numbers (whole_row_at rows i).bottom
+        (whole_row_at rows i).numbers (whole_row_at rows i).denominator
     row_by_move i l true = s.shows.row i l
     row_by_move i l false = s.shows.row i l
 
@@ -147,11 +147,11 @@ shows_brought p b t columns limit rows basis moved new s a = record {
 }
   where
     row_by_move : (i : ℕ) → i < length basis + 1 → (d : Bool) → has_moved moved i ≡ d
-        → IsRow (length basis + 1) limit (λ k. t.entry i (length columns + k)) (whole_row_at new i).numbers (whole_row_at new i).bottom
+        → IsRow (length basis + 1) limit (λ k. t.entry i (length columns + k)) (whole_row_at new i).numbers (whole_row_at new i).denominator
     row_by_move i l true e = subst (λ (w : WholeRowView). IsRow (length basis + 1) limit
-        (λ k. t.entry i (length columns + k)) w.numbers w.bottom) (sym (a.kept i e))
+        (λ k. t.entry i (length columns + k)) w.numbers w.denominator) (sym (a.kept i e))
         (subst (λ (d : Bool). IsRow (length basis + 1) limit (λ k. cond d (t.entry i (length columns + k)) (b.entry i (length columns + k)))
-        (whole_row_at rows i).numbers (whole_row_at rows i).bottom) e (s.shows.row i l))
+        (whole_row_at rows i).numbers (whole_row_at rows i).denominator) e (s.shows.row i l))
     row_by_move i l false e = a.done i (T.behind_below p b t columns limit rows basis (has_moved moved) s i (omega (arith, l)) e) e p b t s
 
 pub steps_made : (columns : List Terms) (limit : ℕ) (old : List WholeRowView) (basis : List ℕ) (moved : List Bool) (k : ℕ)
@@ -178,4 +178,4 @@ pub bounds_kept : (columns : List Terms) (limit : ℕ) (old : List WholeRowView)
 bounds_kept columns limit old basis moved c r most low height new g here all h = λ i l f.
     let d : i ≢ r = λ e. true≢false (sym (get_or-set_same moved r true false here) ∙ ap (has_moved (slice_set moved r true)) (sym e) ∙ f) in
     let still : has_moved moved i ≡ false = sym (get_or-set_other moved r i true false d) ∙ f in
-    subst (λ (w : WholeRowView). AreAtMost w.numbers most × (w.bottom ≤ low)) (sym (g.kept i (omega (arith, l, all)) d still)) (h i l still)
+    subst (λ (w : WholeRowView). AreAtMost w.numbers most × (w.denominator ≤ low)) (sym (g.kept i (omega (arith, l, all)) d still)) (h i l still)

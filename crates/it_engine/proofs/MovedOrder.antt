@@ -1,6 +1,5 @@
 -- The list of the rows that moved, and their basic columns.
-use Rattle.std.proofs.Common.{◌≡◌, ◌≢◌, ◌⊎◌, inl, inr, ℕ, zero, suc, ◌+◌, ◌<◌, ◌≤◌, Bool, true, false, if◌then◌else◌, List, length, slice_index_or, slice_set, refl, sym, ap, subst, ◌∙◌, arith}
-use Rattle.std.specs.Bool.{OnTrue}
+use Rattle.std.proofs.Common.{◌≡◌, ◌≢◌, ◌⊎◌, inl, inr, ℕ, zero, suc, ◌+◌, ◌<◌, ◌≤◌, Bool, true, false, List, length, slice_index_or, slice_set, refl, sym, ap, subst, ◌∙◌, arith}
 use Rattle.std.specs.List.{insert}
 use Rattle.std.proofs.lemmas.Bool.{cases_lt, cases_eq}
 use Rattle.std.proofs.lemmas.List.{get_or_default, get_or_past, length-set, get_or-set_same, get_or-set_other}
@@ -237,12 +236,10 @@ module _ (moved : List Bool) (height r place : ℕ) (order : List ℕ) (row : r 
         by_order k w (inl m) = gap_before k m
         by_order k w (inr m) = by_equality k m w (cases_eq k place)
 
--- row r is noted, where there was room for it
-pub noted_in_order : (moved : List Bool) (r place : ℕ) (order new : List ℕ) (done room : Bool) → r < length moved → place ≤ length order
+-- row r is noted
+pub noted_in_order : (moved : List Bool) (r place : ℕ) (order new : List ℕ) → r < length moved → place ≤ length order
     → ((k : ℕ) → k < place → slice_index_or order k 0 < r) → (place < length order → r ≤ slice_index_or order place 0)
-    → (place < length order → ¬ (slice_index_or order place 0 ≡ r)) → done ≡ room → new ≡ (if room then insert order place r else order)
-    → OnTrue done ((height : ℕ) → r < height → AreMovedInOrder moved height order → AreMovedInOrder (slice_set moved r true) height new)
-noted_in_order moved r place order new false room row here before after other e f = tt
-noted_in_order moved r place order new true room row here before after other e f = λ height low h.
-    subst (AreMovedInOrder (slice_set moved r true) height) (sym (f ∙ ap (λ b. if b then insert order place r else order) (sym e)))
+    → (place < length order → ¬ (slice_index_or order place 0 ≡ r)) → new ≡ insert order place r
+    → (height : ℕ) → r < height → AreMovedInOrder moved height order → AreMovedInOrder (slice_set moved r true) height new
+noted_in_order moved r place order new row here before after other e height low h = subst (AreMovedInOrder (slice_set moved r true) height) (sym e)
     (inserted_in_order moved height r place order row here before h low (λ l. let a = after l in let d = other l in omega (arith, a, d)))

@@ -50,7 +50,7 @@ parts_fit a c b d u w l hb hd hl eu ew wl wa wc wt = record {
   total = within_part (common_numerator a b c d) (a *ℤ pos u +ℤ c *ℤ pos w) other_factor other_factor_some
       (factor_moves_in a c (d / shared_divisor) (b / shared_divisor) other_factor
       ∙ ap (λ k. a *ℤ pos k +ℤ c *ℤ pos (b / shared_divisor * other_factor)) u_is ∙ ap (λ k. a *ℤ pos u +ℤ c *ℤ pos k) w_is) wt;
-  bottom = bottom_is_within (b / shared_divisor * (d / shared_rest a b c d))
+  denominator = denominator_is_within (b / shared_divisor * (d / shared_rest a b c d))
       (mul-le (b / shared_divisor) (d / shared_rest a b c d) (b / shared_divisor) d (at_most_itself (b / shared_divisor))
       (div-le_self d (shared_rest a b c d)));
 }
@@ -102,8 +102,8 @@ parts_fit a c b d u w l hb hd hl eu ew wl wa wc wt = record {
     w_is = eq_of_mul-eq-mul_left d hd (b / shared_divisor * other_factor) w
         (sym (mul_assoc d (b / shared_divisor) other_factor) ∙ ap (λ k. k * other_factor) over_right ∙ product_is_whole ∙ sym ew)
 
-    bottom_is_within : (k : ℕ) → k ≤ b / shared_divisor * d → IsWithin (pos k)
-    bottom_is_within k h = omega (arith, h, mul_comm (b / shared_divisor) d ∙ over_right, le_of_dvd hl multiple_divides, wl)
+    denominator_is_within : (k : ℕ) → k ≤ b / shared_divisor * d → IsWithin (pos k)
+    denominator_is_within k h = omega (arith, h, mul_comm (b / shared_divisor) d ∙ over_right, le_of_dvd hl multiple_divides, wl)
 
 -- a number that is n / l over its own denominator
 own_over : (q : Rational) (n : ℤ) (u l : ℕ) → IsRatio q n l → q.den * u ≡ l → q.num *ℤ pos u ≡ n

@@ -1,10 +1,11 @@
 -- A pivot under way: row r is taken out, and the rows below i are updated.
 use Rattle.std.proofs.Common.{◌≡◌, ◌≢◌, ◌⊎◌, inl, inr, ℤ, pos, ◌≤ℤ◌, ◌^◌, unsigned_abs, refl, ℕ, suc, ◌+◌, ◌-◌, ◌<◌, ◌≤◌, List, [], length, slice_index_or, slice_set, sym, ap, subst, ◌∙◌, arith}
 use Rattle.std.proofs.lemmas.Bool.{cases_eq, cases_lt}
+use Rattle.std.proofs.lemmas.Int.{ints}
 use Rattle.std.proofs.lemmas.List.{get_or-set_same, get_or-set_other, length-set}
 use Rattle.it_engine.specs.Behind.{after_rows, AreNullElsewhere, IsNextMoved}
 use Rattle.it_engine.specs.PivotedRows.{AreUsable, AreWholeRowsPivoted, IsRowUpdated, IsWholeRowDivided}
-use Rattle.it_whole.specs.Updates.{IsQuotient, IsUpdated}
+use Rattle.it_whole.specs.Updates.{IsLeaving, IsQuotient, IsUpdated}
 use Rattle.it_whole.specs.WholeRows.{IsUsable, WholeRowView}
 use Rattle.it_engine.specs.Tables.{whole_row_at}
 use Rattle.it_engine.proofs.DividedRows.{divided_row, less_divided, shortened_divided}
@@ -116,16 +117,28 @@ own_usable limit old entries r own hr usable hp q =
     let u : IsUsable (length old) limit own = quotient_usable (length old) limit (whole_row_at old r) (number_at entries r) own (usable r hr) hp q in
     subst (λ (n : ℕ). IsUsable n limit own) (sym u.length_is) u
 
+-- a usable row may leave, divided by its entry, which its denominator then represents
+pub own_leaves : (limit : ℕ) (own : WholeRowView) (p : ℤ) → IsUsable (length own.numbers) limit own → p ≡ pos own.denominator → limit < 2 ^ 63
+    → IsLeaving limit own p
+own_leaves limit own p u e h = record {
+  usable = u;
+  positive = subst (λ (z : ℤ). pos 1 ≤ℤ z) (sym e) (at_least_one own.denominator u.some);
+  limit_is = h;
+}
+  where
+    at_least_one : (n : ℕ) → 0 < n → pos 1 ≤ℤ pos n
+    at_least_one n h = omega (arith, ints, h)
+
 -- all rows are updated by the row that leaves as divided by its entry, and that row is row r
 pub pivot_ends : (limit : ℕ) (old : List WholeRowView) (entries : List ℤ) (r : ℕ) (own : WholeRowView) (now : List WholeRowView) (i : ℕ)
     → r < length old → AreUsable (length old) limit old → length old ≤ i
     → pos 1 ≤ℤ number_at entries r → unsigned_abs (number_at entries r) < 2 ^ 63
-    → IsPivotUnderWay limit old entries r own (pos own.bottom) now i → IsQuotient (whole_row_at old r) (number_at entries r) own
+    → IsPivotUnderWay limit old entries r own (pos own.denominator) now i → IsQuotient (whole_row_at old r) (number_at entries r) own
     → AreWholeRowsPivoted (length old) limit old (number_at entries) r (slice_set now r own)
 pivot_ends limit old entries r own now i hr usable hi hp small u q = record {
   same_length = length-set now r own ∙ u.same_length;
   others = λ k l d. subst (IsUpdated (length old) limit (whole_row_at old k) (whole_row_at old r) (number_at entries k)
-      (number_at entries r)) (sym (get_or-set_other now r k own record { numbers = []; bottom = 1 } d))
+      (number_at entries r)) (sym (get_or-set_other now r k own record { numbers = []; denominator = 1 } d))
       (by_own k (whole_row_at now k) (u.done k (omega (arith, l, hi)) d));
   own = subst (IsWholeRowDivided (length old) limit (whole_row_at old r) (number_at entries r)) row_is_set own_row_divided;
   own_usable = subst (IsUsable (length old) limit) row_is_set (quotient_usable (length old) limit (whole_row_at old r)
@@ -133,18 +146,18 @@ pivot_ends limit old entries r own now i hr usable hi hp small u q = record {
 }
   where
     row_is_set : own ≡ whole_row_at (slice_set now r own) r
-    row_is_set = sym (get_or-set_same now r own record { numbers = []; bottom = 1 } (omega (arith, u.same_length, hr)))
+    row_is_set = sym (get_or-set_same now r own record { numbers = []; denominator = 1 } (omega (arith, u.same_length, hr)))
 
     own_row_divided : IsWholeRowDivided (length old) limit (whole_row_at old r) (number_at entries r) own
     own_row_divided = shortened_divided (length old) limit (whole_row_at old r)
-        record { numbers = (whole_row_at old r).numbers; bottom = unsigned_abs (number_at entries r) } own (number_at entries r)
+        record { numbers = (whole_row_at old r).numbers; denominator = unsigned_abs (number_at entries r) } own (number_at entries r)
         (divided_row (length old) limit (whole_row_at old r) record {
           numbers = (whole_row_at old r).numbers;
-          bottom = unsigned_abs
+          denominator = unsigned_abs
               (number_at entries r);
         } (number_at entries r) hp small refl refl) q
 
-    by_own : (k : ℕ) (new : WholeRowView) → IsUpdated (length old) limit (whole_row_at old k) own (number_at entries k) (pos own.bottom) new
+    by_own : (k : ℕ) (new : WholeRowView) → IsUpdated (length old) limit (whole_row_at old k) own (number_at entries k) (pos own.denominator) new
         → IsUpdated (length old) limit (whole_row_at old k) (whole_row_at old r) (number_at entries k) (number_at entries r) new
     by_own k new w = record {
       less = less_divided (length old) limit (whole_row_at old k) (whole_row_at old r) own new (number_at entries k)

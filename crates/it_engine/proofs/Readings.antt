@@ -27,7 +27,7 @@ module _ (p : FeasibilityProblem Rational) (t : SimplexTable Rational) (columns 
   weight_is j w i = i.value_is
       ∙ (let r = s.shows.row i.row (omega (arith, i.within)) in
       quotient_named (t.entry i.row (length columns + length basis)) (right_side_of (length basis) rows i.row)
-      (whole_row_at rows i.row).bottom r.some (r.named (length basis) (omega arith)))
+      (whole_row_at rows i.row).denominator r.some (r.named (length basis) (omega arith)))
       ∙ sym (weight_found field_ℚ (length basis) (length columns) p t s.holds i.row j i.within (s.shows.basis_is i.row i.within ∙ i.basic))
 
 -- the weights so far, for any table that the engine shows
@@ -96,7 +96,7 @@ PointSoFar coordinates target rows basis out k = (generators : List Terms) (t : 
 pub point_more : (coordinates : List ℕ) (target : Terms) (rows : List WholeRowView) (basis : List ℕ) (out : List Rational) (k : ℕ)
     (x : Rational) → k < length basis
     → x ≡ times (sign rationals (feasibility_problem coordinates [] target) k)
-    (quotient (right_side_of k rows (length basis)) (whole_row_at rows (length basis)).bottom)
+    (quotient (right_side_of k rows (length basis)) (whole_row_at rows (length basis)).denominator)
     → PointSoFar coordinates target rows basis out k → PointSoFar coordinates target rows basis (out ++ x ∷ []) (k + 1)
 point_more coordinates target rows basis out k x l e h = λ generators t columns limit s.
     let p = feasibility_problem coordinates generators target in
@@ -105,7 +105,7 @@ point_more coordinates target rows basis out k x l e h = λ generators t columns
     append_assoc out (x ∷ []) (point_from_row rationals (length basis) (length columns) p t (k + 1) (length basis - (k + 1)))
     ∙ ap (λ y. out ++ y ∷ point_from_row rationals (length basis) (length columns) p t (k + 1) (length basis - (k + 1)))
     (e ∙ ap (times (sign rationals p k)) (quotient_named (t.entry (length basis) (length columns + k)) (right_side_of k rows (length basis))
-    (whole_row_at rows (length basis)).bottom r.some (r.named k (omega (arith, l)))))
+    (whole_row_at rows (length basis)).denominator r.some (r.named k (omega (arith, l)))))
     ∙ ap (λ xs. out ++ xs) (sym (ap (point_from_row rationals (length basis) (length columns) p t k) here))
     ∙ h generators t columns limit s
 

@@ -18,7 +18,7 @@ short_whole limit q y z e f h = record { value_is = e ∙ ap integer (sym f); sm
 last_set : (m k : ℕ) (xs : List ℤ) (y : ℤ) → length xs ≡ m + 1 → (k ≡ m) → number_at (set xs m y) k ≡ y
 last_set m k xs y e f = ap (number_at (set xs m y)) f ∙ get_or-set_same xs m y (pos 0) (omega (arith, e))
 
-module _ (cs : List ℕ) (target : Terms) (limit : ℕ) (some : 1 ≤ limit) (row : WholeRowView) (whole : row.bottom ≡ 1) where
+module _ (cs : List ℕ) (target : Terms) (limit : ℕ) (some : 1 ≤ limit) (row : WholeRowView) (whole : row.denominator ≡ 1) where
   -- the number of rows
   abbrev m : ℕ
   m = length cs
@@ -28,7 +28,7 @@ module _ (cs : List ℕ) (target : Terms) (limit : ℕ) (some : 1 ≤ limit) (ro
   unit_row_is i h small is = record {
     length_is = ap length is ∙ length-set (set (replicate (m + 1) (pos 0)) i (pos 1)) m (pos (right_size cs target i)) ∙ unit_length;
     each = λ generators k l. by_place generators k l (cases_eq k m);
-    bottom_is = whole;
+    denominator_is = whole;
   }
     where
       unit_length : length (set (replicate (m + 1) (pos 0)) i (pos 1)) ≡ m + 1
@@ -63,7 +63,7 @@ module _ (cs : List ℕ) (target : Terms) (limit : ℕ) (some : 1 ≤ limit) (ro
   cost_row_is small is = record {
     length_is = ap length is ∙ length-set (replicate (m + 1) (negsuc 0)) m (neg_ℤ (pos (right_sum cs target m))) ∙ length-replicate (m + 1) (negsuc 0);
     each = λ generators k l. by_place generators k l (cases_eq k m);
-    bottom_is = whole;
+    denominator_is = whole;
   }
     where
       size_of_negation : (n : ℕ) → n ≤ limit → unsigned_abs (neg_ℤ (pos n)) ≤ limit

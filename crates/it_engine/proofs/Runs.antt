@@ -45,17 +45,17 @@ run_begins columns limit old basis budget h = record {
 module _ (p : FeasibilityProblem Rational) (t : SimplexTable Rational) (columns : List Terms) (limit : ℕ) (rows : List WholeRowView)
     (basis : List ℕ) (s : Represents p t columns limit rows basis) where
   cost_named : IsRatio (t.entry (length basis) (length columns + length basis)) (right_side_of (length basis) rows (length basis))
-      (whole_row_at rows (length basis)).bottom
+      (whole_row_at rows (length basis)).denominator
   cost_named = (s.shows.row (length basis) (omega arith)).named (length basis) (omega arith)
 
   pub done_here : right_side_of (length basis) rows (length basis) ≡ pos 0 → IsDone rationals (length basis) (length columns) t
-  done_here e = null_named (t.entry (length basis) (length columns + length basis)) (whole_row_at rows (length basis)).bottom
+  done_here e = null_named (t.entry (length basis) (length columns + length basis)) (whole_row_at rows (length basis)).denominator
       (s.shows.row (length basis) (omega arith)).some
-      (subst (λ (z : ℤ). IsRatio (t.entry (length basis) (length columns + length basis)) z (whole_row_at rows (length basis)).bottom) e cost_named)
+      (subst (λ (z : ℤ). IsRatio (t.entry (length basis) (length columns + length basis)) z (whole_row_at rows (length basis)).denominator) e cost_named)
 
   pub not_done_here : ¬ (right_side_of (length basis) rows (length basis) ≡ pos 0) → ¬ (IsDone rationals (length basis) (length columns) t)
   not_done_here n d = n (number_null (right_side_of (length basis) rows (length basis))
-      (t.entry (length basis) (length columns + length basis)) (whole_row_at rows (length basis)).bottom cost_named
+      (t.entry (length basis) (length columns + length basis)) (whole_row_at rows (length basis)).denominator cost_named
       (ap (λ (q : Rational). q.num) d ∙ zero_parts.0))
 
 module _ (columns : List Terms) (limit : ℕ) (old : List WholeRowView) (basis : List ℕ) (budget : ℕ) (now : List WholeRowView) (now_basis : List ℕ) (k : ℕ)

@@ -24,7 +24,7 @@ shortened_twice old mid new s t = record {
   entries = λ k l. ap (λ z. number_at new.numbers k *ℤ z) (product t.shared s.shared)
       ∙ sym (Z.mul_assoc (number_at new.numbers k) (pos t.shared) (pos s.shared))
       ∙ ap (λ z. z *ℤ pos s.shared) (t.entries k (omega (arith, l, s.length_is))) ∙ s.entries k l;
-  bottom_is = sym (mul_assoc new.bottom t.shared s.shared) ∙ ap (λ n. n * s.shared) t.bottom_is ∙ s.bottom_is;
+  denominator_is = sym (mul_assoc new.denominator t.shared s.shared) ∙ ap (λ n. n * s.shared) t.denominator_is ∙ s.denominator_is;
 }
   where
     product : (a h : ℕ) → pos (a * h) ≡ pos a *ℤ pos h

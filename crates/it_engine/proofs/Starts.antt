@@ -42,7 +42,7 @@ module _ (cs : List ℕ) (generators : List Terms) (target : Terms) (columns : L
     rows_are = s.rows_are.0 ∙ ap (λ k. k + 1) (sym s.height);
     usable = λ i l. let r = s.rows_are.1 i (omega (arith, l, s.rows_are.0)) in record {
       length_is = r.length_is ∙ sym s.rows_are.0;
-      some = subst (λ (k : ℕ). 0 < k) (sym r.bottom_is) (omega arith);
+      some = subst (λ (k : ℕ). 0 < k) (sym r.denominator_is) (omega arith);
       small = λ k l. (r.each generators k (omega (arith, l, s.rows_are.0))).small;
     };
     fitting = λ j l. let c = s.columns_are.1 j (omega (arith, l, s.columns_are.0)) in record {
@@ -59,10 +59,10 @@ module _ (cs : List ℕ) (generators : List Terms) (target : Terms) (columns : L
     basis_are = s.height;
     row = λ i l. let r = s.rows_are.1 i l in record {
       length_is = r.length_is;
-      some = subst (λ (k : ℕ). 0 < k) (sym r.bottom_is) (omega arith);
-      low = subst (λ (k : ℕ). k < 2 ^ 63) (sym r.bottom_is) (omega arith);
+      some = subst (λ (k : ℕ). 0 < k) (sym r.denominator_is) (omega arith);
+      low = subst (λ (k : ℕ). k < 2 ^ 63) (sym r.denominator_is) (omega arith);
       named = λ k l. subst (λ (d : ℕ). IsRatio ((start_of cs generators target).entry i (length generators + k))
-          (number_at (whole_row_at rows i).numbers k) d) (sym r.bottom_is)
+          (number_at (whole_row_at rows i).numbers k) d) (sym r.denominator_is)
           (subst (λ (q : Rational). IsRatio q (number_at (whole_row_at rows i).numbers k) 1) (sym (r.each generators k l).value_is)
           (whole_names (number_at (whole_row_at rows i).numbers k)));
       small = λ k l. (r.each generators k l).small;

@@ -24,7 +24,7 @@ use Rattle.it_space.specs.Sums.{number_at}
 use Rattle.it_engine.specs.Tables.{whole_row_at, AreStartColumns, ShowsTable}
 use Rattle.it_run.proofs.SearchLemmas.{first_false_agrees}
 use Rattle.it_engine.proofs.Choices.{best_row_leaves, IsBestRowBelow}
-use Rattle.it_engine.proofs.Generators.{table_is_over, price_named, number, bottom}
+use Rattle.it_engine.proofs.Generators.{table_is_over, price_named, number, denominator}
 use Rattle.it_engine.proofs.NoWide as W
 use Rattle.it_whole.proofs.Names.{sign_named}
 
@@ -64,13 +64,13 @@ module _ (p : FeasibilityProblem Rational) (t : SimplexTable Rational) (columns 
   cost_sign : (j : ℕ) → j < length columns → is_at_least_zero (t.entry (length basis) j)
       ≡ sign_least (value (slice_index_or columns j []) (number_at (whole_row_at rows (length basis)).numbers))
   cost_sign j l = sign_named (t.entry (length basis) j) (value (slice_index_or columns j [])
-      (number_at (whole_row_at rows (length basis)).numbers)) (whole_row_at rows (length basis)).bottom
+      (number_at (whole_row_at rows (length basis)).numbers)) (whole_row_at rows (length basis)).denominator
       (s.shows.row (length basis) (omega arith)).some
       (price_named (length basis) (length columns) limit s.norm p t columns rows basis s.holds.combines s.shows s.columns_are s.fit s.some
       (length basis) j (omega arith) l)
 
   entry_named : (i c : ℕ) → i ≤ length basis → c < length columns
-      → IsRatio (t.entry i c) (value (slice_index_or columns c []) (number_at (whole_row_at rows i).numbers)) (whole_row_at rows i).bottom
+      → IsRatio (t.entry i c) (value (slice_index_or columns c []) (number_at (whole_row_at rows i).numbers)) (whole_row_at rows i).denominator
   entry_named i c l h = price_named (length basis) (length columns) limit s.norm p t columns rows basis s.holds.combines s.shows
       s.columns_are s.fit s.some i c l h
 
@@ -88,7 +88,7 @@ module _ (p : FeasibilityProblem Rational) (t : SimplexTable Rational) (columns 
       → (leaving_row rationals (length basis) (length columns) t c ≡ r) × (r < length basis) × (is_candidate rationals t c r ≡ true)
   leaving_same c r h e = subst (λ (o : Option ℕ). IsBestRowBelow (length basis) (length columns) t c (length basis) o) e
       (best_row_leaves (length basis) (length columns) t c (entry_of (slice_index_or columns c []) rows) (right_side_of (length basis) rows)
-      (λ i. (whole_row_at rows i).bottom) (basic_column_at basis)
+      (λ i. (whole_row_at rows i).denominator) (basic_column_at basis)
       (λ i l. (s.shows.row i (omega (arith, l))).some)
       (λ i l. entry_named i c (omega (arith, l)) h)
       (λ i l. (s.shows.row i (omega (arith, l))).named (length basis) (omega arith))
@@ -114,7 +114,7 @@ module _ (p : FeasibilityProblem Rational) (t : SimplexTable Rational) (columns 
     pub fits_here : StepFits (length basis) (length columns) t
     fits_here = W.step_fits (length basis) (length columns) t
         (number (length basis) (length columns) limit s.norm p t columns rows basis s.holds.combines s.shows s.columns_are s.fit s.some)
-        (bottom (length basis) (length columns) limit s.norm p t columns rows basis s.holds.combines s.shows s.columns_are s.fit s.some)
+        (denominator (length basis) (length columns) limit s.norm p t columns rows basis s.holds.combines s.shows s.columns_are s.fit s.some)
         (table_is_over (length basis) (length columns) limit s.norm p t columns rows basis s.holds.combines s.shows s.columns_are s.fit s.some)
         (to_step (λ r c. r < length basis) row_leaves.1) (to_step (λ r c. c < length columns) hc)
         (to_step (λ r c. is_candidate rationals t c r ≡ true) row_leaves.2)
@@ -132,40 +132,40 @@ module _ (p : FeasibilityProblem Rational) (t : SimplexTable Rational) (columns 
       basis_is = λ i l. basis_after i l (cases_eq i r);
     }
       where
-        leaving_row_is : IsRow (length basis + 1) limit (λ k. t.entry r (length columns + k)) (whole_row_at rows r).numbers (whole_row_at rows r).bottom
+        leaving_row_is : IsRow (length basis + 1) limit (λ k. t.entry r (length columns + k)) (whole_row_at rows r).numbers (whole_row_at rows r).denominator
         leaving_row_is = s.shows.row r (omega (arith, row_leaves.1))
 
         row_shown : (i : ℕ) → i < length basis + 1 → (i ≡ r) ⊎ (i ≡ r → ⊥)
             → IsRow (length basis + 1) limit (λ k. (pivot rationals t r c).entry i (length columns + k)) (whole_row_at new i).numbers
-            (whole_row_at new i).bottom
+            (whole_row_at new i).denominator
         row_shown i l (inl e) = subst (λ (x : ℕ). IsRow (length basis + 1) limit (λ k. (pivot rationals t r c).entry x (length columns + k))
-            (whole_row_at new x).numbers (whole_row_at new x).bottom) (sym e)
+            (whole_row_at new x).numbers (whole_row_at new x).denominator) (sym e)
             (subst (λ (b : Bool). IsRow (length basis + 1) limit
             (λ k. cond b (Q.times (t.entry r (length columns + k)) (Q.inverse (t.entry r c)))
             (difference ring_ℚ (t.entry r (length columns + k)) (Q.times (t.entry r (length columns + k))
             (Q.times (t.entry r c) (Q.inverse (t.entry r c))))))
-            (whole_row_at new r).numbers (whole_row_at new r).bottom) (sym (eq-eqb r r refl))
+            (whole_row_at new r).numbers (whole_row_at new r).denominator) (sym (eq-eqb r r refl))
             (subst (λ (w : ℕ). IsRow w limit (λ k. Q.times (t.entry r (length columns + k)) (Q.inverse (t.entry r c)))
-            (whole_row_at new r).numbers (whole_row_at new r).bottom) s.shows.rows_are
+            (whole_row_at new r).numbers (whole_row_at new r).denominator) s.shows.rows_are
             (a.own (λ k. t.entry r (length columns + k)) (t.entry r c)
             (subst (λ (w : ℕ). IsRow w limit (λ k. t.entry r (length columns + k)) (whole_row_at rows r).numbers
-            (whole_row_at rows r).bottom) (sym s.shows.rows_are) leaving_row_is)
+            (whole_row_at rows r).denominator) (sym s.shows.rows_are) leaving_row_is)
             (entry_named r c (omega (arith, row_leaves.1)) hc))))
         row_shown i l (inr d) =
             (subst (λ (b : Bool). IsRow (length basis + 1) limit
             (λ k. cond b (Q.times (t.entry r (length columns + k)) (Q.inverse (t.entry r c)))
             (difference ring_ℚ (t.entry i (length columns + k)) (Q.times (t.entry r (length columns + k))
             (Q.times (t.entry i c) (Q.inverse (t.entry r c))))))
-            (whole_row_at new i).numbers (whole_row_at new i).bottom) (sym (ne_eqb i r d))
+            (whole_row_at new i).numbers (whole_row_at new i).denominator) (sym (ne_eqb i r d))
             (subst (λ (w : ℕ). IsRow w limit (λ k. difference ring_ℚ (t.entry i (length columns + k))
             (Q.times (t.entry r (length columns + k)) (Q.times (t.entry i c) (Q.inverse (t.entry r c))))) (whole_row_at new i).numbers
-            (whole_row_at new i).bottom) s.shows.rows_are
+            (whole_row_at new i).denominator) s.shows.rows_are
             ((a.others i (omega (arith, l, s.shows.rows_are)) d).less (λ k. t.entry i (length columns + k))
             (λ k. t.entry r (length columns + k)) (t.entry i c) (t.entry r c)
             (subst (λ (w : ℕ). IsRow w limit (λ k. t.entry i (length columns + k)) (whole_row_at rows i).numbers
-            (whole_row_at rows i).bottom) (sym s.shows.rows_are) (s.shows.row i l))
+            (whole_row_at rows i).denominator) (sym s.shows.rows_are) (s.shows.row i l))
             (subst (λ (w : ℕ). IsRow w limit (λ k. t.entry r (length columns + k)) (whole_row_at rows r).numbers
-            (whole_row_at rows r).bottom) (sym s.shows.rows_are) leaving_row_is)
+            (whole_row_at rows r).denominator) (sym s.shows.rows_are) leaving_row_is)
             (entry_named i c (omega (arith, l)) hc) (entry_named r c (omega (arith, row_leaves.1)) hc))))
 
         basis_after : (i : ℕ) → i < length basis → (i ≡ r) ⊎ (i ≡ r → ⊥) → (pivot rationals t r c).basis i ≡ slice_index_or (slice_set basis r c) i 0

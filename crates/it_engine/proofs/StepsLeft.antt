@@ -21,7 +21,7 @@ use Rattle.it_engine.proofs.Readings.{quotient_named}
 abbrev pub shown_table : List Terms → List WholeRowView → List ℕ → SimplexTable Rational
 shown_table columns rows basis = record {
   entry = λ i j. quotient (cond (ltb j (length columns)) (value (slice_index_or columns j []) (number_at (whole_row_at rows i).numbers))
-      (number_at (whole_row_at rows i).numbers (j - length columns))) (whole_row_at rows i).bottom;
+      (number_at (whole_row_at rows i).numbers (j - length columns))) (whole_row_at rows i).denominator;
   basis = λ i. slice_index_or basis i 0;
 }
 
@@ -38,7 +38,7 @@ shown_table_agrees p t columns limit rows basis s = record {
       let o = table_is_over (length basis) (length columns) limit s.norm p t columns rows basis s.holds.combines s.shows s.columns_are s.fit s.some in
       sym (quotient_named (t.entry i j) (cond (ltb j (length columns)) (value (slice_index_or columns j [])
       (number_at (whole_row_at rows i).numbers)) (number_at (whole_row_at rows i).numbers (j - length columns)))
-      (whole_row_at rows i).bottom (o.some i hi) (o.named i j hi hj));
+      (whole_row_at rows i).denominator (o.some i hi) (o.named i j hi hj));
   basics = s.shows.basis_is;
 }
 

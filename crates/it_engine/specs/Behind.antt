@@ -1,5 +1,5 @@
 -- No public clause cites this module: rows that stay as they were in an earlier table of the run, the base, until they are brought up to date.
-use Rattle.std.specs.Prelude.{◌≡◌, ℕ, zero, suc, ◌+◌, ◌*◌, ◌/◌, ◌<◌, ◌≤◌, ◌^◌, ◌++◌, Bool, true, false, cond, ◌≢◌, ℤ, pos, negsuc, ◌*ℤ◌, neg_ℤ, unsigned_abs, List, [], length, slice_index_or, slice_set, Option, Some, None}
+use Rattle.std.specs.Prelude.{◌≡◌, ℕ, zero, suc, ◌+◌, ◌*◌, ◌/◌, ◌<◌, ◌≤◌, ◌++◌, Bool, true, false, cond, ◌≢◌, ℤ, pos, negsuc, ◌*ℤ◌, neg_ℤ, unsigned_abs, List, [], length, slice_index_or, slice_set, Option, Some, None}
 use Rattle.std.specs.List.{All, Contains}
 use Rattle.std.specs.Option.{IfSome}
 use Prim.Native.Nat.{◌∣◌}
@@ -20,6 +20,7 @@ use Rattle.it_whole.specs.ColumnTerms.{multiple_of_terms, Suits}
 use Rattle.it_whole.specs.WholeRows.{IsUsable, IsRow, WholeRowView}
 use Rattle.it_whole.specs.Updates.{IsShortened, IsUpdated, IsWholeRowReduced}
 use Rattle.it_engine.specs.Tables.{AreStartColumns, ShowsTable, whole_row_at}
+use Rattle.it_number.specs.Limit.{signed_limit}
 
 -- the table with the rows of t that moved and its basic columns, and all other rows from the base b
 abbrev pub mixed_table : (ℕ → Bool) → SimplexTable Rational → SimplexTable Rational → SimplexTable Rational
@@ -29,7 +30,7 @@ mixed_table moved b t = record { entry = λ i j. cond (moved i) (t.entry i j) (b
 pub record ShowsBehind (p : FeasibilityProblem Rational) (b t : SimplexTable Rational) (columns : List Terms) (limit : ℕ) (rows : List WholeRowView) (basis : List ℕ) (moved : ℕ → Bool) : Type 0 where
   pub norm : ℕ
   pub some : 1 ≤ norm
-  pub fit : norm * limit < 2 ^ 63
+  pub fit : norm * limit < signed_limit
   pub behind : IsBehind field_ℚ (length basis) (length columns) p b t moved
   pub cost : moved (length basis) ≡ true
   pub entered : (q : ℕ) → q < length basis → moved q ≡ true → t.basis q < length columns
@@ -38,7 +39,7 @@ pub record ShowsBehind (p : FeasibilityProblem Rational) (b t : SimplexTable Rat
 
 -- the share of row q in a common multiple of the denominators
 abbrev pub share_of : ℕ → List WholeRowView → ℕ → ℕ
-share_of multiple rows q = multiple / (whole_row_at rows q).bottom
+share_of multiple rows q = multiple / (whole_row_at rows q).denominator
 
 -- whether row i moved
 abbrev pub has_moved : List Bool → ℕ → Bool
@@ -81,8 +82,8 @@ pub record AreMovedEntries (terms : Terms) (rows : List WholeRowView) (moved : L
 -- multiple is a common multiple of the denominators of the rows below k that moved, below 2 ^ 63
 pub record IsCommonMultiple (rows : List WholeRowView) (moved : List Bool) (k multiple : ℕ) : Type 0 where
   pub some : 0 < multiple
-  pub low : multiple < 2 ^ 63
-  pub each : (q : ℕ) → q < k → has_moved moved q ≡ true → (whole_row_at rows q).bottom ∣ multiple
+  pub low : multiple < signed_limit
+  pub each : (q : ℕ) → q < k → has_moved moved q ≡ true → (whole_row_at rows q).denominator ∣ multiple
 
 -- a column suits each row below a height that stays behind
 abbrev pub SuitsBehind : Terms → List WholeRowView → List Bool → ℕ → Type 0
@@ -124,7 +125,7 @@ pub record AreRanked (rows : List WholeRowView) (basis : List ℕ) (moved : List
 
 -- bounds on the numbers and the denominators of the rows that stay behind
 abbrev pub AreBaseBounds : ℕ → ℕ → List WholeRowView → List Bool → ℕ → Type 0
-AreBaseBounds most low rows moved k = (i : ℕ) → i < k → has_moved moved i ≡ false → AreAtMost (whole_row_at rows i).numbers most × ((whole_row_at rows i).bottom ≤ low)
+AreBaseBounds most low rows moved k = (i : ℕ) → i < k → has_moved moved i ≡ false → AreAtMost (whole_row_at rows i).numbers most × ((whole_row_at rows i).denominator ≤ low)
 
 -- no row from `from` up to `to`, `to` excluded, moved
 pub record IsNextMoved (moved : List Bool) (height from to : ℕ) : Type 0 where
@@ -159,16 +160,16 @@ pub record AreShortened (old new : List WholeRowView) : Type 0 where
 
 -- new is old less the multiple of row q that makes its entry at the column of terms 0, where row q has the entry 1
 abbrev pub IsLessRow : Terms → ℕ → List WholeRowView → ℕ → WholeRowView → WholeRowView → Type 0
-IsLessRow terms limit rows q old new = IsUpdated (length (whole_row_at rows q).numbers) limit old (whole_row_at rows q) (value terms (number_at old.numbers)) (pos (whole_row_at rows q).bottom) new
+IsLessRow terms limit rows q old new = IsUpdated (length (whole_row_at rows q).numbers) limit old (whole_row_at rows q) (value terms (number_at old.numbers)) (pos (whole_row_at rows q).denominator) new
 
 -- new is old less the multiple of row q, which moved, that makes its entry at the basic column of row q 0
 abbrev pub IsLessMoved : List Terms → ℕ → List WholeRowView → List ℕ → ℕ → WholeRowView → WholeRowView → Type 0
-IsLessMoved columns limit rows basis q old new = IsWholeRowReduced (length basis + 1) limit old (whole_row_at rows q) (value (slice_index_or columns (slice_index_or basis q 0) []) (number_at old.numbers)) (pos (whole_row_at rows q).bottom) new
+IsLessMoved columns limit rows basis q old new = IsWholeRowReduced (length basis + 1) limit old (whole_row_at rows q) (value (slice_index_or columns (slice_index_or basis q 0) []) (number_at old.numbers)) (pos (whole_row_at rows q).denominator) new
 
 -- row is row r up to date, for any tables that the rows show
 abbrev pub IsUpToDate : List Terms → ℕ → List WholeRowView → List ℕ → List Bool → ℕ → WholeRowView → Type 0
 IsUpToDate columns limit rows basis moved r row = (p : FeasibilityProblem Rational) (b t : SimplexTable Rational) → ShowsBehind p b t columns limit rows basis (has_moved moved)
-    → IsRow (length basis + 1) limit (λ k. t.entry r (length columns + k)) row.numbers row.bottom
+    → IsRow (length basis + 1) limit (λ k. t.entry r (length columns + k)) row.numbers row.denominator
 
 -- the two lists of rows agree on those that moved
 abbrev pub AgreeOnMoved : List WholeRowView → List WholeRowView → List Bool → Type 0
@@ -180,14 +181,16 @@ IsBrought columns limit rows basis moved old new = (whole : List WholeRowView) (
     → IsUpToDate columns limit whole basis moved r new
 
 -- row r is brought up to date, and all others stay
-pub record IsRowBrought (columns : List Terms) (limit : ℕ) (old : List WholeRowView) (basis : List ℕ) (moved : List Bool) (r : ℕ) (new : List WholeRowView) : Type 0 where
+pub record IsRowBrought (columns : List Terms) (limit : ℕ) (old : List WholeRowView) (basis : List ℕ) (moved : List Bool) (r : ℕ)
+    (new : List WholeRowView) : Type 0 where
   pub same_length : length new ≡ length old
   pub others : (i : ℕ) → i ≢ r → whole_row_at new i ≡ whole_row_at old i
   pub own : IsBrought columns limit old basis moved (whole_row_at old r) (whole_row_at new r)
   pub usable : IsUsable (length old) limit (whole_row_at new r)
 
 -- the first k rows are up to date
-pub record AreBrought (columns : List Terms) (limit : ℕ) (old : List WholeRowView) (basis : List ℕ) (moved : List Bool) (k : ℕ) (new : List WholeRowView) : Type 0 where
+pub record AreBrought (columns : List Terms) (limit : ℕ) (old : List WholeRowView) (basis : List ℕ) (moved : List Bool) (k : ℕ)
+    (new : List WholeRowView) : Type 0 where
   pub same_length : length new ≡ length old
   pub kept : AgreeOnMoved old new moved
   pub rest : (i : ℕ) → k ≤ i → whole_row_at new i ≡ whole_row_at old i
@@ -214,7 +217,8 @@ pub record IsStillChoice (columns : List Terms) (limit : ℕ) (rows : List Whole
   pub leaves : LeavesStill columns limit rows basis moved c r
 
 -- a degenerate step with column c and row r was made, for any tables that the rows show; other rows that stay behind are unchanged
-pub record IsBehindStep (columns : List Terms) (limit : ℕ) (old : List WholeRowView) (basis : List ℕ) (moved : List Bool) (c r : ℕ) (new : List WholeRowView) : Type 0 where
+pub record IsBehindStep (columns : List Terms) (limit : ℕ) (old : List WholeRowView) (basis : List ℕ) (moved : List Bool) (c r : ℕ)
+    (new : List WholeRowView) : Type 0 where
   pub engine : IsSafe columns limit new (slice_set basis r c)
   pub kept : (i : ℕ) → i < length old → i ≢ r → has_moved moved i ≡ false → whole_row_at new i ≡ whole_row_at old i
   pub made : (p : FeasibilityProblem Rational) (b t : SimplexTable Rational) → ShowsBehind p b t columns limit old basis (has_moved moved) → entering_column rationals (length basis) (length columns) t ≡ c
@@ -235,7 +239,8 @@ pub record AreStillSteps (columns : List Terms) (limit : ℕ) (old : List WholeR
       → (s : SimplexTable Rational) × ShowsBehind p b s columns limit new new_basis (has_moved new_moved) × StepsLead (length basis) (length columns) k t s
 
 -- k steps were made, for any table that the engine showed
-pub record AreEngineSteps (columns : List Terms) (limit : ℕ) (old : List WholeRowView) (basis : List ℕ) (k : ℕ) (new : List WholeRowView) (new_basis : List ℕ) : Type 0 where
+pub record AreEngineSteps (columns : List Terms) (limit : ℕ) (old : List WholeRowView) (basis : List ℕ) (k : ℕ) (new : List WholeRowView)
+    (new_basis : List ℕ) : Type 0 where
   pub engine : IsSafe columns limit new new_basis
   pub height : length new_basis ≡ length basis
   pub made : (p : FeasibilityProblem Rational) (t : SimplexTable Rational) → Represents p t columns limit old basis
@@ -260,10 +265,10 @@ pub record AreShares (norm : ℕ) (rows : List WholeRowView) (moved : List Bool)
   pub common : IsCommonMultiple rows moved k multiple
   pub bounds : BoundsMovedShares norm rows moved multiple k bound
 
--- new_multiple is a multiple of multiple and of bottom; new_bound is the sum of bound and entry, each times its share in new_multiple
-pub record AddsShare (multiple bound bottom entry new_multiple new_bound : ℕ) : Type 0 where
+-- new_multiple is a multiple of multiple and of denominator; new_bound is the sum of bound and entry, each times its share in new_multiple
+pub record AddsShare (multiple bound denominator entry new_multiple new_bound : ℕ) : Type 0 where
   pub some : 0 < new_multiple
-  pub low : new_multiple < 2 ^ 63
+  pub low : new_multiple < signed_limit
   pub old : multiple ∣ new_multiple
-  pub own : bottom ∣ new_multiple
-  pub bound_is : new_bound ≡ bound * (new_multiple / multiple) + entry * (new_multiple / bottom)
+  pub own : denominator ∣ new_multiple
+  pub bound_is : new_bound ≡ bound * (new_multiple / multiple) + entry * (new_multiple / denominator)

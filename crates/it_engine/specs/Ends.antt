@@ -21,7 +21,7 @@ pub record IsWeightOf (rows : List WholeRowView) (basis : List ℕ) (j : ℕ) (w
   pub row : ℕ
   pub within : row < length basis
   pub basic : slice_index_or basis row 0 ≡ j
-  pub value_is : w ≡ quotient (right_side_of (length basis) rows row) (whole_row_at rows row).bottom
+  pub value_is : w ≡ quotient (right_side_of (length basis) rows row) (whole_row_at rows row).denominator
 
 -- of the first k rows the one with the least basic column in the range from `from` up to `to`, `to` excluded; None if there is none
 abbrev pub IsNextBasic : List ℕ → ℕ → ℕ → ℕ → Option ℕ → Type 0

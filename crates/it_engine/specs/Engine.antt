@@ -1,6 +1,6 @@
 -- No public clause cites this module: the parts of a table that the engine keeps, and a step on them.
 -- The engine represents a table of the run: it keeps no table, and its contracts range over all tables that it may represent.
-use Rattle.std.specs.Prelude.{◌≡◌, ℕ, ◌+◌, ◌*◌, ◌<◌, ◌≤◌, ◌^◌, Bool, true, false, List, length, Option}
+use Rattle.std.specs.Prelude.{◌≡◌, ℕ, ◌+◌, ◌*◌, ◌<◌, ◌≤◌, Bool, true, false, List, length, Option}
 use Rattle.it_rational.specs.Rational.{Rational}
 use Rattle.it_space.specs.Rows.{Terms}
 use Rattle.it_tableau.specs.Operations.{rationals}
@@ -12,21 +12,27 @@ use Rattle.it_run.specs.Runs.{RunEndView}
 use Rattle.it_run.specs.Runs.RunEndView.{Weights, Point, Pivots}
 use Rattle.it_run.specs.Steps.{ReachesBy}
 use Rattle.it_engine.specs.declared.blocks.Notes.{Notes}
+use Rattle.it_engine.specs.declared.blocks.Scratch.{Scratch}
 use Rattle.it_engine.specs.declared.engine.EngineEnd.{EngineEnd}
 use Rattle.it_engine.specs.declared.engine.EngineEnd.TheVariants as engine_ends
 use Rattle.it_engine.specs.PivotedRows.{AreFitting, AreUsable}
 use Rattle.it_whole.specs.WholeRows.{WholeRowView}
 use Rattle.it_engine.specs.Tables.{AreStartColumns, ShowsTable}
+use Rattle.it_number.specs.Limit.{signed_limit}
 
 -- the contracts' view of the engine
 pub record EngineView : Type 0 where
   pub rows : List WholeRowView
   pub basis : List ℕ
 
--- for height basic columns there is room for a pivot's notes on the leaving row, for a row, and for an entry and a mark of each row
+-- there is room for a pivot's notes on a leaving row of width numbers, and for a row
+pub record HasSpace (width : ℕ) (scratch : Scratch) : Type 0 where
+  pub next_is : length scratch.next.items ≡ width + 1
+  pub room_is : length scratch.room.items ≡ width
+
+-- for height basic columns there is room for a pivot, and for an entry and a mark of each row
 pub record HasRoom (height : ℕ) (notes : Notes) : Type 0 where
-  pub next_is : length notes.next.items ≡ height + 2
-  pub room_is : length notes.room.items ≡ height + 1
+  pub scratch : HasSpace (height + 1) notes.scratch
   pub entries_are : length notes.entries.items ≡ height + 1
   pub moved_is : length notes.moved.items ≡ height + 1
 
@@ -35,13 +41,13 @@ pub record IsSafe (columns : List Terms) (limit : ℕ) (rows : List WholeRowView
   pub rows_are : length rows ≡ length basis + 1
   pub usable : AreUsable (length rows) limit rows
   pub fitting : AreFitting (length rows) limit columns
-  pub limit_is : limit < 2 ^ 63
+  pub limit_is : limit < signed_limit
 
 -- the engine shows t, a table of p that has the invariants, and no column weighs more than a norm that keeps all prices short
 pub record Represents (p : FeasibilityProblem Rational) (t : SimplexTable Rational) (columns : List Terms) (limit : ℕ) (rows : List WholeRowView) (basis : List ℕ) : Type 0 where
   pub norm : ℕ
   pub some : 1 ≤ norm
-  pub fit : norm * limit < 2 ^ 63
+  pub fit : norm * limit < signed_limit
   pub holds : HasInvariants rationals (length basis) (length columns) p t
   pub shows : ShowsTable (length basis) (length columns) limit t rows basis
   pub columns_are : AreStartColumns (length basis) (length columns) norm p columns

@@ -1,5 +1,5 @@
 -- No public clause cites this module: the start of the engine, read off the rows of a question.
-use Rattle.std.specs.Prelude.{◌≡◌, ◌≢◌, ◌⊎◌, ℕ, zero, suc, ◌+◌, ◌<◌, ◌≤◌, ◌^◌, ◌++◌, ◌∷◌, Bool, ℤ, neg_ℤ, cond, unsigned_abs, List, [], length, slice_index_or, All}
+use Rattle.std.specs.Prelude.{◌≡◌, ◌≢◌, ◌⊎◌, ℕ, zero, suc, ◌+◌, ◌<◌, ◌≤◌, ◌++◌, ◌∷◌, Bool, ℤ, neg_ℤ, cond, unsigned_abs, List, [], length, slice_index_or, All}
 use Rattle.it_rational.specs.Rational.{Rational, is_at_least_zero, times, integer}
 use Rattle.it_rational.proofs.RationalLaws.{ring_ℚ}
 use Rattle.it_space.specs.Rows.{Terms, coefficient, row_mass}
@@ -9,6 +9,7 @@ use Rattle.it_run.specs.RowValues.{rational_value}
 use Rattle.it_space.specs.Sums.{number_at}
 use Rattle.it_engine.specs.Tables.{whole_row_at}
 use Rattle.it_whole.specs.WholeRows.{WholeRowView}
+use Rattle.it_number.specs.Limit.{signed_limit}
 
 -- whether row k keeps its sign: the target's coefficient isn't below 0
 abbrev pub keeps_sign : List ℕ → Terms → ℕ → Bool
@@ -45,7 +46,7 @@ AreReadColumns coordinates generators target columns = (length columns ≡ lengt
 -- norm is at least 1, and no column weighs more
 pub record IsNorm (columns : List Terms) (norm : ℕ) : Type 0 where
   pub some : 1 ≤ norm
-  pub short : norm < 2 ^ 63
+  pub short : norm < signed_limit
   pub bounds : (j : ℕ) → j < length columns → row_mass (slice_index_or columns j []) ≤ norm
 
 -- the right side of row k: the absolute value of the target's coefficient
@@ -67,7 +68,7 @@ pub record IsReadRow (coordinates : List ℕ) (target : Terms) (limit i : ℕ) (
   pub length_is : length row.numbers ≡ length coordinates + 1
   pub each : (generators : List Terms) (k : ℕ) → k < length coordinates + 1
       → IsShortWhole limit ((start_of coordinates generators target).entry i (length generators + k)) (number_at row.numbers k)
-  pub bottom_is : row.bottom ≡ 1
+  pub denominator_is : row.denominator ≡ 1
 
 -- the first count rows, whole numbers within the limit
 abbrev pub AreReadRows : List ℕ → Terms → ℕ → ℕ → List WholeRowView → Type 0

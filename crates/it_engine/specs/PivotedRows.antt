@@ -1,5 +1,5 @@
 -- No public clause cites this module: the rows and columns of an engine, and a pivot on all rows.
-use Rattle.std.specs.Prelude.{◌≡◌, ◌≢◌, ℕ, ◌*◌, All, [], slice_index_or, ◌<◌, ◌^◌, ℤ, List, length}
+use Rattle.std.specs.Prelude.{◌≡◌, ◌≢◌, ℕ, ◌*◌, All, [], slice_index_or, ◌<◌, ℤ, List, length}
 use Rattle.it_rational.specs.Rational.{Rational, times, inverse, IsRatio}
 use Rattle.it_space.specs.Rows.{Terms, row_mass}
 use Rattle.it_space.specs.Sums.{number_at}
@@ -7,6 +7,7 @@ use Rattle.it_whole.specs.ColumnTerms.{Suits}
 use Rattle.it_whole.specs.Updates.{IsUpdated}
 use Rattle.it_whole.specs.WholeRows.{IsRow, IsUsable, WholeRowView}
 use Rattle.it_engine.specs.Tables.{whole_row_at}
+use Rattle.it_number.specs.Limit.{signed_limit}
 
 -- each of the columns suits a row with these numbers
 abbrev pub AllSuit : List Terms → List ℤ → Type 0
@@ -19,7 +20,7 @@ SuitsAll terms rows = (i : ℕ) → i < length rows → Suits terms (whole_row_a
 -- a column whose entries in usable rows are short
 pub record IsFitting (width limit : ℕ) (terms : Terms) : Type 0 where
   pub within : All (λ t. t.0 < width) terms
-  pub fits : row_mass terms * limit < 2 ^ 63
+  pub fits : row_mass terms * limit < signed_limit
 
 -- the entries of all columns in usable rows are short
 abbrev pub AreFitting : ℕ → ℕ → List Terms → Type 0
@@ -31,8 +32,8 @@ AreUsable width limit rows = (i : ℕ) → i < length rows → IsUsable width li
 
 -- new is old, the leaving row, divided by its entry p
 abbrev pub IsWholeRowDivided : ℕ → ℕ → WholeRowView → ℤ → WholeRowView → Type 0
-IsWholeRowDivided width limit old p new = (g : ℕ → Rational) (w : Rational) → IsRow width limit g old.numbers old.bottom → IsRatio w p old.bottom
-    → IsRow width limit (λ k. times (g k) (inverse w)) new.numbers new.bottom
+IsWholeRowDivided width limit old p new = (g : ℕ → Rational) (w : Rational) → IsRow width limit g old.numbers old.denominator → IsRatio w p old.denominator
+    → IsRow width limit (λ k. times (g k) (inverse w)) new.numbers new.denominator
 
 -- row i is updated in a step in which own leaves, whose entry is p
 abbrev pub IsRowUpdated : ℕ → List WholeRowView → List ℤ → WholeRowView → ℤ → ℕ → List WholeRowView → Type 0

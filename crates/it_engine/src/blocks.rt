@@ -1,5 +1,5 @@
 //! Blocks of degenerate steps: their rows, which of these moved since the block began, and working space.
-ghost use Rattle.std.specs.Prelude.{◌≡◌, ◌+◌, ◌<◌, ◌≤◌, ◌^◌, ℕ, pos, [], length, cond, false, true, slice_index_or, slice_set, IfOk};
+ghost use Rattle.std.specs.Prelude.{◌≡◌, ◌+◌, ◌<◌, ◌≤◌, ℕ, pos, [], length, cond, false, true, slice_index_or, slice_set, IfOk, OnOk};
 ghost use Rattle.std.specs.Bool.{OnFalse, OnTrue};
 ghost use Rattle.it_engine.specs.Behind.{AreMovedEntries, AreMovedInOrder, has_moved};
 ghost use Rattle.it_whole.specs.ColumnTerms.{Suits};
@@ -9,6 +9,7 @@ ghost use Rattle.it_engine.specs.PivotedRows.{SuitsAll};
 ghost use Rattle.it_vectors.specs.Sizes.{AreAtMost};
 ghost use Rattle.it_engine.specs.Tables.{whole_row_at};
 ghost use Rattle.it_space.specs.Sums.{number_at};
+ghost use Rattle.it_number.specs.Limit.{signed_limit};
 
 use crate::choice::is_above_zero;
 use it_whole::{Column, WholeRow};
@@ -40,13 +41,31 @@ pub struct Block<'a> {
     pub order: &'a [usize],
 }
 
-/// Working space of the steps. Between two calls only its size is known.
+/// Which rows moved since a block of steps began.
 #[derive(Drop)]
-pub struct Notes {
+pub struct Moves<'a> {
+    /// The basic column of each row but the cost row.
+    pub basis: &'a [usize],
+    /// Whether each row moved.
+    pub moved: &'a [bool],
+    /// The rows that moved, without the cost row, in ascending order.
+    pub order: &'a [usize],
+}
+
+/// Working space of a pivot. Between two calls only its size is known.
+#[derive(Drop)]
+pub struct Scratch {
     /// For rows in 64 bits: for each place of the leaving row, the next place where it isn't 0.
     pub next: Vec<usize>,
     /// Space for a row in 64 bits.
     pub room: Vec<i64>,
+}
+
+/// Working space of the steps. Between two calls only its size is known.
+#[derive(Drop)]
+pub struct Notes {
+    /// That of each pivot.
+    pub scratch: Scratch,
     /// The entries of the rows at the entering column.
     pub entries: Vec<i64>,
     /// Whether each row moved since the block began.
@@ -60,7 +79,7 @@ pub struct Notes {
 impl Notes {
     /// Working space for `height` rows and the cost row.
     pub fn new(alloc: Global, height: usize) -> Result<Notes, AllocError>
-        requires { height < 2 ^ 63 }
+        requires { height < signed_limit }
         ensures { IfOk result (HasRoom height) }
     {
         let next = Vec::from_elem(alloc, 0, height + 2)?;
@@ -68,8 +87,7 @@ impl Notes {
         let entries = Vec::from_elem(alloc, 0, height + 1)?;
         let moved = Vec::from_elem(alloc, false, height + 1)?;
         Ok(Notes {
-            next,
-            room,
+            scratch: Scratch { next, room },
             entries,
             moved,
             order: Vec::new(alloc),
@@ -98,11 +116,11 @@ pub fn row_at(order: &[usize], k: usize) -> usize
 
 /// The denominator of row `i`.
 #[inline]
-pub fn bottom_at(rows: &[WholeRow], i: usize) -> u64
+pub fn denominator_at(rows: &[WholeRow], i: usize) -> u64
     requires { i < length rows.now }
-    ensures { result ≡ (whole_row_at rows.now i).bottom }
+    ensures { result ≡ (whole_row_at rows.now i).denominator }
 {
-    rows[i].bottom()
+    rows[i].denominator()
 }
 
 /// A bound on the numbers of row `i`.
@@ -217,18 +235,19 @@ fn stands_at(order: &[usize], place: usize, r: usize) -> bool
     place < order.len() && row_at(order, place) == r
 }
 
-/// Marks row `r` as moved; `false` if allocation fails.
-pub fn note_moved(moved: &mut [bool], order: &mut Vec<usize>, r: usize) -> bool
+/// Marks row `r` as moved.
+pub fn note_moved(moved: &mut [bool], order: &mut Vec<usize>, r: usize) -> Result<(), AllocError>
     requires { r < length moved.old }
-    ensures moved { OnTrue result (moved.new ≡ slice_set moved.old r true) }
-    ensures order { OnTrue result ((height : ℕ) → r < height → AreMovedInOrder moved.old height order.old.items → AreMovedInOrder moved.new height order.new.items) }
+    ensures moved { OnOk result (moved.new ≡ slice_set moved.old r true) }
+    ensures order { OnOk result ((height : ℕ) → r < height → AreMovedInOrder moved.old height order.old.items → AreMovedInOrder moved.new height order.new.items) }
 {
     moved[r] = true;
     let place = place_of(order.as_slice(), r);
     if stands_at(order.as_slice(), place, r) {
-        return true;
+        return Ok(());
     }
-    order.insert(place, r).is_ok()
+    order.insert(place, r)?;
+    Ok(())
 }
 
 /// Marks the cost row, which comes last, as moved, and all other rows as not moved.

@@ -15,7 +15,7 @@ use crate::choice::entering_column;
 use crate::loading::norm;
 use crate::pivots::enter;
 use it_vectors::is_zero;
-use it_whole::{Column, WholeRow};
+use it_whole::{Column, GaveUp, WholeRow};
 use std::alloc::{AllocError, Global};
 use std::marker::Model;
 
@@ -92,6 +92,11 @@ impl Engine {
         Ok(Some(Engine::new(self.alloc, rows, basis)?))
     }
 
+    /// The allocator.
+    fn alloc(&self) -> Global {
+        self.alloc
+    }
+
     /// The rows, the cost row last.
     pub fn rows(&self) -> &[WholeRow]
         ensures { result.now ≡ self.now.rows }
@@ -134,120 +139,125 @@ impl Engine {
         entering_column(columns, self.cost_row())
     }
 
-    /// Makes one step, if one is left, and returns whether it did; `None` if no row leaves or a number would be too large, and then
-    /// nothing is known of the engine.
-    fn step(&mut self, columns: &[Column], limit: u64) -> Option<bool>
-        requires { IsSafe columns.now limit self.old.rows self.old.basis }
-        ensures { IfSome result (λ moved. IsEngineStepOrStuck columns.now limit self.old.rows self.old.basis self.new.rows self.new.basis moved) }
+    /// Makes one step, if one is left, and returns whether it did. If it gives up, which it also does if no row leaves, nothing is known of
+    /// the engine.
+    fn step(&mut self, run: &Run<'_>) -> Result<bool, GaveUp>
+        requires { IsSafe run.now.columns.now run.now.limit self.old.rows self.old.basis }
+        ensures { IfOk result (λ moved. IsEngineStepOrStuck run.now.columns.now run.now.limit
+            self.old.rows self.old.basis self.new.rows self.new.basis moved) }
     {
-        let Some(column) = self.next_column(columns) else {
-            return Some(false);
+        let Some(column) = self.next_column(run.columns) else {
+            return Ok(false);
         };
-        let row = enter(
-            self.alloc,
+        let Some(row) = enter(
             self.rows.as_mut_slice(),
+            run,
             self.basis.as_slice(),
-            self.notes.next.as_mut_slice(),
-            self.notes.room.as_mut_slice(),
+            &mut self.notes.scratch,
             self.notes.entries.as_mut_slice(),
-            &columns[column],
-            limit,
-        )?;
+            &run.columns[column],
+        ) else {
+            return Err(GaveUp::TooLarge);
+        };
         self.basis[row] = column;
-        Some(true)
+        Ok(true)
     }
 
-    /// Makes at most `most` degenerate steps, and returns their number, which may be 0, and is 0 with rows in 64 bits. `None` if a number
-    /// would be too large or allocation fails, and then nothing is known of the engine.
-    fn still_steps(&mut self, columns: &[Column], limit: u64, norm: u64, most: u32) -> Option<u32>
-        requires engine { IsSafe columns.now limit self.old.rows self.old.basis }
-        requires norm { IsNorm columns.now norm }
-        ensures steps { IfSome result (λ k. AreEngineSteps columns.now limit self.old.rows self.old.basis k self.new.rows self.new.basis) }
-        ensures most { IfSome result (λ k. k ≤ most) }
+    /// Makes at most `most` degenerate steps, and returns their number, which may be 0, and is 0 with rows in 64 bits. If it gives up,
+    /// nothing is known of the engine.
+    fn still_steps(&mut self, run: &Run<'_>, most: u32) -> Result<u32, GaveUp>
+        requires engine { IsSafe run.now.columns.now run.now.limit self.old.rows self.old.basis }
+        requires norm { IsNorm run.now.columns.now run.now.norm }
+        ensures steps { IfOk result (λ k. AreEngineSteps run.now.columns.now run.now.limit self.old.rows self.old.basis k self.new.rows self.new.basis) }
+        ensures most { IfOk result (λ k. k ≤ most) }
     {
         if most == 0 || !self.cost_row().is_narrow() {
-            return Some(0);
+            return Ok(0);
         }
         make_steps(
             self.rows.as_mut_slice(),
             self.basis.as_mut_slice(),
             &mut self.notes,
-            &Run {
-                alloc: self.alloc,
-                columns,
-                limit,
-                norm,
-            },
+            run,
             most,
         )
     }
 
-    /// Makes the run with `budget` as the most steps. `None` as for `run`.
-    fn run_within(
-        &mut self,
-        columns: &[Column],
-        limit: u64,
-        norm: u64,
-        budget: u32,
-    ) -> Option<EngineEnd>
-        requires engine { IsSafe columns.now limit self.old.rows self.old.basis }
-        requires norm { IsNorm columns.now norm }
-        ensures { IfSome result (λ finish. IsFinished columns.now limit self.old.rows self.old.basis (Some budget) self.new.rows self.new.basis finish) }
+    /// Makes the run with `budget` as the most steps. If it gives up, nothing is known of the engine.
+    fn run_within(&mut self, run: &Run<'_>, budget: u32) -> Result<EngineEnd, GaveUp>
+        requires engine { IsSafe run.now.columns.now run.now.limit self.old.rows self.old.basis }
+        requires norm { IsNorm run.now.columns.now run.now.norm }
+        ensures { IfOk result (λ finish. IsFinished run.now.columns.now run.now.limit
+            self.old.rows self.old.basis (Some budget) self.new.rows self.new.basis finish) }
     {
         let mut k: u32 = 0;
         while k < budget {
             let most = most_still(k, budget - k - 1);
-            let made = self.still_steps(columns, limit, norm, most)?;
+            let made = self.still_steps(run, most)?;
             k += made;
             if self.is_done() {
-                return Some(EngineEnd::Weights);
+                return Ok(EngineEnd::Weights);
             }
-            if !self.step(columns, limit)? {
-                return Some(EngineEnd::Point);
+            if !self.step(run)? {
+                return Ok(EngineEnd::Point);
             }
             k += 1;
         }
         if self.is_done() {
-            return Some(EngineEnd::Weights);
+            return Ok(EngineEnd::Weights);
         }
-        match self.next_column(columns) {
-            Some(_) => Some(EngineEnd::Pivots(budget)),
-            None => Some(EngineEnd::Point),
+        match self.next_column(run.columns) {
+            Some(_) => Ok(EngineEnd::Pivots(budget)),
+            None => Ok(EngineEnd::Point),
         }
     }
 
-    /// Makes the run without a budget. It terminates, since no set of basic columns recurs (Bland 1977). `None` as for `run`.
-    fn run_on(&mut self, columns: &[Column], limit: u64, norm: u64) -> Option<EngineEnd>
-        requires engine { IsSafe columns.now limit self.old.rows self.old.basis }
-        requires stands { RepresentsSome columns.now limit self.old.rows self.old.basis }
-        requires norm { IsNorm columns.now norm }
-        ensures { IfSome result (λ finish. IsFinished columns.now limit self.old.rows self.old.basis None self.new.rows self.new.basis finish) }
+    /// Makes the run without a budget. It terminates, since no set of basic columns recurs (Bland 1977). If it gives up, nothing is known of
+    /// the engine.
+    fn run_on(&mut self, run: &Run<'_>) -> Result<EngineEnd, GaveUp>
+        requires engine { IsSafe run.now.columns.now run.now.limit self.old.rows self.old.basis }
+        requires stands { RepresentsSome run.now.columns.now run.now.limit self.old.rows self.old.basis }
+        requires norm { IsNorm run.now.columns.now run.now.norm }
+        ensures { IfOk result (λ finish. IsFinished run.now.columns.now run.now.limit self.old.rows self.old.basis None self.new.rows self.new.basis finish) }
     {
         let mut k: u32 = 0;
         'steps: loop {
             let most = most_still(k, u32::MAX);
-            let made = self.still_steps(columns, limit, norm, most)?;
+            let made = self.still_steps(run, most)?;
             k = k.saturating_add(made).saturating_add(1);
             if self.is_done() {
-                return Some(EngineEnd::Weights);
+                return Ok(EngineEnd::Weights);
             }
-            if !self.step(columns, limit)? {
-                return Some(EngineEnd::Point);
+            if !self.step(run)? {
+                return Ok(EngineEnd::Point);
             }
         }
     }
 
     /// Makes the run with `budget` as the most steps, or without a budget. `columns` are those of the start, and `limit` bounds the
-    /// numbers of the rows. `None` if a number would be larger or allocation fails: then nothing is known of the engine.
-    pub fn run(&mut self, columns: &[Column], limit: u64, budget: Option<u32>) -> Option<EngineEnd>
+    /// numbers of the rows. If it gives up, nothing is known of the engine.
+    pub fn run(
+        &mut self,
+        columns: &[Column],
+        limit: u64,
+        budget: Option<u32>,
+    ) -> Result<EngineEnd, GaveUp>
         requires engine { IsSafe columns.now limit self.old.rows self.old.basis }
         requires stands { RepresentsSome columns.now limit self.old.rows self.old.basis }
-        ensures { IfSome result (λ finish. IsFinished columns.now limit self.old.rows self.old.basis budget self.new.rows self.new.basis finish) }
+        ensures { IfOk result (λ finish. IsFinished columns.now limit self.old.rows self.old.basis budget self.new.rows self.new.basis finish) }
     {
-        let norm = norm(columns)?;
+        let Some(norm) = norm(columns) else {
+            return Err(GaveUp::TooLarge);
+        };
+        let run = Run {
+            alloc: self.alloc(),
+            columns,
+            limit,
+            norm,
+        };
         match budget {
-            Some(steps) => self.run_within(columns, limit, norm, steps),
-            None => self.run_on(columns, limit, norm),
+            Some(steps) => self.run_within(&run, steps),
+            None => self.run_on(&run),
         }
     }
 }

@@ -1,5 +1,5 @@
 //! The leaving row of a degenerate step.
-ghost use Rattle.std.specs.Prelude.{◌≡◌, ◌+◌, ◌<◌, ◌≤◌, ◌^◌, ◌*ℤ◌, neg_ℤ, ℕ, pos, Bool, List, [], length, false, slice_index_or};
+ghost use Rattle.std.specs.Prelude.{◌≡◌, ◌+◌, ◌<◌, ◌≤◌, ◌*ℤ◌, neg_ℤ, ℕ, pos, Bool, List, [], length, false, slice_index_or, IfOk, OnOk};
 ghost use Rattle.std.specs.Bool.{OnFalse, OnTrue};
 ghost use Rattle.std.specs.Option.{IfSome};
 ghost use Rattle.it_engine.specs.Behind.{AreBaseBounds, AreMovedInOrder, AreRanked, AreStillRows, column_behind, ComesBefore, has_moved, HasZeroRatio, HaveEntered, IsFirstOf, MayLeave, SuitsBehind, TakesRow};
@@ -7,15 +7,16 @@ ghost use Rattle.it_whole.specs.ColumnTerms.{multiple_of_terms};
 ghost use Rattle.it_engine.specs.Choosing.{right_side_of};
 ghost use Rattle.it_engine.specs.Tables.{whole_row_at};
 ghost use Rattle.it_space.specs.Sums.{number_at};
+ghost use Rattle.it_number.specs.Limit.{signed_limit};
 
 use crate::blocks::{
-    Block, basic_column, bottom_at, closer_most_at, is_above_at, moved_at, row_at,
+    Block, basic_column, closer_most_at, denominator_at, is_above_at, moved_at, row_at,
 };
 use crate::choice::{is_above_zero, right_side};
 use crate::shares::share_at;
 use it_vectors::{is_zero, narrow, product, read};
-use it_whole::{Column, WholeRow};
-use std::alloc::Global;
+use it_whole::{Column, GaveUp, WholeRow};
+use std::alloc::{AllocError, Global};
 
 /// The largest number of the engine, 2^63 - 1.
 const LARGEST: u64 = i64::MAX as u64;
@@ -50,7 +51,9 @@ fn more_bound(rows: &[WholeRow], moved: &[bool], i: usize, bound: u64) -> u64
     if moved_at(moved, i) {
         bound
     } else {
-        bound.max(closer_most_at(rows, i)).max(bottom_at(rows, i))
+        bound
+            .max(closer_most_at(rows, i))
+            .max(denominator_at(rows, i))
     }
 }
 
@@ -75,47 +78,51 @@ fn column_of(basis: &[usize], i: usize) -> usize
     basis.get(i).copied().unwrap_or(0)
 }
 
-/// The rows below `height` with right side 0, in ascending order. `None` if allocation fails.
-fn still_rows(alloc: Global, rows: &[WholeRow], height: usize) -> Option<Vec<usize>>
+/// The rows below `height` with right side 0, in ascending order.
+fn still_rows(alloc: Global, rows: &[WholeRow], height: usize) -> Result<Vec<usize>, AllocError>
     requires rows { height ≤ length rows.now }
     requires places { (i : ℕ) → i < height → height < length (whole_row_at rows.now i).numbers }
-    ensures { IfSome result (λ still. AreStillRows rows.now height height still.items) }
+    ensures { IfOk result (λ still. AreStillRows rows.now height height still.items) }
 {
     let mut still = Vec::new(alloc);
     for i in 0..height {
         if is_still(rows, height, i) {
-            still.push(i).ok()?;
+            still.push(i)?;
         }
     }
-    Some(still)
+    Ok(still)
 }
 
-/// The rows with right side 0, by ascending basic column. `None` if allocation fails.
-fn ranked_rows(alloc: Global, rows: &[WholeRow], basis: &[usize]) -> Option<Vec<usize>>
+/// The rows with right side 0, by ascending basic column.
+fn ranked_rows(alloc: Global, rows: &[WholeRow], basis: &[usize]) -> Result<Vec<usize>, AllocError>
     requires rows { length basis.now ≤ length rows.now }
     requires places { (i : ℕ) → i < length basis.now → length basis.now < length (whole_row_at rows.now i).numbers }
-    ensures { IfSome result (λ ranked. (moved : List Bool) → AreRanked rows.now basis.now moved (length basis.now) ranked.items) }
+    ensures { IfOk result (λ ranked. (moved : List Bool) → AreRanked rows.now basis.now moved (length basis.now) ranked.items) }
 {
     let mut ranked = still_rows(alloc, rows, basis.len())?;
     ranked.sort_unstable_by_key(|i| column_of(basis, *i));
-    Some(ranked)
+    Ok(ranked)
 }
 
-/// The base of a block of steps that begins with these rows. `None` if allocation fails.
-pub fn begin_base(alloc: Global, rows: &[WholeRow], basis: &[usize], moved: &[bool]) -> Option<Base>
+/// The base of a block of steps that begins with these rows.
+pub fn begin_base(
+    alloc: Global,
+    rows: &[WholeRow],
+    basis: &[usize],
+    moved: &[bool],
+) -> Result<Base, AllocError>
     requires rows { length basis.now ≤ length rows.now }
     requires moved { length basis.now ≤ length moved.now }
     requires places { (i : ℕ) → i < length basis.now → length basis.now < length (whole_row_at rows.now i).numbers }
-    ensures bound { IfSome result (λ base. AreBaseBounds base.bound base.bound rows.now moved.now (length basis.now)) }
-    ensures ranked { IfSome result (λ base. AreRanked rows.now basis.now moved.now (length basis.now) base.ranked.items) }
+    ensures bound { IfOk result (λ base. AreBaseBounds base.bound base.bound rows.now moved.now (length basis.now)) }
+    ensures ranked { IfOk result (λ base. AreRanked rows.now basis.now moved.now (length basis.now) base.ranked.items) }
 {
     let ranked = ranked_rows(alloc, rows, basis)?;
     let bound = bound_behind(rows, moved, basis.len());
-    Some(Base { bound, ranked })
+    Ok(Base { bound, ranked })
 }
 
-/// Subtracts from the combined column the basic column of row `q`, which moved, times the row's entry and its share of `multiple`;
-/// `false` if a number is too large or allocation fails.
+/// Subtracts from the combined column the basic column of row `q`, which moved, times the row's entry and its share of `multiple`.
 fn less_moved(
     combined: &mut Column,
     columns: &[Column],
@@ -123,46 +130,51 @@ fn less_moved(
     entries: &[i64],
     q: usize,
     multiple: u64,
-) -> bool
+) -> Result<(), GaveUp>
     requires rows { q < length block.now.rows.now }
     requires basis { q < length block.now.basis.now }
     requires entered { slice_index_or block.now.basis.now q 0 < length columns.now }
     requires entries { q < length entries.now }
-    requires some { 0 < (whole_row_at block.now.rows.now q).bottom }
-    requires low { multiple < 2 ^ 63 }
-    ensures { OnTrue result (TakesRow columns.now block.now.rows.now block.now.basis.now entries.now multiple q combined.old combined.new) }
+    requires some { 0 < (whole_row_at block.now.rows.now q).denominator }
+    requires low { multiple < signed_limit }
+    ensures { OnOk result (TakesRow columns.now block.now.rows.now block.now.basis.now entries.now multiple q combined.old combined.new) }
 {
     let entry = read(entries, q);
     if is_zero(entry) {
-        return true;
+        return Ok(());
     }
     let Some(taken) = taken_times(entry, share_at(block.rows, q, multiple)) else {
-        return false;
+        return Err(GaveUp::TooLarge);
     };
     combined.add_multiple(basic_column(columns, block.basis, q), taken)
 }
 
 /// The negated product of `entry` and `share`; `None` unless it is below 2^63 in absolute value.
 fn taken_times(entry: i64, share: u64) -> Option<i64>
-    requires { share < 2 ^ 63 }
+    requires { share < signed_limit }
     ensures { IfSome result (λ z. z ≡ neg_ℤ (entry *ℤ pos share)) }
 {
     let taken = narrow(product(entry, share as i64), LARGEST)?;
     Some(-taken)
 }
 
-/// Sets the combined column to `multiple` times `column`, which enters; `false` if a number is too large or allocation fails.
-fn begin_combined(combined: &mut Column, columns: &[Column], column: usize, multiple: u64) -> bool
+/// Sets the combined column to `multiple` times `column`, which enters.
+fn begin_combined(
+    combined: &mut Column,
+    columns: &[Column],
+    column: usize,
+    multiple: u64,
+) -> Result<(), GaveUp>
     requires column { column < length columns.now }
-    requires low { multiple < 2 ^ 63 }
-    ensures { OnTrue result (combined.new ≡ multiple_of_terms (pos multiple) (slice_index_or columns.now column [])) }
+    requires low { multiple < signed_limit }
+    ensures { OnOk result (combined.new ≡ multiple_of_terms (pos multiple) (slice_index_or columns.now column [])) }
 {
     combined.clear();
     combined.add_multiple(&columns[column], multiple as i64)
 }
 
 /// Sets the combined column to the one at which a row that stays behind has `multiple` times the number that it would have at `column`
-/// if it were up to date; `false` if a number is too large or allocation fails.
+/// if it were up to date.
 pub fn combine_columns(
     combined: &mut Column,
     columns: &[Column],
@@ -170,26 +182,22 @@ pub fn combine_columns(
     entries: &[i64],
     column: usize,
     multiple: u64,
-) -> bool
+) -> Result<(), GaveUp>
     requires column { column < length columns.now }
     requires rows { length block.now.basis.now ≤ length block.now.rows.now }
     requires order { AreMovedInOrder block.now.moved.now (length block.now.basis.now) block.now.order.now }
     requires entered { HaveEntered columns.now block.now.basis.now block.now.moved.now }
     requires entries { length block.now.basis.now ≤ length entries.now }
-    requires some { (i : ℕ) → i < length block.now.rows.now → 0 < (whole_row_at block.now.rows.now i).bottom }
-    requires low { multiple < 2 ^ 63 }
-    ensures { OnTrue result (combined.new ≡ column_behind columns.now block.now.rows.now block.now.basis.now block.now.moved.now entries.now multiple column) }
+    requires some { (i : ℕ) → i < length block.now.rows.now → 0 < (whole_row_at block.now.rows.now i).denominator }
+    requires low { multiple < signed_limit }
+    ensures { OnOk result (combined.new ≡ column_behind columns.now block.now.rows.now block.now.basis.now block.now.moved.now entries.now multiple column) }
 {
-    if !begin_combined(combined, columns, column, multiple) {
-        return false;
-    }
+    begin_combined(combined, columns, column, multiple)?;
     for k in 0..block.order.len() {
         let q = row_at(block.order, k);
-        if !less_moved(combined, columns, block, entries, q, multiple) {
-            return false;
-        }
+        less_moved(combined, columns, block, entries, q, multiple)?;
     }
-    true
+    Ok(())
 }
 
 /// Whether there is a `best` row so far, and its basic column isn't above that of row `i`.

@@ -6,6 +6,7 @@ ghost use Rattle.std.specs.Option.{IfSome};
 ghost use Rattle.it_space.specs.Rows.{coefficient};
 ghost use Rattle.it_tableau.specs.Problems.{IsAscending};
 ghost use Rattle.it_engine.specs.Loading.{right_size, right_sum, AreReadColumns, AreReadRows, IsColumnOf, IsNorm, IsReadRow, IsTermPut};
+ghost use Rattle.it_number.specs.Limit.{signed_limit};
 
 use it_space::Row;
 use it_tableau::{keeps_sign, place_of};
@@ -18,7 +19,7 @@ const LARGEST: u64 = i64::MAX as u64;
 
 /// `number`, negated unless `kept`; `None` if it is above `limit` in absolute value.
 fn signed_number(number: i128, kept: bool, limit: u64) -> Option<i64>
-    requires { limit < 2 ^ 63 }
+    requires { limit < signed_limit }
     ensures { IfSome result (λ z. (z ≡ cond kept number (neg_ℤ number)) × (unsigned_abs z ≤ limit)) }
 {
     let short = narrow(number, limit)?;
@@ -133,7 +134,7 @@ pub fn norm(columns: &[Column]) -> Option<u64>
 /// The right side of row `k`, which is the absolute value of the target's coefficient; `None` if it is above `limit`.
 fn right_side(coordinates: &[u32], target: &Row, k: usize, limit: u64) -> Option<u64>
     requires row { k < length coordinates.now }
-    requires limit { limit < 2 ^ 63 }
+    requires limit { limit < signed_limit }
     ensures { IfSome result (λ right. (right ≡ right_size coordinates.now target.now k) × (right ≤ limit)) }
 {
     let size = narrow(target.coefficient(coordinates[k]), limit)?;
@@ -142,7 +143,7 @@ fn right_side(coordinates: &[u32], target: &Row, k: usize, limit: u64) -> Option
 
 /// The sum of the right sides; `None` if it is above `limit`.
 fn sum_of_rights(coordinates: &[u32], target: &Row, limit: u64) -> Option<u64>
-    requires { limit < 2 ^ 63 }
+    requires { limit < signed_limit }
     ensures { IfSome result (λ sum. (sum ≡ right_sum coordinates.now target.now (length coordinates.now)) × (sum ≤ limit)) }
 {
     let mut sum: u64 = 0;
@@ -162,7 +163,7 @@ fn equal_numbers(alloc: Global, number: i64, count: usize) -> Result<Vec<i64>, A
 
 /// `size` as a signed number.
 fn signed(size: u64) -> i64
-    requires { size < 2 ^ 63 }
+    requires { size < signed_limit }
     ensures { result ≡ pos size }
 {
     size as i64
@@ -170,7 +171,7 @@ fn signed(size: u64) -> i64
 
 /// -`size`.
 fn negated(size: u64) -> i64
-    requires { size < 2 ^ 63 }
+    requires { size < signed_limit }
     ensures { result ≡ neg_ℤ (pos size) }
 {
     -(size as i64)
@@ -185,7 +186,7 @@ fn unit_row(
     limit: u64,
 ) -> Result<Option<WholeRow>, AllocError>
     requires row { k < length coordinates.now }
-    requires limit { limit < 2 ^ 63 }
+    requires limit { limit < signed_limit }
     requires some { 1 ≤ limit }
     ensures { IfOk result (λ o. IfSome o (λ row. IsReadRow coordinates.now target.now limit k row)) }
 {
@@ -209,7 +210,7 @@ fn cost_row(
 ) -> Result<WholeRow, AllocError>
     requires sum { sum ≡ right_sum coordinates.now target.now (length coordinates.now) }
     requires within { sum ≤ limit }
-    requires limit { limit < 2 ^ 63 }
+    requires limit { limit < signed_limit }
     requires some { 1 ≤ limit }
     ensures { IfOk result (λ row. IsReadRow coordinates.now target.now limit (length coordinates.now) row) }
 {
@@ -227,7 +228,7 @@ pub fn rows(
     limit: u64,
 ) -> Result<Option<Vec<WholeRow>>, AllocError>
     requires height { length coordinates.now < 2 ^ 16 }
-    requires limit { limit < 2 ^ 63 }
+    requires limit { limit < signed_limit }
     requires some { 1 ≤ limit }
     ensures rows { IfOk result (λ o. IfSome o (λ rows. AreReadRows coordinates.now target.now limit (length coordinates.now + 1) rows.items)) }
     ensures rights { IfOk result (λ o. IfSome o (λ rows. right_sum coordinates.now target.now (length coordinates.now) ≤ limit)) }

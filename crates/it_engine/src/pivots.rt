@@ -1,51 +1,58 @@
 //! The pivot.
-ghost use Rattle.std.specs.Prelude.{◌≡◌, ◌≢◌, ℕ, ◌+◌, ◌<◌, ◌^◌, ◌≤ℤ◌, pos, length, Some};
+ghost use Rattle.std.specs.Prelude.{◌≡◌, ◌≢◌, ℕ, ◌+◌, ◌<◌, ◌≤ℤ◌, pos, length, Some};
 ghost use Rattle.std.specs.Bool.{OnTrue};
 ghost use Rattle.std.specs.Option.{IfSome};
 ghost use Rattle.it_engine.specs.Choosing.{best_row, entry_of};
 ghost use Rattle.it_vectors.specs.Sizes.{AreShort, IsShort};
 ghost use Rattle.it_vectors.specs.Places.{AreNextPlaces};
 ghost use Rattle.it_whole.specs.WholeRows.{IsUsable};
-ghost use Rattle.it_whole.specs.Updates.{IsQuotient};
+ghost use Rattle.it_whole.specs.Updates.{IsLeaving, IsQuotient};
 ghost use Rattle.it_engine.specs.Behind.{AreNullElsewhere};
+ghost use Rattle.it_engine.specs.Engine.{HasSpace};
 ghost use Rattle.it_engine.specs.Tables.{whole_row_at};
 ghost use Rattle.it_engine.specs.PivotedRows.{AreWholeRowsPivoted, AreUsable, IsFitting, IsRowUpdated};
 ghost use Rattle.it_space.specs.Sums.{number_at};
+ghost use Rattle.it_number.specs.Limit.{signed_limit};
 
+use crate::blocks::{Run, Scratch};
 use crate::choice::{leaving_row, note_entries};
 use it_vectors::read;
-use it_whole::{Column, WholeRow};
+use it_whole::{Column, Leaving, WholeRow};
 use std::alloc::Global;
 
 /// Makes the column at which the rows have the given `entries` basic in row `r`; `false` if a number would be too large, and then
-/// nothing is known of the rows. `next` is space for one number more than a row has, `room` is space for a row.
+/// nothing is known of the rows.
 pub fn pivot(
-    alloc: Global,
     rows: &mut [WholeRow],
-    next: &mut [usize],
-    room: &mut [i64],
+    run: &Run<'_>,
+    scratch: &mut Scratch,
     entries: &[i64],
     r: usize,
-    limit: u64,
 ) -> bool
     requires row { r < length rows.old }
-    requires rows { AreUsable (length rows.old) limit rows.old }
-    requires next { length next.old ≡ length rows.old + 1 }
-    requires room { length room.old ≡ length rows.old }
+    requires rows { AreUsable (length rows.old) run.now.limit rows.old }
+    requires scratch { HasSpace (length rows.old) scratch.old }
     requires entries { length entries.now ≡ length rows.old }
     requires short { AreShort entries.now }
     requires positive { pos 1 ≤ℤ number_at entries.now r }
-    requires limit { limit < 2 ^ 63 }
-    ensures pivoted { OnTrue result (AreWholeRowsPivoted (length rows.old) limit rows.old (number_at entries.now) r rows.new) }
-    ensures next { length next.new ≡ length next.old }
-    ensures room { length room.new ≡ length room.old }
+    requires limit { run.now.limit < signed_limit }
+    ensures pivoted { OnTrue result (AreWholeRowsPivoted (length rows.old) run.now.limit rows.old (number_at entries.now) r rows.new) }
+    ensures scratch { HasSpace (length rows.old) scratch.new }
 {
-    let own = take_divided(alloc, rows, entries, r);
+    let own = take_divided(run.alloc, rows, entries, r);
     let p = own.unit();
+    let next = scratch.next.as_mut_slice();
+    let room = scratch.room.as_mut_slice();
     let noted = own.note_places(next);
+    let leaving = Leaving {
+        row: &own,
+        entry: p,
+        next,
+        noted,
+    };
     // by index, since the invariant is about the rows before i and those from i on
     for i in 0..rows.len() {
-        if i != r && !update_row(rows, &own, next, noted, room, entries, i, p, limit) {
+        if i != r && !update_row(rows, &leaving, room, entries, i, run.limit) {
             return false;
         }
     }
@@ -69,72 +76,71 @@ fn take_divided(alloc: Global, rows: &mut [WholeRow], entries: &[i64], r: usize)
     taken.divided_by(read(entries, r))
 }
 
-/// Updates row `i` in a step in which `own` leaves, whose entry at the entering column is `pivot`; `false` if a number would be too
-/// large, and then nothing is known of the row. If `noted`, `next` has the next places where `own` isn't 0; `room` is space for a row.
+/// Updates row `i` in a step in which `leaving` leaves; `false` if a number would be too large, and then nothing is known of the row.
+/// `entries` has the entries of all rows at the entering column, and `room` is space for a row.
 #[inline(always)]
 fn update_row(
     rows: &mut [WholeRow],
-    own: &WholeRow,
-    next: &[usize],
-    noted: bool,
+    leaving: &Leaving<'_>,
     room: &mut [i64],
     entries: &[i64],
     i: usize,
-    pivot: i64,
     limit: u64,
 ) -> bool
     requires i { i < length rows.old }
     requires entries { i < length entries.now }
     requires short { IsShort (number_at entries.now i) }
-    requires row { IsUsable (length own.now.numbers) limit (whole_row_at rows.old i) }
-    requires own { IsUsable (length own.now.numbers) limit own.now }
-    requires places { OnTrue noted (AreNextPlaces own.now.numbers next.now) }
-    requires room { length room.old ≡ length own.now.numbers }
-    requires pivot { pos 1 ≤ℤ pivot }
-    requires limit { limit < 2 ^ 63 }
+    requires row { IsUsable (length leaving.now.row.now.numbers) limit (whole_row_at rows.old i) }
+    requires leaving { IsLeaving limit leaving.now.row.now leaving.now.entry }
+    requires places { OnTrue leaving.now.noted (AreNextPlaces leaving.now.row.now.numbers leaving.now.next.now) }
+    requires room { length room.old ≡ length leaving.now.row.now.numbers }
     ensures room { length room.new ≡ length room.old }
     ensures length { length rows.new ≡ length rows.old }
-    ensures updated { OnTrue result (IsRowUpdated limit rows.old entries.now own.now pivot i rows.new) }
+    ensures updated { OnTrue result (IsRowUpdated limit rows.old entries.now leaving.now.row.now leaving.now.entry i rows.new) }
     ensures others { (k : ℕ) → k ≢ i → whole_row_at rows.new k ≡ whole_row_at rows.old k }
 {
-    rows[i].update(own, next, noted, room, read(entries, i), pivot, limit)
+    rows[i].update(leaving, read(entries, i), room, limit)
 }
 
 /// Like `pivot`, where all `entries` are 0 but those of the last row and of the rows listed, in ascending order, in `order`.
 pub fn pivot_moved(
-    alloc: Global,
     rows: &mut [WholeRow],
+    run: &Run<'_>,
     order: &[usize],
-    next: &mut [usize],
-    room: &mut [i64],
+    scratch: &mut Scratch,
     entries: &[i64],
     r: usize,
-    limit: u64,
 ) -> bool
     requires row { r + 1 < length rows.old }
     requires elsewhere { (height : ℕ) → length rows.old ≡ height + 1 → AreNullElsewhere entries.now height order.now }
-    requires rows { AreUsable (length rows.old) limit rows.old }
-    requires next { length next.old ≡ length rows.old + 1 }
-    requires room { length room.old ≡ length rows.old }
+    requires rows { AreUsable (length rows.old) run.now.limit rows.old }
+    requires scratch { HasSpace (length rows.old) scratch.old }
     requires entries { length entries.now ≡ length rows.old }
     requires short { AreShort entries.now }
     requires positive { pos 1 ≤ℤ number_at entries.now r }
-    requires limit { limit < 2 ^ 63 }
-    ensures pivoted { OnTrue result (AreWholeRowsPivoted (length rows.old) limit rows.old (number_at entries.now) r rows.new) }
-    ensures next { length next.new ≡ length next.old }
-    ensures room { length room.new ≡ length room.old }
+    requires limit { run.now.limit < signed_limit }
+    ensures pivoted { OnTrue result (AreWholeRowsPivoted (length rows.old) run.now.limit rows.old (number_at entries.now) r rows.new) }
+    ensures scratch { HasSpace (length rows.old) scratch.new }
 {
-    let own = take_divided(alloc, rows, entries, r);
+    let own = take_divided(run.alloc, rows, entries, r);
     let p = own.unit();
+    let next = scratch.next.as_mut_slice();
+    let room = scratch.room.as_mut_slice();
     let noted = own.note_places(next);
+    let leaving = Leaving {
+        row: &own,
+        entry: p,
+        next,
+        noted,
+    };
     for k in 0..order.len() {
         let i = order[k];
-        if i != r && !update_row(rows, &own, next, noted, room, entries, i, p, limit) {
+        if i != r && !update_row(rows, &leaving, room, entries, i, run.limit) {
             return false;
         }
     }
     let last = rows.len() - 1;
-    if !update_row(rows, &own, next, noted, room, entries, last, p, limit) {
+    if !update_row(rows, &leaving, room, entries, last, run.limit) {
         return false;
     }
     rows[r] = own;
@@ -142,35 +148,30 @@ pub fn pivot_moved(
 }
 
 /// Makes `column` basic in the leaving row, and returns that row; `None` if no row leaves, or if a number would be too large, and then
-/// nothing is known of the rows. `next` is space for one number more than a row has, `room` for a row, and `entries` for a number for
-/// each row.
+/// nothing is known of the rows. `entries` is space for a number for each row.
 pub fn enter(
-    alloc: Global,
     rows: &mut [WholeRow],
+    run: &Run<'_>,
     basis: &[usize],
-    next: &mut [usize],
-    room: &mut [i64],
+    scratch: &mut Scratch,
     entries: &mut [i64],
     column: &Column,
-    limit: u64,
 ) -> Option<usize>
     requires height { length rows.old ≡ length basis.now + 1 }
-    requires rows { AreUsable (length rows.old) limit rows.old }
-    requires next { length next.old ≡ length rows.old + 1 }
-    requires room { length room.old ≡ length rows.old }
+    requires rows { AreUsable (length rows.old) run.now.limit rows.old }
+    requires scratch { HasSpace (length rows.old) scratch.old }
     requires entries { length entries.old ≡ length rows.old }
-    requires column { IsFitting (length rows.old) limit column.now }
-    requires limit { limit < 2 ^ 63 }
+    requires column { IsFitting (length rows.old) run.now.limit column.now }
+    requires limit { run.now.limit < signed_limit }
     ensures leaves { IfSome result (λ r. best_row column.now rows.old basis.now (length basis.now) ≡ Some r) }
     ensures within { IfSome result (λ r. r < length basis.now) }
-    ensures pivoted { IfSome result (λ r. AreWholeRowsPivoted (length rows.old) limit rows.old (entry_of column.now rows.old) r rows.new) }
-    ensures next { length next.new ≡ length next.old }
-    ensures room { length room.new ≡ length room.old }
+    ensures pivoted { IfSome result (λ r. AreWholeRowsPivoted (length rows.old) run.now.limit rows.old (entry_of column.now rows.old) r rows.new) }
+    ensures scratch { HasSpace (length rows.old) scratch.new }
     ensures entries { length entries.new ≡ length entries.old }
 {
     note_entries(column, rows, entries);
     let row = leaving_row(entries, rows, basis)?;
-    if pivot(alloc, rows, next, room, entries, row, limit) {
+    if pivot(rows, run, scratch, entries, row) {
         Some(row)
     } else {
         None

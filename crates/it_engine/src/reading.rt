@@ -16,18 +16,18 @@ use std::alloc::{AllocError, Global};
 /// The number at place `k` of `row` over the row's denominator.
 fn fraction(row: &WholeRow, k: usize) -> Fraction
     requires place { k < length row.now.numbers }
-    requires some { 0 < row.now.bottom }
-    ensures { result ≡ quotient (number_at row.now.numbers k) row.now.bottom }
+    requires some { 0 < row.now.denominator }
+    ensures { result ≡ quotient (number_at row.now.numbers k) row.now.denominator }
 {
-    Fraction::lowest(i128::from(row.number(k)), i128::from(row.bottom()))
+    Fraction::lowest(i128::from(row.number(k)), i128::from(row.denominator()))
 }
 
 /// The number at place `k` of row `i` over the row's denominator.
 fn fraction_at(rows: &[WholeRow], i: usize, k: usize) -> Fraction
     requires row { i < length rows.now }
     requires place { k < length (whole_row_at rows.now i).numbers }
-    requires some { 0 < (whole_row_at rows.now i).bottom }
-    ensures { result ≡ quotient (right_side_of k rows.now i) (whole_row_at rows.now i).bottom }
+    requires some { 0 < (whole_row_at rows.now i).denominator }
+    ensures { result ≡ quotient (right_side_of k rows.now i) (whole_row_at rows.now i).denominator }
 {
     fraction(&rows[i], k)
 }

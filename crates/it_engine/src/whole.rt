@@ -11,7 +11,7 @@ use crate::reading::{point, weights};
 use it_run::Solved;
 use it_space::Row;
 use it_tableau::{artificials, ascends};
-use it_whole::Column;
+use it_whole::{Column, GaveUp};
 use std::alloc::{AllocError, Global};
 
 /// The largest number of the engine, 2^63 - 1.
@@ -27,38 +27,50 @@ const FEW_ROWS: usize = 64;
 /// than the sparse table of fractions.
 const MOST_ROWS: usize = 1 << 12;
 
-/// Makes the run of `engine`, and reads off its answer. `None` if a number would be above `limit` or allocation fails in the run.
+/// What a run is asked.
+#[derive(Drop)]
+struct Task<'a> {
+    /// The coordinates of the question.
+    coordinates: &'a [u32],
+    /// The row that is to be shown at least 0.
+    target: &'a Row,
+    /// The columns of the start but the artificial ones.
+    columns: &'a [Column],
+    /// The most steps; `None` if there is no budget.
+    budget: Option<u32>,
+}
+
+/// Makes the run of `engine`, and reads off its answer. `None` if a number would be above `limit`.
 fn answer(
     alloc: Global,
-    coordinates: &[u32],
-    target: &Row,
-    columns: &[Column],
+    task: &Task<'_>,
     limit: u64,
     engine: Engine,
-    budget: Option<u32>,
 ) -> Result<Option<Solved>, AllocError>
-    requires height { length engine.basis ≡ length coordinates.now }
-    requires engine { IsSafe columns.now limit engine.rows engine.basis }
-    requires stands { RepresentsSome columns.now limit engine.rows engine.basis }
-    ensures { IfOk result (λ o. IfSome o (λ solved. AnswersFrom coordinates.now target.now columns.now limit engine budget solved)) }
+    requires height { length engine.basis ≡ length task.now.coordinates.now }
+    requires engine { IsSafe task.now.columns.now limit engine.rows engine.basis }
+    requires stands { RepresentsSome task.now.columns.now limit engine.rows engine.basis }
+    ensures { IfOk result (λ o. IfSome o (λ solved. AnswersFrom
+        task.now.coordinates.now task.now.target.now task.now.columns.now limit engine task.now.budget solved)) }
 {
     let mut engine = engine;
-    match engine.run(columns, limit, budget) {
-        Some(EngineEnd::Weights) => Ok(Some(Solved::Weights(weights(
+    match engine.run(task.columns, limit, task.budget) {
+        Ok(EngineEnd::Weights) => Ok(Some(Solved::Weights(weights(
             alloc,
-            columns,
+            task.columns,
             engine.rows(),
             engine.basis(),
         )?))),
-        Some(EngineEnd::Point) => Ok(Some(Solved::Point(point(
+        Ok(EngineEnd::Point) => Ok(Some(Solved::Point(point(
             alloc,
-            coordinates,
-            target,
+            task.coordinates,
+            task.target,
             engine.rows(),
             engine.basis(),
         )?))),
-        Some(EngineEnd::Pivots(steps)) => Ok(Some(Solved::Pivots(steps))),
-        None => Ok(None),
+        Ok(EngineEnd::Pivots(steps)) => Ok(Some(Solved::Pivots(steps))),
+        Err(GaveUp::TooLarge) => Ok(None),
+        Err(GaveUp::Memory) => Err(AllocError),
     }
 }
 
@@ -74,28 +86,25 @@ fn narrow_limit(limit: u64) -> u64
     }
 }
 
-/// The answer of the run in 32 bits. `None` if a number would be larger, if allocation fails in the run, or if the rows are so few
-/// that rows in 64 bits are as fast.
+/// The answer of the run in 32 bits. `None` if a number would be larger, or if the rows are so few that rows in 64 bits are as fast.
 fn narrow_answer(
     alloc: Global,
-    coordinates: &[u32],
-    target: &Row,
-    columns: &[Column],
+    task: &Task<'_>,
     limit: u64,
     engine: &Engine,
-    budget: Option<u32>,
 ) -> Result<Option<Solved>, AllocError>
-    requires height { length engine.now.basis ≡ length coordinates.now }
-    requires engine { IsSafe columns.now limit engine.now.rows engine.now.basis }
-    requires stands { RepresentsSome columns.now limit engine.now.rows engine.now.basis }
-    ensures { IfOk result (λ o. IfSome o (λ solved. AnswersFrom coordinates.now target.now columns.now limit engine.now budget solved)) }
+    requires height { length engine.now.basis ≡ length task.now.coordinates.now }
+    requires engine { IsSafe task.now.columns.now limit engine.now.rows engine.now.basis }
+    requires stands { RepresentsSome task.now.columns.now limit engine.now.rows engine.now.basis }
+    ensures { IfOk result (λ o. IfSome o (λ solved. AnswersFrom
+        task.now.coordinates.now task.now.target.now task.now.columns.now limit engine.now task.now.budget solved)) }
 {
     if engine.basis().len() < FEW_ROWS {
         return Ok(None);
     }
     let lower = narrow_limit(limit);
     match engine.narrowed(lower)? {
-        Some(narrow) => answer(alloc, coordinates, target, columns, lower, narrow, budget),
+        Some(narrow) => answer(alloc, task, lower, narrow),
         None => Ok(None),
     }
 }
@@ -103,21 +112,19 @@ fn narrow_answer(
 /// The answer of the run in 32 bits, or where that gives up, of the run in 64. `None` if that gives up too.
 fn answer_by_width(
     alloc: Global,
-    coordinates: &[u32],
-    target: &Row,
-    columns: &[Column],
+    task: &Task<'_>,
     limit: u64,
     engine: Engine,
-    budget: Option<u32>,
 ) -> Result<Option<Solved>, AllocError>
-    requires height { length engine.basis ≡ length coordinates.now }
-    requires engine { IsSafe columns.now limit engine.rows engine.basis }
-    requires stands { RepresentsSome columns.now limit engine.rows engine.basis }
-    ensures { IfOk result (λ o. IfSome o (λ solved. AnswersFrom coordinates.now target.now columns.now limit engine budget solved)) }
+    requires height { length engine.basis ≡ length task.now.coordinates.now }
+    requires engine { IsSafe task.now.columns.now limit engine.rows engine.basis }
+    requires stands { RepresentsSome task.now.columns.now limit engine.rows engine.basis }
+    ensures { IfOk result (λ o. IfSome o (λ solved. AnswersFrom
+        task.now.coordinates.now task.now.target.now task.now.columns.now limit engine task.now.budget solved)) }
 {
-    match narrow_answer(alloc, coordinates, target, columns, limit, &engine, budget)? {
+    match narrow_answer(alloc, task, limit, &engine)? {
         Some(solved) => Ok(Some(solved)),
-        None => answer(alloc, coordinates, target, columns, limit, engine, budget),
+        None => answer(alloc, task, limit, engine),
     }
 }
 
@@ -163,7 +170,7 @@ fn read_start(
 
 /// Makes the run from the start of a question, with `budget` as the most steps or without a budget, and returns the answer read off its
 /// last table. `None` if it can't be made on whole numbers below 2^63, since the start has a larger one or a step would form one; if
-/// the table has too many rows; if `coordinates` don't ascend; or if allocation fails in the run.
+/// the table has too many rows; or if `coordinates` don't ascend.
 pub fn whole_run(
     alloc: Global,
     coordinates: &[u32],
@@ -181,15 +188,13 @@ pub fn whole_run(
         limit,
         engine,
     } = start;
-    answer_by_width(
-        alloc,
+    let task = Task {
         coordinates,
         target,
-        columns.as_slice(),
-        limit,
-        engine,
+        columns: columns.as_slice(),
         budget,
-    )
+    };
+    answer_by_width(alloc, &task, limit, engine)
 }
 
 /// Like `whole_run`, with rows in 32 bits only: `None` also if a number doesn't fit these, or if the rows are so few that rows in 64
@@ -211,13 +216,11 @@ pub fn narrow_run(
         limit,
         engine,
     } = start;
-    narrow_answer(
-        alloc,
+    let task = Task {
         coordinates,
         target,
-        columns.as_slice(),
-        limit,
-        &engine,
+        columns: columns.as_slice(),
         budget,
-    )
+    };
+    narrow_answer(alloc, &task, limit, &engine)
 }

@@ -7,10 +7,10 @@ ghost use Rattle.it_space.specs.Spaces.{size_of};
 ghost use Rattle.it_best.specs.Factors.{HasNoFactor, IsPoint, ground_of};
 ghost use Rattle.it_best.specs.PhaseSteps.{AreSides};
 
+use crate::types::Sides;
 use it_check::{Verdict, check_no};
 use it_columns::opposite_row;
 use it_fraction::{Wide, difference, signed_product};
-use it_problems::Problem;
 use it_space::{Point, Row, RowFault, value};
 use std::alloc::{AllocError, Global};
 
@@ -41,21 +41,21 @@ fn combined_values(
     Ok(values)
 }
 
-/// `point`, if the left side is 0 there and the check finds that it meets the problem and that the right side is above 0. `turned` is
+/// `point`, if the left side is 0 there and the check finds that it meets the problem and that the right side is above 0. `negated` is
 /// the negation of the right side's row.
-fn judged(problem: &Problem, left: &Row, right: &Row, turned: &Row, point: Point) -> Option<Point>
-    requires sides { AreSides problem.now left.now right.now }
-    requires turned { turned.now ≡ negated_terms right.now }
-    requires complete { length point ≡ size_of problem.now.space }
-    ensures { IfSome result (HasNoFactor (ground_of problem.now) (value left.now) (value right.now)) }
+fn judged(sides: &Sides<'_>, negated: &Row, point: Point) -> Option<Point>
+    requires sides { AreSides sides.now.problem.now sides.now.left.now sides.now.right.now }
+    requires negated { negated.now ≡ negated_terms sides.now.right.now }
+    requires complete { length point ≡ size_of sides.now.problem.now.space }
+    ensures { IfSome result (HasNoFactor (ground_of sides.now.problem.now) (value sides.now.left.now) (value sides.now.right.now)) }
 {
-    let Ok(zero) = value(left, &point) else {
+    let Ok(zero) = value(sides.left, &point) else {
         return None;
     };
     if zero != 0 {
         return None;
     }
-    match check_no(problem, turned, &point) {
+    match check_no(sides.problem, negated, &point) {
         Verdict::Valid => Some(point),
         _ => None,
     }
@@ -65,21 +65,19 @@ fn judged(problem: &Problem, left: &Row, right: &Row, turned: &Row, point: Point
 /// below 0, so that it is 0 at the sum. None where a number passes the limit, or the right side isn't above 0 there.
 pub fn joined(
     alloc: Global,
-    problem: &Problem,
-    left: &Row,
-    right: &Row,
+    sides: &Sides<'_>,
     above: &Point,
     below: &Point,
 ) -> Result<Option<Point>, AllocError>
-    requires sides { AreSides problem.now left.now right.now }
-    requires above { IsPoint (ground_of problem.now) above.now }
-    requires below { IsPoint (ground_of problem.now) below.now }
-    ensures { IfOk result (λ o. IfSome o (HasNoFactor (ground_of problem.now) (value left.now) (value right.now))) }
+    requires sides { AreSides sides.now.problem.now sides.now.left.now sides.now.right.now }
+    requires above { IsPoint (ground_of sides.now.problem.now) above.now }
+    requires below { IsPoint (ground_of sides.now.problem.now) below.now }
+    ensures { IfOk result (λ o. IfSome o (HasNoFactor (ground_of sides.now.problem.now) (value sides.now.left.now) (value sides.now.right.now))) }
 {
-    let Ok(more) = value(left, above) else {
+    let Ok(more) = value(sides.left, above) else {
         return Ok(None);
     };
-    let Ok(less) = value(left, below) else {
+    let Ok(less) = value(sides.left, below) else {
         return Ok(None);
     };
     let values = match combined_values(alloc, more, below, less, above) {
@@ -87,10 +85,10 @@ pub fn joined(
         Err(RowFault::Wide) => return Ok(None),
         Err(RowFault::Memory) => return Err(AllocError),
     };
-    if values.len() != problem.size() as usize {
+    if values.len() != sides.problem.size() as usize {
         return Ok(None);
     }
-    let turned = opposite_row(alloc, right)?;
-    let point = Point::new(problem.space(), values);
-    Ok(judged(problem, left, right, &turned, point))
+    let negated = opposite_row(alloc, sides.right)?;
+    let point = Point::new(sides.problem.space(), values);
+    Ok(judged(sides, &negated, point))
 }

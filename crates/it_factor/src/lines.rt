@@ -1,42 +1,21 @@
 //! The lines of mode `best`.
 ghost use Rattle.std.specs.Prelude.{◌≡◌, ◌≤◌, ◌++◌, length, codes, decimal, IfOk, OnOk};
 ghost use Rattle.std.specs.Fmt.{signed_decimal};
-ghost use Rattle.it_question.specs.Questions.{question_body};
-ghost use Rattle.it_question.specs.ProblemLines.{problem_names};
-ghost use Rattle.it_canon.specs.TrueLines.{variable_count};
 ghost use Rattle.it_print.specs.Lines.{origins_of, values_text};
+ghost use Rattle.it_print.specs.PosedQuestions.{IsCertificateOf, names_of, posed_origins};
 ghost use Rattle.it_ratio.specs.BestViews.{best_view};
-ghost use Rattle.it_factor.specs.Lines.{AreValuesOf, IsBestPrintable, IsPrintable, IsThere, best_cause_text, best_line, reply_line};
-ghost use Rattle.it_factor.specs.LineSteps.{least_line, proof_text, proven_factor_text, unbounded_line};
+ghost use Rattle.it_factor.specs.Lines.{AreValuesOf, IsBestPrintable, IsPrintable, best_cause_text, best_line, reply_line};
+ghost use Rattle.it_factor.specs.LineSteps.{least_line, proven_factor_text, unbounded_line};
 ghost use Rattle.it_factor.specs.Replies.{reply_view};
 
 use crate::types::Reply;
 use it_canon::problem_names;
-use it_print::{sum_text, values_text, write_number, write_signed};
+use it_print::{PosedQuestion, values_text, write_number, write_proof, write_signed};
 use it_problems::Constraint;
 use it_question::types::Question;
 use it_ratio::types::{Best, BestCause};
 use it_space::{Certificate, Point};
 use std::alloc::{AllocError, Global};
-
-/// Appends a certificate: its scale and its sum.
-#[tactic(auto, unfolding(it_print::specs::Lines::certificate_text))]
-fn write_proof(
-    alloc: Global,
-    out: &mut Vec<u8>,
-    question: &Question,
-    constraints: &[Constraint],
-    proof: &Certificate,
-) -> Result<(), AllocError>
-    requires some { 1 ≤ variable_count (question_body question.now) }
-    requires there { IsThere (variable_count (question_body question.now)) (length constraints.now) proof.now }
-    ensures { OnOk result (out.new.items ≡ out.old.items ++ proof_text (question_body question.now) constraints.now proof.now) }
-{
-    write_signed(out, proof.scale)?;
-    out.extend_from_slice(b" : ")?;
-    let sum = sum_text(alloc, question, constraints, proof)?;
-    out.extend_from_slice(sum.as_slice())
-}
 
 /// Appends a factor, `num`/`den`.
 fn write_ratio(out: &mut Vec<u8>, num: i128, den: i128) -> Result<(), AllocError>
@@ -52,43 +31,38 @@ fn write_ratio(out: &mut Vec<u8>, num: i128, den: i128) -> Result<(), AllocError
 fn write_factor(
     alloc: Global,
     out: &mut Vec<u8>,
-    question: &Question,
-    constraints: &[Constraint],
+    posed: &PosedQuestion<'_>,
     num: i128,
     den: i128,
     proof: &Certificate,
 ) -> Result<(), AllocError>
-    requires some { 1 ≤ variable_count (question_body question.now) }
-    requires there { IsThere (variable_count (question_body question.now)) (length constraints.now) proof.now }
-    ensures { OnOk result (out.new.items ≡ out.old.items ++ proven_factor_text (question_body question.now) constraints.now num den proof.now) }
+    requires there { IsCertificateOf posed.now proof.now }
+    ensures { OnOk result (out.new.items ≡ out.old.items ++ proven_factor_text posed.now num den proof.now) }
 {
     write_ratio(out, num, den)?;
     out.extend_from_slice(b" ")?;
-    write_proof(alloc, out, question, constraints, proof)
+    write_proof(alloc, out, posed, proof)
 }
 
 /// The line of a least factor.
 fn least_line(
     alloc: Global,
-    k: usize,
-    question: &Question,
-    constraints: &[Constraint],
+    posed: &PosedQuestion<'_>,
     num: i128,
     den: i128,
     proof: &Certificate,
     point: &Point,
 ) -> Result<Vec<u8>, AllocError>
-    requires some { 1 ≤ variable_count (question_body question.now) }
-    requires there { IsThere (variable_count (question_body question.now)) (length constraints.now) proof.now }
-    requires point { AreValuesOf (problem_names (question_body question.now)) point.now }
-    ensures { IfOk result (λ t. t.items ≡ least_line (question_body question.now) constraints.now k num den proof.now point.now) }
+    requires there { IsCertificateOf posed.now proof.now }
+    requires point { AreValuesOf (names_of posed.now) point.now }
+    ensures { IfOk result (λ t. t.items ≡ least_line posed.now num den proof.now point.now) }
 {
     let mut out = Vec::new(alloc);
-    write_number(&mut out, k)?;
+    write_number(&mut out, posed.number)?;
     out.extend_from_slice(b" best ")?;
-    write_factor(alloc, &mut out, question, constraints, num, den, proof)?;
+    write_factor(alloc, &mut out, posed, num, den, proof)?;
     out.extend_from_slice(b" at ")?;
-    let values = values_text(alloc, problem_names(question), point)?;
+    let values = values_text(alloc, problem_names(posed.question), point)?;
     out.extend_from_slice(values.as_slice())?;
     out.extend_from_slice(b"\n")?;
     Ok(out)
@@ -97,17 +71,16 @@ fn least_line(
 /// The line where there is no factor.
 fn never_line(
     alloc: Global,
-    k: usize,
-    question: &Question,
+    posed: &PosedQuestion<'_>,
     point: &Point,
 ) -> Result<Vec<u8>, AllocError>
-    requires { AreValuesOf (problem_names (question_body question.now)) point.now }
-    ensures { IfOk result (λ t. t.items ≡ decimal k ++ codes " none " ++ values_text (problem_names (question_body question.now)) point.now ++ codes "\n") }
+    requires { AreValuesOf (names_of posed.now) point.now }
+    ensures { IfOk result (λ t. t.items ≡ decimal posed.now.number ++ codes " none " ++ values_text (names_of posed.now) point.now ++ codes "\n") }
 {
     let mut out = Vec::new(alloc);
-    write_number(&mut out, k)?;
+    write_number(&mut out, posed.number)?;
     out.extend_from_slice(b" none ")?;
-    let values = values_text(alloc, problem_names(question), point)?;
+    let values = values_text(alloc, problem_names(posed.question), point)?;
     out.extend_from_slice(values.as_slice())?;
     out.extend_from_slice(b"\n")?;
     Ok(out)
@@ -116,25 +89,22 @@ fn never_line(
 /// The line where there is no least factor.
 fn unbounded_line(
     alloc: Global,
-    k: usize,
-    question: &Question,
-    constraints: &[Constraint],
+    posed: &PosedQuestion<'_>,
     num: i128,
     den: i128,
     proof: &Certificate,
     below: &Certificate,
 ) -> Result<Vec<u8>, AllocError>
-    requires some { 1 ≤ variable_count (question_body question.now) }
-    requires there { IsThere (variable_count (question_body question.now)) (length constraints.now) proof.now }
-    requires below { IsThere (variable_count (question_body question.now)) (length constraints.now) below.now }
-    ensures { IfOk result (λ t. t.items ≡ unbounded_line (question_body question.now) constraints.now k num den proof.now below.now) }
+    requires there { IsCertificateOf posed.now proof.now }
+    requires below { IsCertificateOf posed.now below.now }
+    ensures { IfOk result (λ t. t.items ≡ unbounded_line posed.now num den proof.now below.now) }
 {
     let mut out = Vec::new(alloc);
-    write_number(&mut out, k)?;
+    write_number(&mut out, posed.number)?;
     out.extend_from_slice(b" unbounded ")?;
-    write_factor(alloc, &mut out, question, constraints, num, den, proof)?;
+    write_factor(alloc, &mut out, posed, num, den, proof)?;
     out.extend_from_slice(b" and ")?;
-    write_proof(alloc, &mut out, question, constraints, below)?;
+    write_proof(alloc, &mut out, posed, below)?;
     out.extend_from_slice(b"\n")?;
     Ok(out)
 }
@@ -189,17 +159,10 @@ fn other_line(alloc: Global, k: usize) -> Result<Vec<u8>, AllocError>
     Ok(out)
 }
 
-/// The line of what was found for question k.
-fn best_line(
-    alloc: Global,
-    k: usize,
-    question: &Question,
-    constraints: &[Constraint],
-    found: &Best,
-) -> Result<Vec<u8>, AllocError>
-    requires some { 1 ≤ variable_count (question_body question.now) }
-    requires printable { IsBestPrintable (problem_names (question_body question.now)) (length constraints.now) found.now }
-    ensures { IfOk result (λ t. t.items ≡ best_line k (problem_names (question_body question.now)) (origins_of constraints.now) (best_view found.now)) }
+/// The line of what was found.
+fn best_line(alloc: Global, posed: &PosedQuestion<'_>, found: &Best) -> Result<Vec<u8>, AllocError>
+    requires printable { IsBestPrintable (names_of posed.now) (length posed.now.constraints.now) found.now }
+    ensures { IfOk result (λ t. t.items ≡ best_line posed.now.number (names_of posed.now) (posed_origins posed.now) (best_view found.now)) }
 {
     match found {
         Best::Least {
@@ -207,15 +170,15 @@ fn best_line(
             den,
             proof,
             point,
-        } => least_line(alloc, k, question, constraints, *num, *den, proof, point),
-        Best::Never(point) => never_line(alloc, k, question, point),
+        } => least_line(alloc, posed, *num, *den, proof, point),
+        Best::Never(point) => never_line(alloc, posed, point),
         Best::Unbounded {
             num,
             den,
             proof,
             below,
-        } => unbounded_line(alloc, k, question, constraints, *num, *den, proof, below),
-        Best::Undecided(cause) => undecided_line(alloc, k, *cause),
+        } => unbounded_line(alloc, posed, *num, *den, proof, below),
+        Best::Undecided(cause) => undecided_line(alloc, posed.number, *cause),
     }
 }
 
@@ -228,12 +191,18 @@ pub fn reply_line(
     constraints: &[Constraint],
     reply: &Reply,
 ) -> Result<Vec<u8>, AllocError>
-    requires some { 1 ≤ variable_count (question_body question.now) }
-    requires printable { IsPrintable (question_body question.now) (length constraints.now) reply.now }
-    ensures { IfOk result (λ t. t.items ≡ reply_line k (question_body question.now) (origins_of constraints.now) (reply_view reply.now)) }
+    requires printable { IsPrintable question.now.body (length constraints.now) reply.now }
+    ensures { IfOk result (λ t. t.items ≡ reply_line k question.now.body (origins_of constraints.now) (reply_view reply.now)) }
 {
     match reply {
-        Reply::Found(best) => best_line(alloc, k, question, constraints, best),
+        Reply::Found(best) => {
+            let posed = PosedQuestion {
+                number: k,
+                question,
+                constraints,
+            };
+            best_line(alloc, &posed, best)
+        }
         Reply::Other => other_line(alloc, k),
     }
 }

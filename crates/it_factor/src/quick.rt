@@ -15,6 +15,7 @@ ghost use Rattle.it_best.specs.PhaseSteps.{AreSides};
 ghost use Rattle.it_factor.specs.QuickSteps.{IsQuickBest, IsStep, IsTrial, answer_view};
 
 use crate::joining::joined;
+use crate::types::Sides;
 use it_best::factor_row;
 use it_columns::opposite_row;
 use it_fraction::Fraction;
@@ -94,17 +95,15 @@ fn answer(trial: Trial, proof: Certificate) -> Best
 /// left side was above 0 at a point too, no factor holds.
 fn after_fall(
     alloc: Global,
-    problem: &Problem,
-    left: &Row,
-    right: &Row,
+    sides: &Sides<'_>,
     trial: Trial,
     factor: Fraction,
     point: &Point,
 ) -> Result<Step, AllocError>
-    requires sides { AreSides problem.now left.now right.now }
-    requires trial { IsTrial problem.now left.now right.now trial }
-    requires point { IsPoint (ground_of problem.now) point.now }
-    ensures { IfOk result (IsStep problem.now left.now right.now) }
+    requires sides { AreSides sides.now.problem.now sides.now.left.now sides.now.right.now }
+    requires trial { IsTrial sides.now.problem.now sides.now.left.now sides.now.right.now trial }
+    requires point { IsPoint (ground_of sides.now.problem.now) point.now }
+    ensures { IfOk result (IsStep sides.now.problem.now sides.now.left.now sides.now.right.now) }
 {
     let Trial { factor: _, reason } = trial;
     match reason {
@@ -115,7 +114,7 @@ fn after_fall(
             }))
         }
         Reason::Tight(above) => {
-            match joined(alloc, problem, left, right, &above, point)? {
+            match joined(alloc, sides, &above, point)? {
                 Some(point) => Ok(Step::Found(Best::Never(point))),
                 None => Ok(Step::Open),
             }
@@ -126,21 +125,19 @@ fn after_fall(
 /// The outcome after the point `point` and the last trial, if there was one.
 fn by_point(
     alloc: Global,
-    problem: &Problem,
-    left: &Row,
-    right: &Row,
+    sides: &Sides<'_>,
     last: Option<Trial>,
     point: Point,
 ) -> Result<Step, AllocError>
-    requires sides { AreSides problem.now left.now right.now }
-    requires last { IfSome last (IsTrial problem.now left.now right.now) }
-    requires point { IsPoint (ground_of problem.now) point }
-    ensures { IfOk result (IsStep problem.now left.now right.now) }
+    requires sides { AreSides sides.now.problem.now sides.now.left.now sides.now.right.now }
+    requires last { IfSome last (IsTrial sides.now.problem.now sides.now.left.now sides.now.right.now) }
+    requires point { IsPoint (ground_of sides.now.problem.now) point }
+    ensures { IfOk result (IsStep sides.now.problem.now sides.now.left.now sides.now.right.now) }
 {
-    let Ok(above) = value(left, &point) else {
+    let Ok(above) = value(sides.left, &point) else {
         return Ok(Step::Open);
     };
-    let Ok(under) = value(right, &point) else {
+    let Ok(under) = value(sides.right, &point) else {
         return Ok(Step::Open);
     };
     if above == 0 && under > 0 {
@@ -156,7 +153,7 @@ fn by_point(
         }));
     }
     match last {
-        Some(trial) => after_fall(alloc, problem, left, right, trial, factor, &point),
+        Some(trial) => after_fall(alloc, sides, trial, factor, &point),
         None => Ok(Step::Open),
     }
 }
@@ -165,20 +162,18 @@ fn by_point(
 fn by_row(
     alloc: Global,
     quick: &mut QuickProblem,
-    problem: &Problem,
-    left: &Row,
-    right: &Row,
+    sides: &Sides<'_>,
     trial: Trial,
     row: &Row,
 ) -> Result<Step, AllocError>
-    requires sides { AreSides problem.now left.now right.now }
-    requires trial { IsTrial problem.now left.now right.now trial }
-    requires row { row.now ≡ factor_row (size_of problem.now.space) left.now right.now trial.factor }
-    ensures { IfOk result (IsStep problem.now left.now right.now) }
+    requires sides { AreSides sides.now.problem.now sides.now.left.now sides.now.right.now }
+    requires trial { IsTrial sides.now.problem.now sides.now.left.now sides.now.right.now trial }
+    requires row { row.now ≡ factor_row (size_of sides.now.problem.now.space) sides.now.left.now sides.now.right.now trial.factor }
+    ensures { IfOk result (IsStep sides.now.problem.now sides.now.left.now sides.now.right.now) }
 {
-    match settle(alloc, quick, problem, row, QUICK_STEPS)? {
+    match settle(alloc, quick, sides.problem, row, QUICK_STEPS)? {
         Some(Proof::Yes(proof)) => Ok(Step::Found(answer(trial, proof))),
-        Some(Proof::No(point)) => by_point(alloc, problem, left, right, Some(trial), point),
+        Some(Proof::No(point)) => by_point(alloc, sides, Some(trial), point),
         _ => Ok(Step::Open),
     }
 }
@@ -187,40 +182,32 @@ fn by_row(
 fn after(
     alloc: Global,
     quick: &mut QuickProblem,
-    problem: &Problem,
-    left: &Row,
-    right: &Row,
+    sides: &Sides<'_>,
     trial: Trial,
 ) -> Result<Step, AllocError>
-    requires sides { AreSides problem.now left.now right.now }
-    requires trial { IsTrial problem.now left.now right.now trial }
-    ensures { IfOk result (IsStep problem.now left.now right.now) }
+    requires sides { AreSides sides.now.problem.now sides.now.left.now sides.now.right.now }
+    requires trial { IsTrial sides.now.problem.now sides.now.left.now sides.now.right.now trial }
+    ensures { IfOk result (IsStep sides.now.problem.now sides.now.left.now sides.now.right.now) }
 {
-    match factor_row(alloc, problem, left, right, &trial.factor) {
-        Ok(row) => by_row(alloc, quick, problem, left, right, trial, &row),
+    match factor_row(alloc, sides.problem, sides.left, sides.right, &trial.factor) {
+        Ok(row) => by_row(alloc, quick, sides, trial, &row),
         Err(RowFault::Wide) => Ok(Step::Open),
         Err(RowFault::Memory) => Err(AllocError),
     }
 }
 
 /// The first number, as an outcome: the ratio at a point where the left side is above 0; where it never is, any number will do: 0.
-fn first(
-    alloc: Global,
-    quick: &mut QuickProblem,
-    problem: &Problem,
-    left: &Row,
-    right: &Row,
-) -> Result<Step, AllocError>
-    requires sides { AreSides problem.now left.now right.now }
-    ensures { IfOk result (IsStep problem.now left.now right.now) }
+fn first(alloc: Global, quick: &mut QuickProblem, sides: &Sides<'_>) -> Result<Step, AllocError>
+    requires sides { AreSides sides.now.problem.now sides.now.left.now sides.now.right.now }
+    ensures { IfOk result (IsStep sides.now.problem.now sides.now.left.now sides.now.right.now) }
 {
-    let row = opposite_row(alloc, left)?;
-    match settle(alloc, quick, problem, &row, QUICK_STEPS)? {
+    let row = opposite_row(alloc, sides.left)?;
+    match settle(alloc, quick, sides.problem, &row, QUICK_STEPS)? {
         Some(Proof::Yes(below)) => Ok(Step::Next(Trial {
             factor: Fraction::whole(0),
             reason: Reason::Below(below),
         })),
-        Some(Proof::No(point)) => by_point(alloc, problem, left, right, None, point),
+        Some(Proof::No(point)) => by_point(alloc, sides, None, point),
         _ => Ok(Step::Open),
     }
 }
@@ -236,12 +223,17 @@ pub fn quick_factor(
     requires { AreSides problem.now left.now right.now }
     ensures { IfOk result (λ o. IfSome o (λ b. IsQuickBest problem.now left.now right.now (best_view b))) }
 {
+    let sides = Sides {
+        problem,
+        left,
+        right,
+    };
     let mut quick = QuickProblem::read(alloc, problem)?;
-    let mut step = first(alloc, &mut quick, problem, left, right)?;
+    let mut step = first(alloc, &mut quick, &sides)?;
     for _ in 0..ROUNDS {
         match step {
             Step::Found(best) => return Ok(Some(best)),
-            Step::Next(trial) => step = after(alloc, &mut quick, problem, left, right, trial)?,
+            Step::Next(trial) => step = after(alloc, &mut quick, &sides, trial)?,
             Step::Open => return Ok(None),
         }
     }

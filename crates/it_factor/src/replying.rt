@@ -3,8 +3,6 @@ ghost use Rattle.std.specs.Prelude.{◌≡◌, length, true, IfOk};
 ghost use Rattle.std.specs.Option.{IfSome};
 ghost use Rattle.it_syntax.specs.Givens.{IsRelationOf};
 ghost use Rattle.it_syntax.specs.Meaning.{relation_view};
-ghost use Rattle.it_question.specs.Limits.{IsQuestion};
-ghost use Rattle.it_question.specs.Questions.{question_body};
 ghost use Rattle.it_question.specs.ProblemLines.{problem_names};
 ghost use Rattle.it_demand.specs.Origins.{AreStated};
 ghost use Rattle.it_demand.specs.QuestionSpaces.{space_of};
@@ -36,11 +34,10 @@ pub fn reply(
     question: &Question,
     effort: Effort,
 ) -> Result<RepliedProblem, AllocError>
-    requires limits { IsQuestion (question_body question.now) }
-    ensures space { IfOk result (λ a. a.problem.space ≡ space_of (problem_names (question_body question.now))) }
-    ensures problem { IfOk result (λ a. AreStated a.problem.space (question_origins (question_body question.now)) (question_demands (question_body question.now)) a.problem.constraints) }
-    ensures right { IfOk result (λ a. IsRightReply effort (question_body question.now) (reply_view a.reply)) }
-    ensures printable { IfOk result (λ a. IsPrintable (question_body question.now) (length a.problem.constraints) a.reply) }
+    ensures space { IfOk result (λ a. a.problem.space ≡ space_of (problem_names question.now.body)) }
+    ensures problem { IfOk result (λ a. AreStated a.problem.space (question_origins question.now.body) (question_demands question.now.body) a.problem.constraints) }
+    ensures right { IfOk result (λ a. IsRightReply effort question.now.body (reply_view a.reply)) }
+    ensures printable { IfOk result (λ a. IsPrintable question.now.body (length a.problem.constraints) a.reply) }
 {
     let problem = problem(alloc, question)?;
     let reply = reply_under(alloc, question, &problem, effort)?;
@@ -54,12 +51,12 @@ fn reply_under(
     problem: &Problem,
     effort: Effort,
 ) -> Result<Reply, AllocError>
-    requires limits { IsQuestion (question_body question.now) }
-    requires problem { IsProblemOf (question_body question.now) problem.now }
-    ensures right { IfOk result (λ r. IsRightReply effort (question_body question.now) (reply_view r)) }
-    ensures printable { IfOk result (IsPrintable (question_body question.now) (length problem.now.constraints)) }
+    requires problem { IsProblemOf question.now.body problem.now }
+    ensures right { IfOk result (λ r. IsRightReply effort question.now.body (reply_view r)) }
+    ensures printable { IfOk result (IsPrintable question.now.body (length problem.now.constraints)) }
 {
-    match &question.verb {
+    question.facts();
+    match question.verb() {
         Verb::Prove(relation) => relation_reply(alloc, problem, relation, effort),
         Verb::Eliminate(_) => Ok(Reply::Other),
         Verb::Contain { .. } => Ok(Reply::Other),

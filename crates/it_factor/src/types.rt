@@ -1,6 +1,15 @@
 //! Replies with their problems.
 use it_problems::Problem;
 use it_ratio::types::Best;
+use it_space::Row;
+
+/// The sides of a relation, as rows, with the problem under which a factor between them is looked for.
+#[derive(Drop)]
+pub struct Sides<'a> {
+    pub problem: &'a Problem,
+    pub left: &'a Row,
+    pub right: &'a Row,
+}
 
 /// A reply to a question in mode `best`.
 #[derive(Drop)]

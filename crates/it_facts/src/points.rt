@@ -1,7 +1,5 @@
 //! The values of a point, as the few facts that determine it.
 ghost use Rattle.std.specs.Prelude.{◌≤◌, IfOk, IfSome, length};
-ghost use Rattle.it_question.specs.Limits.{IsQuestion};
-ghost use Rattle.it_question.specs.Questions.{question_body};
 ghost use Rattle.it_question.specs.ProblemLines.{problem_names};
 ghost use Rattle.it_facts.specs.Points.{TellsPoint};
 
@@ -41,8 +39,7 @@ pub fn told_point(
     question: &Question,
     point: &Point,
 ) -> Result<Option<Vec<u8>>, AllocError>
-    requires { IsQuestion (question_body question.now) }
-    ensures { IfOk result (λ o. IfSome o (λ text. TellsPoint (problem_names (question_body question.now)) point.now text.items)) }
+    ensures { IfOk result (λ o. IfSome o (λ text. TellsPoint (problem_names question.now.body) point.now text.items)) }
 {
     let names = problem_names(question);
     let facts = found_facts(alloc, point, names.space())?;

@@ -30,11 +30,11 @@ rest_pos a g h p = quotient_some (a / g) (div-mul_cancel g h)
     quotient_some (suc k) e = omega arith
 
 -- the numerator and the denominator of the product
-abbrev pub product_top : ℤ → ℕ → ℤ → ℕ → ℤ
-product_top a b c d = int_quotient a (gcd (unsigned_abs a) d) *ℤ int_quotient c (gcd (unsigned_abs c) b)
+abbrev pub product_numerator : ℤ → ℕ → ℤ → ℕ → ℤ
+product_numerator a b c d = int_quotient a (gcd (unsigned_abs a) d) *ℤ int_quotient c (gcd (unsigned_abs c) b)
 
-abbrev pub product_bottom : ℤ → ℕ → ℤ → ℕ → ℕ
-product_bottom a b c d = (b / gcd (unsigned_abs c) b) * (d / gcd (unsigned_abs a) d)
+abbrev pub product_denominator : ℤ → ℕ → ℤ → ℕ → ℕ
+product_denominator a b c d = (b / gcd (unsigned_abs c) b) * (d / gcd (unsigned_abs a) d)
 
 -- a / b and c / d in lowest terms
 module _ (a : ℤ) (b : ℕ) (c : ℤ) (d : ℕ) (hb : 0 < b) (hd : 0 < d) (la : IsGcd (unsigned_abs a) b 1) (lc : IsGcd (unsigned_abs c) d 1) where
@@ -50,10 +50,10 @@ module _ (a : ℤ) (b : ℕ) (c : ℤ) (d : ℕ) (hb : 0 < b) (hd : 0 < d) (la :
   h_is : IsGcd (unsigned_abs c) b h
   h_is = gcd_is (unsigned_abs c) b
 
-  pub product-some : 0 < product_bottom a b c d
+  pub product-some : 0 < product_denominator a b c d
   product-some = mul-pos (rest_pos b h h_is.1 hb) (rest_pos d g g_is.1 hd)
 
-  pub product-lowest : IsGcd (unsigned_abs (product_top a b c d)) (product_bottom a b c d) 1
+  pub product-lowest : IsGcd (unsigned_abs (product_numerator a b c d)) (product_denominator a b c d) 1
   product-lowest =
       let x : ℕ = unsigned_abs a / g in let y : ℕ = unsigned_abs c / h in
       let x_below = rest_divides (unsigned_abs a) g g_is.0 in let y_below = rest_divides (unsigned_abs c) h h_is.0 in
@@ -68,23 +68,25 @@ module _ (a : ℤ) (b : ℕ) (c : ℤ) (d : ℕ) (hb : 0 < b) (hd : 0 < d) (la :
       product_coprime : (x p q : ℕ) → IsGcd x p 1 → IsGcd x q 1 → IsGcd x (p * q) 1
       product_coprime x p q e f = IsGcd-swap (p * q) x 1 (coprime_product p q x (IsGcd-swap x p 1 e) (IsGcd-swap x q 1 f))
 
-  cross_products : product_top a b c d *ℤ pos (b * d) ≡ (a *ℤ c) *ℤ pos (product_bottom a b c d)
+  cross_products : product_numerator a b c d *ℤ pos (b * d) ≡ (a *ℤ c) *ℤ pos (product_denominator a b c d)
   cross_products =
-      ap₂ (λ (m n : ℕ). product_top a b c d *ℤ pos (m * n)) (sym (div-mul_cancel h h_is.1)) (sym (div-mul_cancel g g_is.1))
+      ap₂ (λ (m n : ℕ). product_numerator a b c d *ℤ pos (m * n)) (sym (div-mul_cancel h h_is.1)) (sym (div-mul_cancel g g_is.1))
       ∙ law (int_quotient a g) (int_quotient c h) (pos (b / h)) (pos (d / g)) (pos g) (pos h)
-      ∙ ap₂ (λ (x y : ℤ). (x *ℤ y) *ℤ pos (product_bottom a b c d)) (over_back a g g_is.0) (over_back c h h_is.0)
+      ∙ ap₂ (λ (x y : ℤ). (x *ℤ y) *ℤ pos (product_denominator a b c d)) (over_back a g g_is.0) (over_back c h h_is.0)
     where
       law : (x y p q g h : ℤ) → (x *ℤ y) *ℤ ((p *ℤ h) *ℤ (q *ℤ g)) ≡ ((x *ℤ g) *ℤ (y *ℤ h)) *ℤ (p *ℤ q)
       law x y p q g h = ring ring_ℤ (x ∷ y ∷ p ∷ q ∷ g ∷ h ∷ [])
           (times (times (v 0) (v 1)) (times (times (v 2) (v 5)) (times (v 3) (v 4))))
           (times (times (times (v 0) (v 4)) (times (v 1) (v 5))) (times (v 2) (v 3))) refl
 
-  pub product-is : quotient (product_top a b c d) (product_bottom a b c d) ≡ quotient (a *ℤ c) (b * d)
+  pub product-is : quotient (product_numerator a b c d) (product_denominator a b c d) ≡ quotient (a *ℤ c) (b * d)
   product-is =
-      quotient_is (product_top a b c d) (product_top a b c d) (product_bottom a b c d) (product_bottom a b c d) product-some product-some product-lowest refl
-      ∙ sym (quotient_is (product_top a b c d) (a *ℤ c) (product_bottom a b c d) (b * d) (mul-pos hb hd) product-some product-lowest cross_products)
+      quotient_is (product_numerator a b c d) (product_numerator a b c d) (product_denominator a b c d)
+      (product_denominator a b c d) product-some product-some product-lowest refl
+      ∙ sym (quotient_is (product_numerator a b c d) (a *ℤ c) (product_denominator a b c d) (b * d) (mul-pos hb hd) product-some product-lowest cross_products)
 
-  pub product-narrow : IsNarrow (quotient (a *ℤ c) (b * d)) ↔ (IsWithin (product_top a b c d) × IsWithin (pos (product_bottom a b c d)))
+  pub product-narrow : IsNarrow (quotient (a *ℤ c) (b * d)) ↔ (IsWithin (product_numerator a b c d) × IsWithin (pos (product_denominator a b c d)))
   product-narrow =
-      let parts = quotient_parts (product_top a b c d) (a *ℤ c) (product_bottom a b c d) (b * d) (mul-pos hb hd) product-some product-lowest cross_products in
+      let parts = quotient_parts (product_numerator a b c d) (a *ℤ c) (product_denominator a b c d) (b * d)
+      (mul-pos hb hd) product-some product-lowest cross_products in
       rw (parts.0, parts.1) (λ p. p, λ p. p)

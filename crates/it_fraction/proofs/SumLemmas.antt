@@ -81,22 +81,22 @@ pub record AreSteps (a : ℤ) (b : ℕ) (c : ℤ) (d : ℕ) (left right sum : �
   pub sum_is : sum ≡ left +ℤ right
   pub rest_is : rest ≡ gcd (unsigned_abs sum) (gcd b d)
 
-module _ (a : ℤ) (b : ℕ) (c : ℤ) (d : ℕ) (left right sum : ℤ) (rest bottom : ℕ) (s : AreSteps a b c d left right sum rest) where
+module _ (a : ℤ) (b : ℕ) (c : ℤ) (d : ℕ) (left right sum : ℤ) (rest denominator : ℕ) (s : AreSteps a b c d left right sum rest) where
   -- they lead to the parts of the sum
-  pub steps-parts : bottom ≡ (b / gcd b d) * (d / rest) → 0 < b → 0 < d → IsGcd (unsigned_abs a) b 1 → IsGcd (unsigned_abs c) d 1
-      → AreParts a b c d (int_quotient sum rest) bottom
+  pub steps-parts : denominator ≡ (b / gcd b d) * (d / rest) → 0 < b → 0 < d → IsGcd (unsigned_abs a) b 1 → IsGcd (unsigned_abs c) d 1
+      → AreParts a b c d (int_quotient sum rest) denominator
   steps-parts e hb hd la lc = rw (e, s.rest_is, s.sum_is, s.left_is, s.right_is) (sum_parts a b c d hb hd la lc)
 
   -- and the sum fits where they do
-  pub steps-fit : bottom ≡ (b / gcd b d) * (d / rest) → IsWithin left → IsWithin right → IsWithin sum → IsWithin (pos bottom) → PartsFit a b c d
+  pub steps-fit : denominator ≡ (b / gcd b d) * (d / rest) → IsWithin left → IsWithin right → IsWithin sum → IsWithin (pos denominator) → PartsFit a b c d
   steps-fit e wl wr wt wb =
       record {
         left = rw (← s.left_is) wl;
         right = rw (← s.right_is) wr;
         total = rw (← s.left_is, ← s.right_is, ← s.sum_is) wt;
-        bottom = rw (← s.left_is, ← s.right_is, ← s.sum_is, ← s.rest_is, ← e) wb;
+        denominator = rw (← s.left_is, ← s.right_is, ← s.sum_is, ← s.rest_is, ← e) wb;
       }
 
-pub fit-bottom : (a : ℤ) (b : ℕ) (c : ℤ) (d : ℕ) (left right sum : ℤ) (rest : ℕ) → AreSteps a b c d left right sum rest → PartsFit a b c d
+pub fit-denominator : (a : ℤ) (b : ℕ) (c : ℤ) (d : ℕ) (left right sum : ℤ) (rest : ℕ) → AreSteps a b c d left right sum rest → PartsFit a b c d
     → IsWithin (pos ((b / gcd b d) * (d / rest)))
-fit-bottom a b c d left right sum rest s fit = rw (s.rest_is, s.sum_is, s.left_is, s.right_is) fit.bottom
+fit-denominator a b c d left right sum rest s fit = rw (s.rest_is, s.sum_is, s.left_is, s.right_is) fit.denominator

@@ -19,8 +19,8 @@ use native.Mathlib.Nat.{div-one, one-dvd}
 pub zero_parts : ((integer (pos 0)).num ≡ pos 0) × ((integer (pos 0)).den ≡ 1)
 zero_parts = own_parts (pos 0) 1 one_pos one_lowest
 
-pub top_of_zero : (x : Rational) → x ≡ integer (pos 0) → x.num ≡ pos 0
-top_of_zero x e = ap (λ (q : Rational). q.num) e ∙ zero_parts.0
+pub numerator_of_zero : (x : Rational) → x ≡ integer (pos 0) → x.num ≡ pos 0
+numerator_of_zero x e = ap (λ (q : Rational). q.num) e ∙ zero_parts.0
 
 -- a number whose numerator is 0 has denominator 1
 zero_den : (x : Rational) → x.num ≡ pos 0 → x.den ≡ 1
@@ -40,7 +40,7 @@ one_fits a c d wl wr wt wb =
       left = rw (one-gcd d, div-one d) wl;
       right = rw (one-gcd d, div-one 1, p) wr;
       total = rw (one-gcd d, div-one d, div-one 1, p) wt;
-      bottom = rw (one-gcd d, div-one 1, gcd-one, div-one d) (omega (arith, wb));
+      denominator = rw (one-gcd d, div-one 1, gcd-one, div-one d) (omega (arith, wb));
     }
 
 -- and one whose right denominator is 1 forms a, c b, their sum and b
@@ -51,7 +51,7 @@ fits_one a b c wl wr wt wb =
       left = rw (gcd-one b, div-one 1, p) wl;
       right = rw (gcd-one b, div-one b) wr;
       total = rw (gcd-one b, div-one b, div-one 1, p) wt;
-      bottom = rw (gcd-one b, div-one b, gcd-one, div-one 1) (omega (arith, wb));
+      denominator = rw (gcd-one b, div-one b, gcd-one, div-one 1) (omega (arith, wb));
     }
 
 no_product : (a b : ℤ) → a ≡ pos 0 → a *ℤ b ≡ pos 0

@@ -22,7 +22,7 @@ pub record PartsFit (a : ℤ) (b : ℕ) (c : ℤ) (d : ℕ) : Type 0 where
   pub left : IsWithin (a *ℤ pos (d / gcd b d))
   pub right : IsWithin (c *ℤ pos (b / gcd b d))
   pub total : IsWithin (common_numerator a b c d)
-  pub bottom : IsWithin (pos ((b / gcd b d) * (d / shared_rest a b c d)))
+  pub denominator : IsWithin (pos ((b / gcd b d) * (d / shared_rest a b c d)))
 
 -- the numbers that the sum of two fractions forms are within the limit
 abbrev pub SumFits : Rational → Rational → Type 0

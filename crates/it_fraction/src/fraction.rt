@@ -27,10 +27,10 @@ pub struct Wide;
 /// whose denominator is from 1 to 2^127 - 1.
 #[derive(Debug, Clone, Copy)]
 pub struct Fraction {
-    top: i128,
-    bottom: u128,
-    ghost some: { 0 < bottom },
-    ghost lowest: { IsGcd (unsigned_abs top) bottom 1 },
+    numerator: i128,
+    denominator: u128,
+    ghost some: { 0 < denominator },
+    ghost lowest: { IsGcd (unsigned_abs numerator) denominator 1 },
 }
 
 impl Model for Fraction {
@@ -40,22 +40,25 @@ impl Model for Fraction {
 
     ghost Value = { Rational };
 
-    ghost view = { λ f. record { num = f.top; den = f.bottom; positive = f.some; lowest = f.lowest } };
+    ghost view = { λ f. record { num = f.numerator; den = f.denominator; positive = f.some; lowest = f.lowest } };
 
-    ghost inverse = { λ q. record { top = q.num; bottom = q.den; some = q.positive; lowest = q.lowest } };
+    ghost inverse = { λ q. record { numerator = q.num; denominator = q.den; some = q.positive; lowest = q.lowest } };
 
-    ghost invariant = { λ f. (IsWithin f.top) × (IsWithin (pos f.bottom)) };
+    ghost invariant = { λ f. (IsWithin f.numerator) × (IsWithin (pos f.denominator)) };
 }
 
-/// The fraction top / bottom, where the two have no common divisor above 1.
-pub fn in_lowest_terms(top: i128, bottom: u128) -> Fraction
-    requires top_within { IsWithin top }
-    requires bottom_within { IsWithin (pos bottom) }
-    requires some { 0 < bottom }
-    requires lowest { IsGcd (unsigned_abs top) bottom 1 }
-    ensures { result ≡ quotient top bottom }
+/// The fraction of this numerator and denominator, which have no common divisor above 1.
+pub fn in_lowest_terms(numerator: i128, denominator: u128) -> Fraction
+    requires numerator_within { IsWithin numerator }
+    requires denominator_within { IsWithin (pos denominator) }
+    requires some { 0 < denominator }
+    requires lowest { IsGcd (unsigned_abs numerator) denominator 1 }
+    ensures { result ≡ quotient numerator denominator }
 {
-    Fraction { top, bottom }
+    Fraction {
+        numerator,
+        denominator,
+    }
 }
 
 /// The fraction num / den.
@@ -110,7 +113,7 @@ impl Fraction {
         ensures value { result ≡ self.num }
         ensures within { IsWithin result }
     {
-        self.top
+        self.numerator
     }
 
     /// The denominator in lowest terms, at least 1.
@@ -119,17 +122,17 @@ impl Fraction {
         ensures some { pos 1 ≤ℤ result }
         ensures within { IsWithin result }
     {
-        self.bottom as i128
+        self.denominator as i128
     }
 
     /// Whether the number is 0.
-    #[tactic(auto, using(crate::proofs::ZeroLemmas::top_of_zero))]
+    #[tactic(auto, using(crate::proofs::ZeroLemmas::numerator_of_zero))]
     pub fn is_zero(self) -> bool
         ensures yes { OnTrue result (self ≡ integer (pos 0)) }
         ensures no { OnFalse result (self ≢ integer (pos 0)) }
     {
         // written out, so that the prover sees each case with its test
-        if self.top == 0 { true } else { false }
+        if self.numerator == 0 { true } else { false }
     }
 
     /// Whether the number is below 0.
@@ -138,7 +141,7 @@ impl Fraction {
         ensures no { OnFalse result (is_at_least_zero self ≡ true) }
     {
         // written out, so that the prover sees each case with its test
-        if self.top < 0 { true } else { false }
+        if self.numerator < 0 { true } else { false }
     }
 
     /// Whether the number is above 0, so that its negation isn't at least 0.
@@ -148,21 +151,21 @@ impl Fraction {
         ensures no { OnFalse result (is_at_least_zero (minus self) ≡ true) }
     {
         // written out, so that the prover sees each case with its test
-        if self.top > 0 { true } else { false }
+        if self.numerator > 0 { true } else { false }
     }
 
     /// The sign: -1, 0 or 1.
     pub fn sign(self) -> i8
         ensures { result ≡ sign_of self }
     {
-        self.top.signum() as i8
+        self.numerator.signum() as i8
     }
 
     /// The negated number.
     pub fn neg(self) -> Fraction
         ensures { result ≡ minus self }
     {
-        in_lowest_terms(-self.top, self.bottom)
+        in_lowest_terms(-self.numerator, self.denominator)
     }
 
     /// The sum, by the greatest common divisor of the denominators (Knuth, The Art of Computer Programming vol. 2, 4.5.1). It is
@@ -171,8 +174,8 @@ impl Fraction {
     pub fn add(self, other: Fraction) -> Result<Fraction, Wide>
         ensures { OkIff result (SumFits self other) (plus self other) }
     {
-        if are_one(self.bottom, other.bottom) {
-            return whole_sum(self.top, other.top);
+        if are_one(self.denominator, other.denominator) {
+            return whole_sum(self.numerator, other.numerator);
         }
         if self.is_zero() {
             return Ok(other);
@@ -180,7 +183,12 @@ impl Fraction {
         if other.is_zero() {
             return Ok(self);
         }
-        parts_sum(self.top, self.bottom, other.top, other.bottom)
+        parts_sum(
+            self.numerator,
+            self.denominator,
+            other.numerator,
+            other.denominator,
+        )
     }
 
     /// The difference, formed as the sum with `other` negated, and `Wide` exactly where that sum is.
@@ -197,13 +205,18 @@ impl Fraction {
     pub fn mul(self, other: Fraction) -> Result<Fraction, Wide>
         ensures { OkIff result (IsNarrow (times self other)) (times self other) }
     {
-        if are_one(self.bottom, other.bottom) {
-            return whole_product(self.top, other.top);
+        if are_one(self.denominator, other.denominator) {
+            return whole_product(self.numerator, other.numerator);
         }
         if self.is_zero() || other.is_zero() {
             return Ok(Fraction::whole(0));
         }
-        parts_product(self.top, self.bottom, other.top, other.bottom)
+        parts_product(
+            self.numerator,
+            self.denominator,
+            other.numerator,
+            other.denominator,
+        )
     }
 
     /// The quotient, formed as the product with the inverse of `other`, and `Wide` exactly where that product is.
@@ -220,11 +233,11 @@ impl Fraction {
         requires { self.num ≢ pos 0 }
         ensures { result ≡ inverse self }
     {
-        let bottom = self.top.unsigned_abs();
-        if self.top < 0 {
-            in_lowest_terms(-(self.bottom as i128), bottom)
+        let denominator = self.numerator.unsigned_abs();
+        if self.numerator < 0 {
+            in_lowest_terms(-(self.denominator as i128), denominator)
         } else {
-            in_lowest_terms(self.bottom as i128, bottom)
+            in_lowest_terms(self.denominator as i128, denominator)
         }
     }
 
@@ -233,10 +246,10 @@ impl Fraction {
     pub fn compare(self, other: Fraction) -> Ordering
         ensures { result ≡ rational_cmp self other }
     {
-        if self.bottom == other.bottom {
-            return self.top.cmp(&other.top);
+        if self.denominator == other.denominator {
+            return self.numerator.cmp(&other.numerator);
         }
-        match (self.top < 0, other.top < 0) {
+        match (self.numerator < 0, other.numerator < 0) {
             (false, false) => self.compare_size(other),
             (false, true) => Ordering::Greater,
             (true, false) => Ordering::Less,
@@ -248,9 +261,14 @@ impl Fraction {
     fn compare_size(self, other: Fraction) -> Ordering
         ensures { result ≡ nat_cmp (unsigned_abs self.num * other.den) (unsigned_abs other.num * self.den) }
     {
-        let top = self.top.unsigned_abs();
-        let other_top = other.top.unsigned_abs();
-        compare_parts(top, self.bottom, other_top, other.bottom)
+        let numerator = self.numerator.unsigned_abs();
+        let other_numerator = other.numerator.unsigned_abs();
+        compare_parts(
+            numerator,
+            self.denominator,
+            other_numerator,
+            other.denominator,
+        )
     }
 }
 
@@ -260,7 +278,7 @@ impl PartialEq for Fraction {
     ghost laws = { partial_equiv_from_equiv (eq_by_cmp_equiv rational_total) };
 
     fn eq(&self, other: &Fraction) -> bool {
-        self.top == other.top && self.bottom == other.bottom
+        self.numerator == other.numerator && self.denominator == other.denominator
     }
 }
 

@@ -15,33 +15,37 @@ pub fn compare_parts(a: u128, b: u128, c: u128, d: u128) -> Ordering
     requires d_some { 0 < d }
     ensures { result ≡ nat_cmp (a * d) (c * b) }
 {
-    let mut top = a;
-    let mut bottom = b;
-    let mut other_top = c;
-    let mut other_bottom = d;
+    let mut numerator = a;
+    let mut denominator = b;
+    let mut other_numerator = c;
+    let mut other_denominator = d;
     'rests: loop {
-        if top <= SHORT && bottom <= SHORT && other_top <= SHORT && other_bottom <= SHORT {
+        if numerator <= SHORT
+            && denominator <= SHORT
+            && other_numerator <= SHORT
+            && other_denominator <= SHORT
+        {
             return short_compare(
-                top as u64,
-                bottom as u64,
-                other_top as u64,
-                other_bottom as u64,
+                numerator as u64,
+                denominator as u64,
+                other_numerator as u64,
+                other_denominator as u64,
             );
         }
-        let whole = top / bottom;
-        let other_whole = other_top / other_bottom;
+        let whole = numerator / denominator;
+        let other_whole = other_numerator / other_denominator;
         if whole != other_whole {
             return whole.cmp(&other_whole);
         }
-        let rest = top % bottom;
-        let other_rest = other_top % other_bottom;
+        let rest = numerator % denominator;
+        let other_rest = other_numerator % other_denominator;
         if rest == 0 || other_rest == 0 {
             return rest.cmp(&other_rest);
         }
-        top = other_bottom;
-        other_top = bottom;
-        bottom = other_rest;
-        other_bottom = rest;
+        numerator = other_denominator;
+        other_numerator = denominator;
+        denominator = other_rest;
+        other_denominator = rest;
     }
 }
 
@@ -52,24 +56,24 @@ fn short_compare(a: u64, b: u64, c: u64, d: u64) -> Ordering
     requires d_some { 0 < d }
     ensures { result ≡ nat_cmp (a * d) (c * b) }
 {
-    let mut top = a;
-    let mut bottom = b;
-    let mut other_top = c;
-    let mut other_bottom = d;
+    let mut numerator = a;
+    let mut denominator = b;
+    let mut other_numerator = c;
+    let mut other_denominator = d;
     'rests: loop {
-        let whole = top / bottom;
-        let other_whole = other_top / other_bottom;
+        let whole = numerator / denominator;
+        let other_whole = other_numerator / other_denominator;
         if whole != other_whole {
             return whole.cmp(&other_whole);
         }
-        let rest = top % bottom;
-        let other_rest = other_top % other_bottom;
+        let rest = numerator % denominator;
+        let other_rest = other_numerator % other_denominator;
         if rest == 0 || other_rest == 0 {
             return rest.cmp(&other_rest);
         }
-        top = other_bottom;
-        other_top = bottom;
-        bottom = other_rest;
-        other_bottom = rest;
+        numerator = other_denominator;
+        other_numerator = denominator;
+        denominator = other_rest;
+        other_denominator = rest;
     }
 }

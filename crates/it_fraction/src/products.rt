@@ -22,9 +22,9 @@ pub fn parts_product(a: i128, b: u128, c: i128, d: u128) -> Result<Fraction, Wid
     let right_shared = common_divisor(c.unsigned_abs(), b);
     let left = signed_quotient(a, left_shared);
     let right = signed_quotient(c, right_shared);
-    let top = signed_product(left, right)?;
-    let bottom = product(quotient(b, right_shared), quotient(d, left_shared))?;
-    Ok(in_lowest_terms(top, bottom))
+    let numerator = signed_product(left, right)?;
+    let denominator = product(quotient(b, right_shared), quotient(d, left_shared))?;
+    Ok(in_lowest_terms(numerator, denominator))
 }
 
 /// The product of two whole numbers, as a fraction; `Wide` if it passes the limit.

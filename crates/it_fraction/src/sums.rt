@@ -25,8 +25,8 @@ pub fn parts_sum(a: i128, b: u128, c: i128, d: u128) -> Result<Fraction, Wide>
     let right = multiple(c, right_factor)?;
     let total = sum(left, right)?;
     let rest = common_divisor(total.unsigned_abs(), shared);
-    let bottom = product(right_factor, quotient(d, rest))?;
-    Ok(in_lowest_terms(signed_quotient(total, rest), bottom))
+    let denominator = product(right_factor, quotient(d, rest))?;
+    Ok(in_lowest_terms(signed_quotient(total, rest), denominator))
 }
 
 /// The sum of two whole numbers, as a fraction; `Wide` if it passes the limit.

@@ -28,7 +28,8 @@ use Rattle.it_question.specs.Files.{IsFile}
 use Rattle.it_question.specs.NewNames.{Variable, no_names, with_name, is_taken, new_flag}
 use Rattle.it_question.specs.QuestionForms.{new_name, more_new, new_names, names_line, own_lines, more_own_lines, verb, question, more_questions, file}
 use Rattle.it_question.specs.QuestionLimits.{most_questions, most_lines}
-use Rattle.it_question.specs.Questions.{BodyView, Prove, no_lines}
+use Rattle.it_question.specs.OwnLines.{no_lines}
+use Rattle.it_question.specs.Questions.{BodyView, Prove}
 use Rattle.it_gen.proofs.SpelledForms.{IsLetter, IsWritten, letter_written, then_written, none_written, one_written}
 use Rattle.it_gen.proofs.PartTexts.{four_variables, relation_text, relation_written}
 use Rattle.it_space.specs.Spaces.{most_variables}

@@ -134,7 +134,7 @@ value_on_top sum (t ∷ ts) p w f = subst IsWithin (let e : (sum +ℤ t.1 *ℤ p
 pub value_within : (ts : Terms) (p : ℕ → ℤ) → ValueFits ts p → IsWithin (value ts p)
 value_within ts p f = subst IsWithin (let e : pos 0 +ℤ value ts p ≡ value ts p = omega (arith, ints) in e) (value_on_top (pos 0) ts p (omega (arith, ints)) f)
 
-pub turned_fits : {W : Type 0} (v x : ℤ) (Fits : Type 0) (r : Result ℤ W) → x ≡ v → Fits → IsWithin v
+pub negated_fits : {W : Type 0} (v x : ℤ) (Fits : Type 0) (r : Result ℤ W) → x ≡ v → Fits → IsWithin v
     → OkIff r (IsWithin (pos 0 -ℤ x)) (pos 0 -ℤ x) → OkIff r Fits (neg_ℤ v)
-turned_fits v x Fits (Ok y) is f w k = (f, k.1 ∙ (omega (arith, ints, is)))
-turned_fits v x Fits (Err e) is f w k = λ g. k (omega (arith, ints, is, w))
+negated_fits v x Fits (Ok y) is f w k = (f, k.1 ∙ (omega (arith, ints, is)))
+negated_fits v x Fits (Err e) is f w k = λ g. k (omega (arith, ints, is, w))

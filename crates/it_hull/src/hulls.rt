@@ -26,7 +26,7 @@ pub fn coordinate(space: Space, rate: u8) -> u32
 }
 
 /// The negated value of `row` at `ray`; `Wide` if a product or a partial sum passes the limit.
-fn turned_value(row: &Row, ray: &Point) -> Result<i128, Wide>
+fn negated_value(row: &Row, ray: &Point) -> Result<i128, Wide>
     requires { IsOver (length ray.now) row.now }
     ensures value { OkIff result (ValueFits row.now (point_of ray.now)) (neg_ℤ (value row.now (point_of ray.now))) }
     ensures within { IfOk result IsWithin }
@@ -43,8 +43,8 @@ fn with_multiplier(alloc: Global, row: &Row, at: u32, ray: &Point) -> Result<Row
     ensures fit { OnOk result (ValueFits row.now (point_of ray.now)) }
     ensures wide { IfErr result (λ fault. fault ≡ IsTooWide → ¬ (ValueFits row.now (point_of ray.now))) }
 {
-    let turned = turned_value(row, ray)?;
-    let row = with_term(alloc, row, at, turned)?;
+    let negated = negated_value(row, ray)?;
+    let row = with_term(alloc, row, at, negated)?;
     Ok(row)
 }
 

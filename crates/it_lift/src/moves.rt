@@ -16,30 +16,36 @@ use it_elemental::{expand_conditional, expand_mutual};
 use it_space::{RowFault, VarSet};
 use std::alloc::Global;
 
-/// Adds `amount` to the weights of the inequalities that sum to I(a; b | c).
+/// The sets of a mutual information I(left; right | given).
+#[derive(Clone, Copy, Drop)]
+struct MutualInformation {
+    left: VarSet,
+    right: VarSet,
+    given: VarSet,
+}
+
+/// Adds `amount` to the weights of the inequalities that sum to the mutual information of `sets`.
 fn add_mutual(
     alloc: Global,
     sums: &mut WeightSums,
     n: u8,
-    a: VarSet,
-    b: VarSet,
-    c: VarSet,
+    sets: MutualInformation,
     amount: u128,
 ) -> Result<(), RowFault>
     requires some { 1 ≤ n }
     requires few { n ≤ most_variables }
-    requires a_below { a < 2 ^ n }
-    requires b_below { b < 2 ^ n }
-    requires c_below { c < 2 ^ n }
-    requires a_apart_from_b { bit_and a b ≡ 0 }
-    requires a_apart_from_c { bit_and a c ≡ 0 }
-    requires b_apart_from_c { bit_and b c ≡ 0 }
+    requires left_below { sets.left < 2 ^ n }
+    requires right_below { sets.right < 2 ^ n }
+    requires given_below { sets.given < 2 ^ n }
+    requires left_apart_from_right { bit_and sets.left sets.right ≡ 0 }
+    requires left_apart_from_given { bit_and sets.left sets.given ≡ 0 }
+    requires right_apart_from_given { bit_and sets.right sets.given ≡ 0 }
     requires complete { length (elementals n) ≤ length sums.old }
     requires within { amount < 2 ^ 127 }
-    ensures added { OnOk result (AreWeightsAdded sums.old sums.new (each_weight n (pos amount) (mutual_expansion (members n a) (members n b) c))) }
-    ensures wide { IfErr result (AreSumsWide sums.old (each_weight n (pos amount) (mutual_expansion (members n a) (members n b) c))) }
+    ensures added { OnOk result (AreWeightsAdded sums.old sums.new (each_weight n (pos amount) (mutual_expansion (members n sets.left) (members n sets.right) sets.given))) }
+    ensures wide { IfErr result (AreSumsWide sums.old (each_weight n (pos amount) (mutual_expansion (members n sets.left) (members n sets.right) sets.given))) }
 {
-    let indexes = expand_mutual(alloc, n, a, b, c)?;
+    let indexes = expand_mutual(alloc, n, sets.left, sets.right, sets.given)?;
     sums.add_each(indexes.as_slice(), amount)?;
     Ok(())
 }
@@ -90,15 +96,12 @@ fn add_turn(
     ensures wide { IfErr result (AreSumsWide sums.old (turn_moves n (pos amount) (set, by))) }
 {
     let shared = set.meet(by.to);
-    add_mutual(
-        alloc,
-        sums,
-        n,
-        by.to.minus(set),
-        set.minus(by.to),
-        shared,
-        amount,
-    )?;
+    let sets = MutualInformation {
+        left: by.to.minus(set),
+        right: set.minus(by.to),
+        given: shared,
+    };
+    add_mutual(alloc, sums, n, sets, amount)?;
     add_conditional(alloc, sums, n, shared.minus(by.from), by.from, amount)?;
     sums.add(by.generator, amount, !by.negated)?;
     Ok(())

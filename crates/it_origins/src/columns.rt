@@ -11,7 +11,7 @@ use std::alloc::{AllocError, Global};
 #[derive(Clone, Copy)]
 pub struct Column {
     pub number: u32,
-    pub is_turned: bool,
+    pub is_negated: bool,
 }
 
 /// The columns of `constraints`: each constraint, and after each equation its negation.
@@ -23,12 +23,12 @@ pub fn all_columns(alloc: Global, constraints: &[Constraint]) -> Result<Vec<Colu
         let number = i as u32;
         columns.push(Column {
             number,
-            is_turned: false,
+            is_negated: false,
         })?;
         if constraint.kind == Kind::Equation {
             columns.push(Column {
                 number,
-                is_turned: true,
+                is_negated: true,
             })?;
         }
     }
@@ -46,7 +46,7 @@ pub fn rows_of(
         let index = column.number as usize;
         if index < constraints.len() {
             let row = &constraints[index].row;
-            rows.push(if column.is_turned {
+            rows.push(if column.is_negated {
                 opposite_row(alloc, row)?
             } else {
                 row.copy(alloc)?

@@ -27,12 +27,12 @@ fn certificate_of(
         }
         let column = choice.columns[*place];
         let index = elementals.checked_add(column.number);
-        let turned = if column.is_turned {
+        let negated = if column.is_negated {
             0i128.checked_sub(*number)
         } else {
             Some(*number)
         };
-        let (Some(index), Some(weight)) = (index, turned) else {
+        let (Some(index), Some(weight)) = (index, negated) else {
             return Ok(None);
         };
         weights.push((index, weight))?;

@@ -8,6 +8,8 @@ use Rattle.it_polymatroid.specs.Elementals.{elemental_at}
 use Rattle.it_elemental.specs.Generators.{of_elemental}
 use Rattle.it_syntax.specs.NamesViews.{NamesView}
 use Rattle.it_print.specs.Lines.{certificate_text, origins_of, proofs_text}
+use Rattle.it_print.specs.declared.posed.PosedQuestion.{PosedQuestion}
+use Rattle.it_print.specs.PosedQuestions.{names_of, posed_origins}
 use Rattle.it_print.specs.ProofLines.{certificate_lines, generator_row_text, generator_rows, proof_lines, weight_line}
 
 -- the text of a certificate
@@ -22,14 +24,17 @@ proofs_text_by v cs ws = proofs_text v.variables (origins_of cs) (map certificat
 abbrev pub elemental_row_text : NamesView → ℕ → List ℕ
 elemental_row_text v i = generator_row_text v (of_elemental (length v.variables) (elemental_at (length v.variables) i))
 
--- the line of a weight with its generator, and the generator's row
-abbrev pub weight_line_by : ℕ → NamesView → List Constraint → ℕ × ℤ → List ℕ
-weight_line_by k v cs = weight_line k v (origins_of cs) (generator_rows v cs)
+module _ (p : PosedQuestion) where
+  -- the line of a weight with its generator, and the generator's row
+  abbrev pub weight_line_by : ℕ × ℤ → List ℕ
+  weight_line_by = weight_line p.number (names_of p) (posed_origins p) (generator_rows (names_of p) p.constraints.now)
 
--- the lines of a certificate and its target
-abbrev pub certificate_lines_by : ℕ → NamesView → List Constraint → Certificate → Terms → List ℕ
-certificate_lines_by k v cs w target = certificate_lines k v (origins_of cs) (generator_rows v cs) (certificate_view w) target
+  -- the lines of a certificate and its target
+  abbrev pub certificate_lines_by : Certificate → Terms → List ℕ
+  certificate_lines_by w target =
+      certificate_lines p.number (names_of p) (posed_origins p) (generator_rows (names_of p) p.constraints.now) (certificate_view w) target
 
--- the lines of each certificate and its target
-abbrev pub proof_lines_by : ℕ → NamesView → List Constraint → List Certificate → List Terms → List ℕ
-proof_lines_by k v cs ws targets = proof_lines k v (origins_of cs) (generator_rows v cs) (map certificate_view ws) targets
+  -- the lines of each certificate and its target
+  abbrev pub proof_lines_by : List Certificate → List Terms → List ℕ
+  proof_lines_by ws targets =
+      proof_lines p.number (names_of p) (posed_origins p) (generator_rows (names_of p) p.constraints.now) (map certificate_view ws) targets

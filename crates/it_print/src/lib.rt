@@ -4,6 +4,7 @@
 mod generators;
 mod lines;
 mod pieces;
+mod posed;
 mod proof_lines;
 mod rows;
 mod sets;
@@ -14,8 +15,9 @@ mod values;
 pub use generators::{write_elemental, write_origin};
 pub use lines::answer_line;
 pub use pieces::{write_number, write_signed};
+pub use posed::PosedQuestion;
 pub use proof_lines::proof_text;
 pub use rows::row_text;
 pub use sets::write_set;
-pub use sums::sum_text;
+pub use sums::{sum_text, write_proof};
 pub use values::{values_text, write_coordinate};

@@ -1,7 +1,6 @@
 //! The lines of answers.
 ghost use Rattle.std.specs.Prelude.{◌≡◌, ◌≤◌, ◌<◌, ◌+◌, ◌^◌, ◌++◌, length, codes, decimal, OnOk, IfOk, All};
 ghost use Rattle.it_space.specs.Answers.{answer_view};
-ghost use Rattle.it_question.specs.Questions.{question_body};
 ghost use Rattle.it_canon.specs.TrueLines.{variable_count};
 ghost use Rattle.it_print.specs.Lines.{AreListed, IsCauseOf, IsPrintable, IsRowOver, answer_line, auxiliary_names, cause_text, contained_line, open_line, origins_of, undecided_line, values_text, region_lines};
 ghost use Rattle.it_print.specs.ByConstraints.{proofs_text_by};
@@ -27,9 +26,8 @@ pub fn answer_line(
     constraints: &[Constraint],
     answer: &Answer,
 ) -> Result<Vec<u8>, AllocError>
-    requires some { 1 ≤ variable_count (question_body question.now) }
-    requires printable { IsPrintable (question_body question.now) (length constraints.now) answer.now }
-    ensures { IfOk result (λ t. t.items ≡ answer_line k (question_body question.now) (origins_of constraints.now) (answer_view answer.now)) }
+    requires printable { IsPrintable question.now.body (length constraints.now) answer.now }
+    ensures { IfOk result (λ t. t.items ≡ answer_line k question.now.body (origins_of constraints.now) (answer_view answer.now)) }
 {
     let names = problem_names(question);
     match answer {
@@ -123,8 +121,8 @@ fn contained_line(
     question: &Question,
     sets: &[VarSet],
 ) -> Result<Vec<u8>, AllocError>
-    requires { length sets.now ≡ length (auxiliary_names (question_body question.now).names (question_body question.now).verb) }
-    ensures { IfOk result (λ t. t.items ≡ contained_line k (question_body question.now) sets.now) }
+    requires { length sets.now ≡ length (auxiliary_names question.now.body.names question.now.body.verb) }
+    ensures { IfOk result (λ t. t.items ≡ contained_line k question.now.body sets.now) }
 {
     let mut out = Vec::new(alloc);
     write_number(&mut out, k)?;

@@ -2,15 +2,15 @@
 ghost use Rattle.std.specs.Prelude.{◌≡◌, ◌≤◌, ◌<◌, ◌+◌, ◌++◌, length, filter, flat_map, OnOk, IfOk, All};
 ghost use Rattle.it_space.specs.Answers.{answer_view, is_nonzero_weight};
 ghost use Rattle.it_polymatroid.specs.Elementals.{elementals};
-ghost use Rattle.it_question.specs.Questions.{question_body};
 ghost use Rattle.it_question.specs.ProblemLines.{problem_names};
-ghost use Rattle.it_canon.specs.TrueLines.{variable_count};
-ghost use Rattle.it_print.specs.Lines.{AreListed, IsPrintable, IsRowOver, answer_line, row_text};
+ghost use Rattle.it_print.specs.Lines.{AreListed, IsPrintable, IsRowOver, row_text};
+ghost use Rattle.it_print.specs.PosedQuestions.{HasRowsOver, IsCertificateOf, generator_count, names_of};
 ghost use Rattle.it_print.specs.ProofLines.{generator_rows, generator_row_text, proof_text_by, sum_line};
 ghost use Rattle.it_print.specs.ByConstraints.{certificate_lines_by, elemental_row_text, proof_lines_by, weight_line_by};
 
 use crate::lines::answer_line;
 use crate::pieces::{write_number, write_signed};
+use crate::posed::PosedQuestion;
 use crate::rows::write_constraint;
 use crate::sums::write_weight;
 use it_canon::problem_names;
@@ -32,25 +32,20 @@ pub fn proof_text(
     targets: &[Row],
     answer: &Answer,
 ) -> Result<Vec<u8>, AllocError>
-    requires some { 1 ≤ variable_count (question_body question.now) }
-    requires printable { IsPrintable (question_body question.now) (length constraints.now) answer.now }
-    requires rows { All (λ c. IsRowOver (problem_names (question_body question.now)) c.row) constraints.now }
-    requires targets { All (IsRowOver (problem_names (question_body question.now))) targets.now }
-    ensures { IfOk result (λ t. t.items ≡ proof_text_by k (question_body question.now) constraints.now targets.now (answer_view answer.now)) }
+    requires printable { IsPrintable question.now.body (length constraints.now) answer.now }
+    requires rows { All (λ c. IsRowOver (problem_names question.now.body) c.row) constraints.now }
+    requires targets { All (IsRowOver (problem_names question.now.body)) targets.now }
+    ensures { IfOk result (λ t. t.items ≡ proof_text_by k question.now.body constraints.now targets.now (answer_view answer.now)) }
 {
     let mut out = answer_line(alloc, k, question, constraints, answer)?;
-    let names = problem_names(question);
+    let posed = PosedQuestion {
+        number: k,
+        question,
+        constraints,
+    };
     match answer {
         Answer::Yes(proofs) | Answer::Contained { proofs, .. } => {
-            write_proof_lines(
-                alloc,
-                &mut out,
-                k,
-                names,
-                constraints,
-                targets,
-                proofs.as_slice(),
-            )?;
+            write_proof_lines(alloc, &mut out, &posed, targets, proofs.as_slice())?;
         }
         Answer::No { .. } | Answer::Undecided(_) | Answer::Region(_) | Answer::Open { .. } => {}
     }
@@ -61,21 +56,18 @@ pub fn proof_text(
 fn write_proof_lines(
     alloc: Global,
     out: &mut Vec<u8>,
-    k: usize,
-    names: &Names,
-    constraints: &[Constraint],
+    posed: &PosedQuestion<'_>,
     targets: &[Row],
     proofs: &[Certificate],
 ) -> Result<(), AllocError>
-    requires some { 1 ≤ length names.now.variables }
-    requires there { AreListed (length names.now.variables) (length constraints.now) proofs.now }
-    requires rows { All (λ c. IsRowOver names.now c.row) constraints.now }
-    requires targets { All (IsRowOver names.now) targets.now }
-    ensures { OnOk result (out.new.items ≡ out.old.items ++ proof_lines_by k names.now constraints.now proofs.now targets.now) }
+    requires there { AreListed (length (names_of posed.now).variables) (length posed.now.constraints.now) proofs.now }
+    requires rows { HasRowsOver posed.now }
+    requires targets { All (IsRowOver (names_of posed.now)) targets.now }
+    ensures { OnOk result (out.new.items ≡ out.old.items ++ proof_lines_by posed.now proofs.now targets.now) }
 {
     // by index, since the invariant speaks of both lists from i on
     for i in 0..proofs.len().min(targets.len()) {
-        write_certificate_lines(alloc, out, k, names, constraints, &proofs[i], &targets[i])?;
+        write_certificate_lines(alloc, out, posed, &proofs[i], &targets[i])?;
     }
     Ok(())
 }
@@ -85,40 +77,33 @@ fn write_proof_lines(
 fn write_certificate_lines(
     alloc: Global,
     out: &mut Vec<u8>,
-    k: usize,
-    names: &Names,
-    constraints: &[Constraint],
+    posed: &PosedQuestion<'_>,
     certificate: &Certificate,
     target: &Row,
 ) -> Result<(), AllocError>
-    requires some { 1 ≤ length names.now.variables }
-    requires there { All (λ w. w.0 < length (elementals (length names.now.variables)) + length constraints.now) certificate.now.weights.items }
-    requires rows { All (λ c. IsRowOver names.now c.row) constraints.now }
-    requires target { IsRowOver names.now target.now }
-    ensures { OnOk result (out.new.items ≡ out.old.items ++ certificate_lines_by k names.now constraints.now certificate.now target.now) }
+    requires there { IsCertificateOf posed.now certificate.now }
+    requires rows { HasRowsOver posed.now }
+    requires target { IsRowOver (names_of posed.now) target.now }
+    ensures { OnOk result (out.new.items ≡ out.old.items ++ certificate_lines_by posed.now certificate.now target.now) }
 {
-    let weights = certificate.weights.as_slice();
-    write_weight_lines(alloc, out, k, names, constraints, weights)?;
-    write_sum_line(out, k, names, certificate, target)
+    write_weight_lines(alloc, out, posed, certificate.weights.as_slice())?;
+    write_sum_line(out, posed, certificate, target)
 }
 
 /// Appends the lines of the weights other than 0.
 fn write_weight_lines(
     alloc: Global,
     out: &mut Vec<u8>,
-    k: usize,
-    names: &Names,
-    constraints: &[Constraint],
+    posed: &PosedQuestion<'_>,
     weights: &[(u32, i128)],
 ) -> Result<(), AllocError>
-    requires some { 1 ≤ length names.now.variables }
-    requires there { All (λ w. w.0 < length (elementals (length names.now.variables)) + length constraints.now) weights.now }
-    requires rows { All (λ c. IsRowOver names.now c.row) constraints.now }
-    ensures { OnOk result (out.new.items ≡ out.old.items ++ flat_map (weight_line_by k names.now constraints.now) (filter is_nonzero_weight weights.now)) }
+    requires there { All (λ w. w.0 < generator_count posed.now) weights.now }
+    requires rows { HasRowsOver posed.now }
+    ensures { OnOk result (out.new.items ≡ out.old.items ++ flat_map (weight_line_by posed.now) (filter is_nonzero_weight weights.now)) }
 {
     for weight in weights {
         if is_nonzero_weight(weight) {
-            write_weight_line(alloc, out, k, names, constraints, weight)?;
+            write_weight_line(alloc, out, posed, weight)?;
         }
     }
     Ok(())
@@ -129,21 +114,19 @@ fn write_weight_lines(
 fn write_weight_line(
     alloc: Global,
     out: &mut Vec<u8>,
-    k: usize,
-    names: &Names,
-    constraints: &[Constraint],
+    posed: &PosedQuestion<'_>,
     weight: &(u32, i128),
 ) -> Result<(), AllocError>
-    requires some { 1 ≤ length names.now.variables }
-    requires there { weight.now.0 < length (elementals (length names.now.variables)) + length constraints.now }
-    requires rows { All (λ c. IsRowOver names.now c.row) constraints.now }
-    ensures { OnOk result (out.new.items ≡ out.old.items ++ weight_line_by k names.now constraints.now weight.now) }
+    requires there { weight.now.0 < generator_count posed.now }
+    requires rows { HasRowsOver posed.now }
+    ensures { OnOk result (out.new.items ≡ out.old.items ++ weight_line_by posed.now weight.now) }
 {
-    write_number(out, k)?;
+    let names = problem_names(posed.question);
+    write_number(out, posed.number)?;
     out.extend_from_slice(b" proof ")?;
-    write_weight(out, names, constraints, weight)?;
+    write_weight(out, names, posed.constraints, weight)?;
     out.extend_from_slice(b" : ")?;
-    write_generator_row(alloc, out, names, constraints, weight.0)?;
+    write_generator_row(alloc, out, names, posed.constraints, weight.0)?;
     out.extend_from_slice(b"\n")
 }
 
@@ -198,18 +181,17 @@ fn write_constraint_row(
 /// Appends the line of the scale and the target.
 fn write_sum_line(
     out: &mut Vec<u8>,
-    k: usize,
-    names: &Names,
+    posed: &PosedQuestion<'_>,
     certificate: &Certificate,
     target: &Row,
 ) -> Result<(), AllocError>
-    requires { IsRowOver names.now target.now }
-    ensures { OnOk result (out.new.items ≡ out.old.items ++ sum_line k names.now certificate.now.scale target.now) }
+    requires { IsRowOver (names_of posed.now) target.now }
+    ensures { OnOk result (out.new.items ≡ out.old.items ++ sum_line posed.now.number (names_of posed.now) certificate.now.scale target.now) }
 {
-    write_number(out, k)?;
+    write_number(out, posed.number)?;
     out.extend_from_slice(b" sum ")?;
     write_signed(out, certificate.scale)?;
     out.extend_from_slice(b" : ")?;
-    write_constraint(out, names, Kind::Inequality, target)?;
+    write_constraint(out, problem_names(posed.question), Kind::Inequality, target)?;
     out.extend_from_slice(b"\n")
 }

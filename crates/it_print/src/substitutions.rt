@@ -1,6 +1,5 @@
 //! Substitutions: the set that each auxiliary variable stands for.
 ghost use Rattle.std.specs.Prelude.{◌≡◌, ◌<◌, ◌++◌, [], drop, length, slice_index_or, OnOk};
-ghost use Rattle.it_question.specs.Questions.{question_body};
 ghost use Rattle.it_print.specs.Lines.{auxiliary_names, part_for, parts_for, substitution_text};
 
 use crate::sets::{write_set_or_zero, write_variable};
@@ -15,14 +14,14 @@ pub fn write_substitution(
     question: &Question,
     sets: &[VarSet],
 ) -> Result<(), AllocError>
-    requires { length sets.now ≡ length (auxiliary_names (question_body question.now).names (question_body question.now).verb) }
-    ensures { OnOk result (out.new.items ≡ out.old.items ++ substitution_text (question_body question.now) sets.now) }
+    requires { length sets.now ≡ length (auxiliary_names question.now.body.names question.now.body.verb) }
+    ensures { OnOk result (out.new.items ≡ out.old.items ++ substitution_text question.now.body sets.now) }
 {
-    match &question.verb {
+    match question.verb() {
         Verb::Prove(_) | Verb::Eliminate(_) => Ok(()),
         Verb::Contain { first, second, .. } => {
-            let common = question.names.space().variables;
-            write_parts(out, &first.names, &second.names, common, sets)
+            let common = question.space().variables;
+            write_parts(out, first.names(), second.names(), common, sets)
         }
     }
 }

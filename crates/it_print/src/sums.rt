@@ -1,13 +1,14 @@
 //! Certificates: each weight before its generator, over the scale.
 ghost use Rattle.std.specs.Prelude.{◌≡◌, ◌≤◌, ◌<◌, ◌+◌, ◌++◌, length, OnOk, IfOk, All};
 ghost use Rattle.it_polymatroid.specs.Elementals.{elementals};
-ghost use Rattle.it_question.specs.Questions.{question_body};
 ghost use Rattle.it_canon.specs.TrueLines.{variable_count};
 ghost use Rattle.it_print.specs.Lines.{AreListed, weight_text, origins_of, sum_text, variable_names};
+ghost use Rattle.it_print.specs.PosedQuestions.{IsCertificateOf, proof_text_of};
 ghost use Rattle.it_print.specs.ByConstraints.{certificate_text_by, proofs_text_by};
 
 use crate::generators::write_generator;
 use crate::pieces::{write_if, write_signed};
+use crate::posed::PosedQuestion;
 use it_canon::problem_names;
 use it_problems::Constraint;
 use it_question::types::Question;
@@ -58,6 +59,20 @@ fn write_certificate(
         constraints,
         certificate.weights.as_slice(),
     )
+}
+
+/// Appends the scale and the sum of a certificate of a posed question.
+pub fn write_proof(
+    alloc: Global,
+    out: &mut Vec<u8>,
+    posed: &PosedQuestion<'_>,
+    proof: &Certificate,
+) -> Result<(), AllocError>
+    requires there { IsCertificateOf posed.now proof.now }
+    ensures { OnOk result (out.new.items ≡ out.old.items ++ proof_text_of posed.now proof.now) }
+{
+    let names = problem_names(posed.question);
+    write_certificate(alloc, out, names, posed.constraints, proof)
 }
 
 /// Appends the weights other than 0 with ` + ` between them, or `0`.
@@ -131,9 +146,8 @@ pub fn sum_text(
     constraints: &[Constraint],
     certificate: &Certificate,
 ) -> Result<Vec<u8>, AllocError>
-    requires some { 1 ≤ variable_count (question_body question.now) }
-    requires there { All (λ w. w.0 < length (elementals (variable_count (question_body question.now))) + length constraints.now) certificate.now.weights.items }
-    ensures { IfOk result (λ t. t.items ≡ sum_text (variable_names (question_body question.now)) (origins_of constraints.now) certificate.now.weights.items) }
+    requires there { All (λ w. w.0 < length (elementals (variable_count question.now.body)) + length constraints.now) certificate.now.weights.items }
+    ensures { IfOk result (λ t. t.items ≡ sum_text (variable_names question.now.body) (origins_of constraints.now) certificate.now.weights.items) }
 {
     let mut out = Vec::new(alloc);
     write_sum(

@@ -1,7 +1,7 @@
 -- A point that separates the target from the columns, made whole, refutes the target.
-use Rattle.std.proofs.Common.{◌≡◌, ℕ, zero, suc, ◌+◌, ◌-◌, ◌^◌, ◌<◌, ◌≤◌, ℤ, pos, neg_ℤ, ◌+ℤ◌, ◌*ℤ◌, ◌≤ℤ◌, List, [], ◌∷◌, ◌++◌, map, length, get_or, append_assoc, All, Bool, true, false, cond, nat_eq, eq-eqb, ne_eqb, refl, sym, ap, ap₂, subst, ◌∙◌, arith}
+use Rattle.std.proofs.Common.{◌≡◌, ◌≢◌, ◌⊎◌, inl, inr, ℕ, zero, suc, ◌+◌, ◌-◌, ◌^◌, ◌<◌, ◌≤◌, ℤ, pos, neg_ℤ, ◌+ℤ◌, ◌*ℤ◌, ◌≤ℤ◌, List, [], ◌∷◌, ◌++◌, map, length, get_or, append_assoc, All, Bool, true, false, cond, nat_eq, eq-eqb, ne_eqb, refl, sym, ap, ap₂, subst, ◌∙◌, arith}
 use Rattle.std.specs.List.{zip, AllByRecursion as Every}
-use Rattle.std.proofs.lemmas.Bool.{eqb-true}
+use Rattle.std.proofs.lemmas.Bool.{cases_lt, eqb-true}
 use Rattle.std.proofs.lemmas.Nat.{pow_pos}
 use Rattle.it_number.specs.Limit.{IsWithin}
 use Rattle.it_number.proofs.Ring.{ring, v, nil}
@@ -12,7 +12,7 @@ use Rattle.it_rational.specs.Rational.{Rational, integer, times, is_at_least_zer
 use Rattle.it_rational.proofs.RationalLaws.{ring_ℚ}
 use Rattle.it_space.specs.declared.spaces.Space.{Space}
 use Rattle.it_problems.specs.Problems.{ProblemView, IsProblem, Meets}
-use Rattle.it_space.specs.Rows.{Terms, Ascends, IsOver, coefficient, point_of, value, single_term}
+use Rattle.it_space.specs.Rows.{Terms, IsOver, coefficient, point_of, value}
 use Rattle.it_space.specs.Spaces.{size_of}
 use Rattle.it_space.proofs.EveryLemmas.{every_of, all_of, every-same, every-map, every_mapped, every_all}
 use Rattle.it_polymatroid.specs.Elementals.{span}
@@ -32,33 +32,63 @@ use Rattle.it_closure.specs.Coordinates.{RiseTo}
 use Rattle.it_closure.specs.Reading.{dependences_of}
 use Rattle.it_columns.specs.Columns.{columns}
 use Rattle.it_prove.specs.Closed.{collapsed_row, collapsed_generator, closed_places, closed_generators, closed_target, spread_point}
-use Rattle.it_prove.specs.Steps.{terms_of_places}
 use Rattle.it_columns.specs.Scaling.{scale_of, scaled_number, scaled_point}
 use Rattle.it_columns.proofs.Scales.{scale_pos, denominators_divide}
 use Rattle.it_columns.proofs.ColumnLemmas.{In}
 use Rattle.it_columns.proofs.ColumnLemmas.{columns_keep, columns_met}
 use Rattle.it_prove.proofs.ClosedRows.{rise_low, rise_apart, coords_rise, collapsed_over, collapsed_value}
-use Rattle.it_prove.proofs.LiftLemmas.{coefficients_within, dependences_sound, below_size}
+use Rattle.it_prove.proofs.LiftLemmas.{dependences_sound, below_size}
 use Rattle.it_columns.proofs.Wholes.{whole_scaled, least_scaled, below_scaled}
 use Prim.Native.Nat.{◌∣◌}
-use Rattle.it_space.proofs.TermLemmas.{ascends-single_term, ascends_lower, coefficient-append, coefficient-single_term}
 
--- ---- a point's values by coordinate
+-- ---- a point's values by coordinate: those of its list, and 0 elsewhere
 
-coefficient_some : (x : ℕ) (y : ℤ) (rest : Terms) (c : ℕ) → coefficient (single_term x y ++ rest) c ≡ cond (nat_eq x c) y (pos 0) +ℤ coefficient rest c
-coefficient_some x y rest c = coefficient-append (single_term x y) rest c ∙ ap (λ z. z +ℤ coefficient rest c) (coefficient-single_term x y c)
+pub zip_below : (from to : ℕ) (cs : List ℕ) (vs : List ℤ) (c : ℕ) → RiseTo from to cs → c < from → coefficient (zip cs vs) c ≡ pos 0
+zip_below from to [] vs c r h = refl
+zip_below from to (x ∷ xs) [] c r h = refl
+zip_below from to (x ∷ xs) (y ∷ vs) c r h = ap₂ (λ b z. cond b y (pos 0) +ℤ z) (ne_eqb x c (λ e. omega (arith, r.0, e)))
+    (zip_below (x + 1) to xs vs c r.1 (omega (arith, r.0)))
 
-pub pairs_below : (from to : ℕ) (cs : List ℕ) (vs : List ℤ) (c : ℕ) → RiseTo from to cs → c < from → coefficient (terms_of_places cs vs) c ≡ pos 0
-pairs_below from to [] vs c r h = refl
-pairs_below from to (x ∷ xs) [] c r h = refl
-pairs_below from to (x ∷ xs) (y ∷ vs) c r h =
-    coefficient_some x y (terms_of_places xs vs) c
-    ∙ ap₂ (λ b z. cond b y (pos 0) +ℤ z) (ne_eqb x c (λ e. omega (arith, r.0, e))) (pairs_below (x + 1) to xs vs c r.1 (omega (arith, r.0)))
+pub zip_at : (from to : ℕ) (cs : List ℕ) (vs : List ℤ) → RiseTo from to cs → length vs ≡ length cs → (k : ℕ) → k < length cs
+    → coefficient (zip cs vs) (get_or cs k 0) ≡ get_or vs k (pos 0)
+zip_at from to [] vs r e k h = absurd (omega arith)
+zip_at from to (x ∷ xs) [] r e k h = absurd (omega (arith, e))
+zip_at from to (x ∷ xs) (y ∷ vs) r e zero h =
+    ap₂ (λ b z. cond b y (pos 0) +ℤ z) (eq-eqb x x refl) (zip_below (x + 1) to xs vs x r.1 (omega arith)) ∙ +ℤ_idr y
+zip_at from to (x ∷ xs) (y ∷ vs) r e (suc k) h =
+    ap (λ b. cond b y (pos 0) +ℤ coefficient (zip xs vs) (get_or xs k 0))
+    (ne_eqb x (get_or xs k 0) (λ f. omega (arith, rise_low (x + 1) to xs r.1 k (omega arith), f)))
+    ∙ +ℤ_idl (coefficient (zip xs vs) (get_or xs k 0)) ∙ zip_at (x + 1) to xs vs r.1 (omega (arith, e)) k (omega arith)
 
-pub pairs_ascend : (from to : ℕ) (cs : List ℕ) (vs : List ℤ) → RiseTo from to cs → Every IsWithin vs → Ascends from (terms_of_places cs vs)
-pairs_ascend from to [] vs r w = tt
-pairs_ascend from to (x ∷ xs) [] r w = tt
-pairs_ascend from to (x ∷ xs) (y ∷ vs) r w = ascends-single_term from x y (terms_of_places xs vs) r.0 w.0 (pairs_ascend (x + 1) to xs vs r.1 w.1)
+zip_without : (cs : List ℕ) (vs : List ℤ) (c : ℕ) → ((k : ℕ) → k < length cs → get_or cs k 0 ≢ c) → coefficient (zip cs vs) c ≡ pos 0
+zip_without [] vs c h = refl
+zip_without (x ∷ xs) [] c h = refl
+zip_without (x ∷ xs) (y ∷ vs) c h = ap₂ (λ b z. cond b y (pos 0) +ℤ z) (ne_eqb x c (h 0 (omega arith)))
+    (zip_without xs vs c (λ k l. h (suc k) (omega arith)))
+
+pub zip_between : (cs : List ℕ) (vs : List ℤ) (c i : ℕ) → ((k : ℕ) → k < i → get_or cs k 0 < c)
+    → ((k : ℕ) → i ≤ k → k < length cs → c < get_or cs k 0) → coefficient (zip cs vs) c ≡ pos 0
+zip_between cs vs c i below above = zip_without cs vs c (λ k l. by_side k l (cases_lt k i))
+  where
+    by_side : (k : ℕ) → k < length cs → (k < i) ⊎ (i ≤ k) → get_or cs k 0 ≢ c
+    by_side k l (inl h) e = omega (arith, below k h, e)
+    by_side k l (inr h) e = omega (arith, above k h l, e)
+
+zip_within : (from to : ℕ) (cs : List ℕ) (vs : List ℤ) → RiseTo from to cs → Every IsWithin vs → (c : ℕ) → IsWithin (coefficient (zip cs vs) c)
+zip_within from to [] vs r w c = omega arith
+zip_within from to (x ∷ xs) [] r w c = omega arith
+zip_within from to (x ∷ xs) (y ∷ vs) r w c = by_test (nat_eq x c) refl (zip_within (x + 1) to xs vs r.1 w.1 c)
+  where
+    by_test : (b : Bool) → nat_eq x c ≡ b → IsWithin (coefficient (zip xs vs) c) → IsWithin (cond b y (pos 0) +ℤ coefficient (zip xs vs) c)
+    by_test true e ih = subst IsWithin (sym (ap (λ z. y +ℤ z) (zip_below (x + 1) to xs vs c r.1 (omega (arith, eqb-true x c e))) ∙ +ℤ_idr y)) w.0
+    by_test false e ih = subst IsWithin (sym (+ℤ_idl (coefficient (zip xs vs) c))) ih
+
+pub rise_far : (from to : ℕ) (cs : List ℕ) → RiseTo from to cs → (i j : ℕ) → i ≤ j → j < length cs → get_or cs i 0 ≤ get_or cs j 0
+rise_far from to [] r i j h l = absurd (omega arith)
+rise_far from to (x ∷ xs) r zero zero h l = omega arith
+rise_far from to (x ∷ xs) r zero (suc j) h l = omega (arith, rise_low (x + 1) to xs r.1 j (omega arith))
+rise_far from to (x ∷ xs) r (suc i) zero h l = absurd (omega arith)
+rise_far from to (x ∷ xs) r (suc i) (suc j) h l = rise_far (x + 1) to xs r.1 i j (omega arith) (omega arith)
 
 -- as the code puts them one after the other
 pub spread_more : (F : ℕ → ℤ) (size c : ℕ) (old new : List ℤ) → c ≤ size → new ≡ old ++ F c ∷ [] → old ++ map F (span c (size + 1 - c)) ≡ map F (span 1 size)
@@ -72,32 +102,24 @@ spread_more F size c old new h is inv =
 pub spread_length : (n : ℕ) (ds : List Dependence) (size : ℕ) (row : Terms) → length (map (spread_out n ds (coefficient row)) (span 1 size)) ≡ size
 spread_length n ds size row = length-map (span 1 size) (λ c. coefficient row (place n ds c)) ∙ length-span 1 size
 
-pub spread_within : (n : ℕ) (ds : List Dependence) (size : ℕ) (row : Terms) → Ascends 0 row
-    → All IsWithin (map (spread_out n ds (coefficient row)) (span 1 size))
-spread_within n ds size row a = all_of IsWithin (map (spread_out n ds (coefficient row)) (span 1 size))
-    (every-map IsWithin (λ c. coefficient row (place n ds c)) (span 1 size)
-    (every_all (λ c. IsWithin (coefficient row (place n ds c))) (span 1 size) (λ c. coefficients_within 0 row a (place n ds c))))
-
--- zeros left in or out, the values at the places are the same
-pairs_same : (cs : List ℕ) (vs : List ℤ) (c : ℕ) → coefficient (terms_of_places cs vs) c ≡ coefficient (zip cs vs) c
-pairs_same [] vs c = refl
-pairs_same (x ∷ xs) [] c = refl
-pairs_same (x ∷ xs) (y ∷ vs) c = coefficient_some x y (terms_of_places xs vs) c ∙ ap (λ z. cond (nat_eq x c) y (pos 0) +ℤ z) (pairs_same xs vs c)
-
-spread_same : (n : ℕ) (ds : List Dependence) (size : ℕ) (cs : List ℕ) (vs : List ℤ)
-    → map (spread_out n ds (coefficient (terms_of_places cs vs))) (span 1 size)
-    ≡ map (spread_out n ds (coefficient (zip cs vs))) (span 1 size)
-spread_same n ds size cs vs = ap (λ (f : ℕ → ℤ). map (spread_out n ds f) (span 1 size)) (λ i c. pairs_same cs vs c i)
+pub spread_within : (n : ℕ) (ds : List Dependence) (size : ℕ) (cs : List ℕ) (vs : List ℤ) (at : Terms) (values : List ℤ) → at ≡ zip cs vs
+    → values ≡ map (spread_out n ds (coefficient at)) (span 1 size) → (to : ℕ) × RiseTo 1 to cs → All IsWithin vs → All IsWithin values
+spread_within n ds size cs vs at values is e r w = subst (All IsWithin) (sym (e ∙ ap spread is))
+    (all_of IsWithin (spread (zip cs vs)) (every-map IsWithin (λ c. coefficient (zip cs vs) (place n ds c)) (span 1 size)
+    (every_all (λ c. IsWithin (coefficient (zip cs vs) (place n ds c))) (span 1 size)
+    (λ c. zip_within 1 r.0 cs vs r.1 (every_of IsWithin vs w) (place n ds c)))))
+  where
+    spread : Terms → List ℤ
+    spread at = map (spread_out n ds (coefficient at)) (span 1 size)
 
 -- as the code has them
-pub point_spread : (q : ProblemView) (s : Space) (ds : List Dependence) (cs : List ℕ) (qs : List Rational) (row : Terms) (values : List ℤ)
-    → s ≡ q.space → ds ≡ dependences_of q → cs ≡ closed_places q → row ≡ terms_of_places cs (scaled_point qs)
-    → values ≡ map (spread_out s.variables ds (coefficient row)) (span 1 (size_of s)) → values ≡ spread_point q qs
-point_spread q s ds cs qs row values space list places is e =
-    e ∙ ap₂ (λ (t : Space) (es : List Dependence). map (spread_out t.variables es (coefficient row)) (span 1 (size_of t))) space list
-    ∙ ap (λ (at : Terms). map (spread_out q.space.variables (dependences_of q) (coefficient at)) (span 1 (size_of q.space)))
-    (is ∙ ap (λ (xs : List ℕ). terms_of_places xs (scaled_point qs)) places)
-    ∙ spread_same q.space.variables (dependences_of q) (size_of q.space) (closed_places q) (scaled_point qs)
+pub point_spread : (q : ProblemView) (s : Space) (ds : List Dependence) (cs : List ℕ) (vs : List ℤ) (qs : List Rational) (at : Terms)
+    (values : List ℤ) → s ≡ q.space → ds ≡ dependences_of q → cs ≡ closed_places q → vs ≡ scaled_point qs → at ≡ zip cs vs
+    → values ≡ map (spread_out s.variables ds (coefficient at)) (span 1 (size_of s)) → values ≡ spread_point q qs
+point_spread q s ds cs vs qs at values space list places scaled is e =
+    e ∙ ap₂ (λ (t : Space) (es : List Dependence). map (spread_out t.variables es (coefficient at)) (span 1 (size_of t))) space list
+    ∙ ap (λ (ts : Terms). map (spread_out q.space.variables (dependences_of q) (coefficient ts)) (span 1 (size_of q.space)))
+    (is ∙ ap₂ zip places scaled)
 
 abbrev rational_at : List ℕ → List Rational → ℕ → Rational
 rational_at [] qs c = integer (pos 0)
@@ -108,21 +130,20 @@ times_zero : (l : ℕ) → integer (pos 0) ≡ times (integer (pos l)) (integer 
 times_zero l = sym (ring ring_ℚ (integer (pos l) ∷ []) (S.times (v 0) nil) nil refl)
 
 whole_found : (l from to : ℕ) (cs : List ℕ) (qs : List Rational) → RiseTo from to cs → Every (λ q. q.den ∣ l) qs → (c : ℕ)
-    → integer (coefficient (terms_of_places cs (map (scaled_number l) qs)) c) ≡ times (integer (pos l)) (rational_at cs qs c)
+    → integer (coefficient (zip cs (map (scaled_number l) qs)) c) ≡ times (integer (pos l)) (rational_at cs qs c)
 whole_found l from to [] qs r d c = times_zero l
 whole_found l from to (x ∷ xs) [] r d c = times_zero l
-whole_found l from to (x ∷ xs) (q ∷ qs) r d c = ap integer (coefficient_some x (scaled_number l q)
-    (terms_of_places xs (map (scaled_number l) qs)) c) ∙ by_test (nat_eq x c) refl (whole_found l (x + 1) to xs qs r.1 d.1 c)
+whole_found l from to (x ∷ xs) (q ∷ qs) r d c = by_test (nat_eq x c) refl (whole_found l (x + 1) to xs qs r.1 d.1 c)
   where
-    by_test : (b : Bool) → nat_eq x c ≡ b → integer (coefficient (terms_of_places xs (map (scaled_number l) qs)) c)
+    by_test : (b : Bool) → nat_eq x c ≡ b → integer (coefficient (zip xs (map (scaled_number l) qs)) c)
         ≡ times (integer (pos l)) (rational_at xs qs c)
-        → integer (cond b (scaled_number l q) (pos 0) +ℤ coefficient (terms_of_places xs (map (scaled_number l) qs)) c)
+        → integer (cond b (scaled_number l q) (pos 0) +ℤ coefficient (zip xs (map (scaled_number l) qs)) c)
         ≡ times (integer (pos l)) (cond b q (rational_at xs qs c))
     by_test true e ih =
-        let past : coefficient (terms_of_places xs (map (scaled_number l) qs)) c
-        ≡ pos 0 = pairs_below (x + 1) to xs (map (scaled_number l) qs) c r.1 (omega (arith, eqb-true x c e)) in
+        let past : coefficient (zip xs (map (scaled_number l) qs)) c
+        ≡ pos 0 = zip_below (x + 1) to xs (map (scaled_number l) qs) c r.1 (omega (arith, eqb-true x c e)) in
         ap (λ y. integer (scaled_number l q +ℤ y)) past ∙ ap integer (+ℤ_idr (scaled_number l q)) ∙ whole_scaled l q d.0
-    by_test false e ih = ap integer (+ℤ_idl (coefficient (terms_of_places xs (map (scaled_number l) qs)) c)) ∙ ih
+    by_test false e ih = ap integer (+ℤ_idl (coefficient (zip xs (map (scaled_number l) qs)) c)) ∙ ih
 
 found_at : (from to : ℕ) (cs : List ℕ) (qs : List Rational) → RiseTo from to cs → length qs ≡ length cs → (k : ℕ) → k < length cs
     → rational_at cs qs (get_or cs k 0) ≡ get_or qs k (integer (pos 0))
@@ -163,7 +184,7 @@ module _ (q : ProblemView) (target : Terms) (qs : List Rational) (k : IsProblem 
     (s : Separates rationals (length (closed_places q)) (length (columns (closed_generators q)))
     (feasibility_problem (closed_places q) (columns (closed_generators q)) (closed_target q target)) qs) where
   abbrev values : Terms
-  values = terms_of_places (closed_places q) (scaled_point qs)
+  values = zip (closed_places q) (scaled_point qs)
 
   sizes : size_of q.space < 2 ^ q.space.variables + q.space.rates
   sizes = omega (arith, pow_pos q.space.variables)
@@ -204,7 +225,7 @@ module _ (q : ProblemView) (target : Terms) (qs : List Rational) (k : IsProblem 
       ≡ times (integer (pos (scale_of qs))) (rational_at (closed_places q) qs t.0)) row (λ t. whole_at t.0)
 
   no_value_at_zero : coefficient values 0 ≡ pos 0
-  no_value_at_zero = pairs_below 1 (2 ^ q.space.variables + q.space.rates) (closed_places q) (scaled_point qs) 0 closed_places_rise (omega arith)
+  no_value_at_zero = zip_below 1 (2 ^ q.space.variables + q.space.rates) (closed_places q) (scaled_point qs) 0 closed_places_rise (omega arith)
 
   closed_met : Every (λ g. Meets g.kind (value g.row (coefficient values))) (closed_generators q)
   closed_met = columns_met (closed_generators q) (coefficient values) (every_of (λ r. pos 0 ≤ℤ value r (coefficient values)) (columns (closed_generators q))
@@ -216,7 +237,6 @@ module _ (q : ProblemView) (target : Terms) (qs : List Rational) (k : IsProblem 
       → value (collapsed_row q.space.variables (dependences_of q) row) (coefficient values) ≡ value row (point_of (spread_point q qs))
   value_same row b = collapsed_value q.space.variables (dependences_of q) row (coefficient values) no_value_at_zero
       ∙ sym (value_spread q.space.variables (dependences_of q) (size_of q.space) values row b)
-      ∙ ap (λ (vs : List ℤ). value row (point_of vs)) (spread_same q.space.variables (dependences_of q) (size_of q.space) (closed_places q) (scaled_point qs))
 
   generators_met : Every (λ g. Meets g.kind (value g.row (point_of (spread_point q qs)))) (generators q)
   generators_met = every_both (λ g. IsOver (size_of q.space) g.row) (λ g. Meets g.kind
@@ -244,8 +264,3 @@ places_rise q cs k e = (
   subst (RiseTo 1 (2 ^ q.space.variables + q.space.rates)) (sym e)
       (coords_rise q.space.variables q.space.rates (dependences_of q) (dependences_sound q k)),
 )
-
--- and the row of the scaled values
-pub pairs_canonical : (cs : List ℕ) (vs : List ℤ) (ts : Terms) → ts ≡ terms_of_places cs vs → (to : ℕ) × RiseTo 1 to cs → All IsWithin vs → Ascends 0 ts
-pairs_canonical cs vs ts e r w = subst (Ascends 0) (sym e) (ascends_lower 0 1 (terms_of_places cs vs) (omega arith)
-    (pairs_ascend 1 r.0 cs vs r.1 (every_of IsWithin vs w)))

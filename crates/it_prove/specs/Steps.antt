@@ -1,8 +1,8 @@
 -- Definitions for the contracts inside the crate; no public clause cites this module.
-use Rattle.std.specs.Prelude.{ℕ, ℤ, List, [], ◌∷◌, ◌++◌, length, All}
+use Rattle.std.specs.Prelude.{◌≡◌, ℕ, ℤ, pos, ◌≤ℤ◌, List, ◌++◌, length, All}
 use Rattle.it_rational.specs.Rational.{Rational}
 use Rattle.it_problems.specs.Problems.{ProblemView}
-use Rattle.it_space.specs.Rows.{Terms, coefficient, single_term}
+use Rattle.it_space.specs.Rows.{Terms, IsCanonical, coefficient}
 use Rattle.it_tableau.specs.Operations.{rationals}
 use Rattle.it_tableau.specs.Problems.{feasibility_problem}
 use Rattle.it_tableau.specs.SimplexTables.{FeasibilityProblem}
@@ -10,21 +10,26 @@ use Rattle.it_run.specs.Readings.{Separates, SumsUp}
 use Rattle.it_elemental.specs.Generators.{generators, generator_at}
 use Rattle.it_closure.specs.declared.dependences.Dependence.{Dependence}
 use Rattle.it_closure.specs.Collapse.{CollapseFits, spread_out}
+use Rattle.it_closure.specs.Coordinates.{RiseTo}
 use Rattle.it_closure.specs.DependencesViews.{DependencesView}
 use Rattle.it_closure.specs.Reading.{dependences_of}
 use Rattle.it_columns.specs.Columns.{columns, columns_by}
 use Rattle.it_prove.specs.Closed.{closed_generators, closed_places, closed_target, collapsed_row}
 use Rattle.it_prove.specs.ClosedProblems.{SameRows}
 
--- the nonzero ones of the values at coordinates, as a row
-abbrev pub terms_of_places : List ℕ → List ℤ → Terms
-terms_of_places [] vs = []
-terms_of_places (c ∷ cs) [] = []
-terms_of_places (c ∷ cs) (v ∷ vs) = single_term c v ++ terms_of_places cs vs
+-- the coordinates of a point over closed sets ascend, and each has a value
+pub record AreClosedValues (coordinates : List ℕ) (values : List ℤ) : Type 0 where
+  pub rise : (to : ℕ) × RiseTo 1 to coordinates
+  pub complete : length values ≡ length coordinates
 
--- the value at a coordinate of a row over closed sets, spread out
+-- weights of columns ascend by column, and none is below 0
+pub record AreColumnWeights (weights : Terms) : Type 0 where
+  pub ascend : IsCanonical weights
+  pub least : (c : ℕ) → pos 0 ≤ℤ coefficient weights c
+
+-- the value at a coordinate of a point over closed sets, spread out
 abbrev pub spread_value : DependencesView → Terms → ℕ → ℤ
-spread_value ds row c = spread_out ds.space.variables ds.list (coefficient row) c
+spread_value ds point c = spread_out ds.space.variables ds.list (coefficient point) c
 
 -- ---- columns
 

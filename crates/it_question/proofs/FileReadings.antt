@@ -4,13 +4,12 @@ use Rattle.std.proofs.lemmas.List.Elements.{All-cons, All-head, All-tail, All-we
 use Rattle.it_forms.specs.FormReading.{read}
 use Rattle.it_forms.specs.Letters.{Letter}
 use Rattle.it_question.specs.declared.bodies.Body.{Body}
-use Rattle.it_question.specs.declared.types.Question.{Question}
 use Rattle.it_question.specs.Bodies.{body_view}
 use Rattle.it_question.specs.Files.{IsFile}
 use Rattle.it_question.specs.Limits.{IsQuestion}
 use Rattle.it_question.specs.Lines.{LineView, AreLinesOf, letters_of_lines}
 use Rattle.it_question.specs.QuestionForms.{file}
-use Rattle.it_question.specs.Questions.{BodyView, QuestionView, question_body, question_view}
+use Rattle.it_question.specs.Questions.{BodyView, QuestionView}
 use Rattle.it_question.specs.TableSizes.{HasSmallTable}
 use Rattle.it_question.specs.Texts.{question_line_count, with_texts}
 use Rattle.it_question.proofs.FileLemmas.{file_ends}
@@ -40,16 +39,12 @@ pub bodies_limited : (bodies : List Body) (lines : List LineView) (r : List Lett
     → read file (letters_of_lines lines) ≡ Ok (map body_view bodies, r) → All (λ b. IsQuestion (body_view b)) bodies
 bodies_limited bodies lines r e = from_map IsQuestion body_view bodies (all_limited (letters_of_lines lines) r (map body_view bodies) e)
 
-pub questions_limited : (qs : List Question) (lines : List LineView) (ys : List BodyView) (r : List Letter)
-    → read file (letters_of_lines lines) ≡ Ok (ys, r) → map question_view qs ≡ with_texts lines ys
-    → All (λ q. IsQuestion (question_body q)) qs
+pub questions_limited : (qs : List QuestionView) (lines : List LineView) (ys : List BodyView) (r : List Letter)
+    → read file (letters_of_lines lines) ≡ Ok (ys, r) → qs ≡ with_texts lines ys
+    → All (λ q. IsQuestion q.body) qs
 questions_limited qs lines ys r e are =
-    let same : map question_body qs ≡ ys = map_twice qs ∙ ap (map (λ (q : QuestionView). q.body)) are ∙ body_again lines ys in
-    from_map IsQuestion question_body qs (subst (All IsQuestion) (sym same) (all_limited (letters_of_lines lines) r ys e))
-  where
-    map_twice : (qs : List Question) → map question_body qs ≡ map (λ (q : QuestionView). q.body) (map question_view qs)
-    map_twice [] = refl
-    map_twice (q ∷ qs) = ap (λ (xs : List BodyView). question_body q ∷ xs) (map_twice qs)
+    let same : map (λ (q : QuestionView). q.body) qs ≡ ys = ap (map (λ (q : QuestionView). q.body)) are ∙ body_again lines ys in
+    from_map IsQuestion (λ (q : QuestionView). q.body) qs (subst (All IsQuestion) (sym same) (all_limited (letters_of_lines lines) r ys e))
 
 -- the questions of a file are read
 file_is_read : (bytes : List ℕ) (qs : List QuestionView) → IsFile bytes qs → All (λ (q : QuestionView). IsRead q.body) qs

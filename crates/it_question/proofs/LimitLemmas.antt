@@ -28,7 +28,8 @@ use Rattle.it_question.specs.Limits.{AreLinesOver, IsRegionOf, IsTryOf, AreRates
 use Rattle.it_question.specs.NewNames.{NameSortView, Variable, Rate, with_name, no_names, is_taken, new_flag, once_flag}
 use Rattle.it_question.specs.QuestionForms.{count, new_name, more_new, new_names, names_line, own_line, own_words, own_keyword, more_own_lines, own_lines, once, more_once, distinct, auxiliary, set, part, more_parts, try_line, more_tries, region, containment, verb, question, more_questions, file}
 use Rattle.it_question.specs.QuestionLimits.{most_questions, most_lines, auxiliaries_left, givens_left, rows_left}
-use Rattle.it_question.specs.Questions.{OwnLinesView, RegionView, VerbView, Prove, Eliminate, Contain, BodyView, no_lines}
+use Rattle.it_question.specs.OwnLines.{OwnLinesView, RegionView, no_lines}
+use Rattle.it_question.specs.Questions.{VerbView, Prove, Eliminate, Contain, BodyView}
 use Rattle.it_question.specs.ProblemLines.{givens_alone, names_under, lines_under}
 use Rattle.it_question.specs.TableSizes.{problem_of_lines, most_entries, size_flag, HasSmallTable}
 use Rattle.it_question.specs.TrySets.{Sets, unnamed_sets, with_set, auxiliary_env}

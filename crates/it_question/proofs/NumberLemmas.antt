@@ -29,7 +29,8 @@ use Rattle.it_question.specs.Files.{IsFile}
 use Rattle.it_question.specs.Lines.{LineView, AreLines, letters_of_lines, split_lines}
 use Rattle.it_question.specs.QuestionForms.{own_words, own_keyword, own_line, more_own_lines, own_lines, names_line, new_names, distinct, more_tries, region, containment, verb, question, more_questions, file}
 use Rattle.it_question.specs.QuestionLimits.{most_questions, most_lines, auxiliaries_left, givens_left, rows_left}
-use Rattle.it_question.specs.Questions.{OwnLinesView, RegionView, VerbView, BodyView, QuestionView, no_lines}
+use Rattle.it_question.specs.OwnLines.{OwnLinesView, RegionView, no_lines}
+use Rattle.it_question.specs.Questions.{VerbView, BodyView, QuestionView}
 use Rattle.it_question.specs.Questions as views
 use Rattle.it_question.specs.Texts.{question_line_count, with_texts}
 use Rattle.it_question.specs.TrySets.{auxiliary_env, unnamed_sets}

@@ -16,7 +16,8 @@ use Rattle.it_syntax.specs.Scopes.{Environment, scope_of}
 use Rattle.it_syntax.specs.LineForms.{relation, given}
 use Rattle.it_question.specs.NewNames.{NameSortView, Variable, Rate, with_name, no_names}
 use Rattle.it_question.specs.QuestionForms.{own_words, own_keyword, new_name, more_new, new_names, names_line, own_line, more_own_lines, once, more_once, distinct, auxiliary, set, part, more_parts, try_line, more_tries, region, containment, verb, question, more_questions}
-use Rattle.it_question.specs.Questions.{OwnLinesView, RegionView, VerbView, Prove, Eliminate, Contain, BodyView}
+use Rattle.it_question.specs.OwnLines.{OwnLinesView, RegionView}
+use Rattle.it_question.specs.Questions.{VerbView, Prove, Eliminate, Contain, BodyView}
 use Rattle.it_question.specs.Texts.{own_line_count, region_line_count, verb_line_count, question_line_count}
 use Rattle.it_question.specs.TrySets.{Sets}
 use Rattle.it_question.specs.ProblemLines.{givens_alone, lines_with}

@@ -10,7 +10,8 @@ use Rattle.it_question.specs.QuestionForms.{new_name, more_new, new_names, names
 use Rattle.it_syntax.proofs.LineOutlines.{a_name, names_has, a_relation, relation_has, a_given, given_has}
 use Rattle.it_forms.specs.declared.types.Code.{Code}
 use Rattle.it_syntax.specs.NamesViews.{NamesView}
-use Rattle.it_question.specs.Questions.{OwnLinesView, BodyView}
+use Rattle.it_question.specs.OwnLines.{OwnLinesView}
+use Rattle.it_question.specs.Questions.{BodyView}
 use Rattle.it_question.specs.NewNames.{NameSortView}
 use Rattle.it_forms.specs.Forms.{Keyword, Punctuation, WordBut, Zero, LineEnd, FileEnd, Take}
 use Rattle.it_forms.specs.Words.{word, flagged_word}

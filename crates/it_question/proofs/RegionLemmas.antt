@@ -13,7 +13,8 @@ use Rattle.it_syntax.specs.NamesViews.{NamesView}
 use Rattle.it_syntax.specs.Scopes.{env_of}
 use Rattle.it_question.specs.QuestionForms.{region, more_tries, containment}
 use Rattle.it_question.specs.QuestionLimits.{givens_left, rows_left, most_lines}
-use Rattle.it_question.specs.Questions.{OwnLinesView, RegionView, VerbView, Contain}
+use Rattle.it_question.specs.OwnLines.{OwnLinesView, RegionView}
+use Rattle.it_question.specs.Questions.{VerbView, Contain}
 use Rattle.it_question.specs.ProblemLines.{lines_with}
 use Rattle.it_question.specs.TableSizes.{size_flag}
 use Rattle.it_question.specs.TrySets.{auxiliary_env, unnamed_sets}

@@ -32,7 +32,7 @@ use Rattle.it_demand.specs.RowsOfForms.{terms_of_form}
 use Rattle.it_demand.proofs.FormRows.{row_is_terms_of_form}
 use Rattle.it_demand.proofs.LimitLemmas.{wider_relation, wider_given, givens-few}
 use Rattle.it_demand.proofs.ZipLemmas.{zip-both, zip-length, zip-right}
-use Rattle.it_question.specs.Questions.{OwnLinesView, RegionView}
+use Rattle.it_question.specs.OwnLines.{OwnLinesView, RegionView}
 use Rattle.it_question.specs.Limits.{IsRegionOf}
 use Rattle.it_question.specs.ReaderSteps.{flag_if_large}
 use Rattle.it_question.specs.LineOrigins.{line_origins}
@@ -127,13 +127,12 @@ space_flag s v own cs large e h k = flag_by_size v own cs large (subst
     (subst (λ (t : Space). large ≡ nat_lt most_entries (table_size (record { space = t; constraints = cs }))) e k)
 
 -- the constraints of the givens alone
-pub givens_stated : (s : Space) (slice items : List Given) (cs : List Constraint) → slice ≡ items
-    → AreStated s (given_origins s.variables 1 (map given_view slice)) (flat_map (demands s.variables) (map given_view slice)) cs
-    → AreStated s (line_origins s.variables (record { givens = map given_view items; rows = [] }))
-    (line_demands s.variables (record { givens = map given_view items; rows = [] })) cs
-givens_stated s slice items cs e h = subst₂ (λ (places : List Origin) (ds : List Demand). AreStated s places ds cs)
-    (sym (append-nil (given_origins s.variables 1 (map given_view items)))) (sym (append-nil (flat_map (demands s.variables) (map given_view items))))
-    (subst (λ (gs : List Given). AreStated s (given_origins s.variables 1 (map given_view gs)) (flat_map (demands s.variables) (map given_view gs)) cs) e h)
+pub givens_stated : (s : Space) (gs own : List GivenView) (cs : List Constraint) → gs ≡ own
+    → AreStated s (given_origins s.variables 1 gs) (flat_map (demands s.variables) gs) cs
+    → AreStated s (line_origins s.variables (record { givens = own; rows = [] })) (line_demands s.variables (record { givens = own; rows = [] })) cs
+givens_stated s gs own cs e h = subst₂ (λ (places : List Origin) (ds : List Demand). AreStated s places ds cs)
+    (sym (append-nil (given_origins s.variables 1 own))) (sym (append-nil (flat_map (demands s.variables) own)))
+    (subst (λ (xs : List GivenView). AreStated s (given_origins s.variables 1 xs) (flat_map (demands s.variables) xs) cs) e h)
 
 -- ---- small tables
 

@@ -2,6 +2,7 @@ pub mod Lines
 pub mod LineTexts
 pub mod Cursors
 pub mod Bodies
+pub mod OwnLines
 pub mod Questions
 pub mod ProblemLines
 pub mod LineDemands

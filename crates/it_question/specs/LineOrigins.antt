@@ -2,7 +2,7 @@
 use Rattle.std.specs.Prelude.{ℕ, List, ◌++◌}
 use Rattle.it_problems.specs.declared.problems.Origin.{Origin}
 use Rattle.it_demand.specs.Origins.{given_origins, row_origins}
-use Rattle.it_question.specs.Questions.{OwnLinesView}
+use Rattle.it_question.specs.OwnLines.{OwnLinesView}
 
 -- the origins of the demands of lines of n variables, where the givens are numbered from g on and the rows from r on
 abbrev pub origins_from : ℕ → ℕ → ℕ → OwnLinesView → List Origin

@@ -1,7 +1,8 @@
 -- The variables and lines of the problem that a question poses.
 use Rattle.std.specs.Prelude.{[], ◌++◌}
 use Rattle.it_syntax.specs.NamesViews.{NamesView}
-use Rattle.it_question.specs.Questions.{OwnLinesView, RegionView, VerbView, Prove, Eliminate, Contain, BodyView}
+use Rattle.it_question.specs.OwnLines.{OwnLinesView, RegionView}
+use Rattle.it_question.specs.Questions.{VerbView, Prove, Eliminate, Contain, BodyView}
 
 -- the givens alone
 abbrev pub givens_alone : OwnLinesView → OwnLinesView

@@ -12,7 +12,8 @@ use Rattle.it_question.specs.QuestionLimits.{auxiliaries_left, givens_left, rows
 use Rattle.it_syntax.specs.LineForms.{names, relation, given}
 use Rattle.it_syntax.specs.NamesViews.{NamesView, index_of}
 use Rattle.it_syntax.specs.Scopes.{env_of, scope_of, Environment}
-use Rattle.it_question.specs.Questions.{OwnLinesView, RegionView, VerbView, BodyView, Prove, Eliminate, Contain, no_lines}
+use Rattle.it_question.specs.OwnLines.{OwnLinesView, RegionView, no_lines}
+use Rattle.it_question.specs.Questions.{VerbView, BodyView, Prove, Eliminate, Contain}
 use Rattle.it_question.specs.NewNames.{NameSortView, Variable, Rate, with_name, no_names, is_taken, new_flag, once_flag}
 use Rattle.it_question.specs.ProblemLines.{givens_alone, lines_with}
 use Rattle.it_question.specs.TableSizes.{size_flag}

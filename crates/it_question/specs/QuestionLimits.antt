@@ -2,7 +2,7 @@
 use Rattle.std.specs.Prelude.{ℕ, ◌-◌, min, length}
 use Rattle.it_space.specs.Spaces.{most_variables}
 use Rattle.it_syntax.specs.NamesViews.{NamesView}
-use Rattle.it_question.specs.Questions.{OwnLinesView}
+use Rattle.it_question.specs.OwnLines.{OwnLinesView}
 
 -- the most bytes of a file
 abbrev pub most_file_bytes : ℕ

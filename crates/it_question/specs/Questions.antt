@@ -1,29 +1,10 @@
 -- What a question file asks, as contracts compare it: each vector by the list of its items.
-use Rattle.std.specs.Prelude.{ℕ, List, [], map}
+use Rattle.std.specs.Prelude.{ℕ, List}
 use Rattle.it_syntax.specs.NamesViews.{NamesView}
 use Rattle.it_syntax.specs.Meaning.{RelationView, relation_view}
-use Rattle.it_syntax.specs.Givens.{GivenView, given_view}
-use Rattle.it_question.specs.LineTexts.{text_of_lines}
-use Rattle.it_question.specs.declared.types.OwnLines.{OwnLines}
-use Rattle.it_question.specs.declared.types.Question.{Question}
-use Rattle.it_question.specs.declared.types.Region.{Region}
+use Rattle.it_question.specs.OwnLines.{OwnLinesView, RegionView}
 use Rattle.it_question.specs.declared.types.Verb.{Verb}
 use Rattle.it_question.specs.declared.types.Verb.TheVariants as verbs
-
--- the constraints of `given` lines, and of `row` lines, in order
-pub record OwnLinesView : Type 0 where
-  pub givens : List GivenView
-  pub rows : List RelationView
-
--- neither a `given` nor a `row` line
-abbrev pub no_lines : OwnLinesView
-no_lines = record { givens = []; rows = [] }
-
--- a region: the names of its variables and of the rates, the number of its auxiliaries, its own lines
-pub record RegionView : Type 0 where
-  pub names : NamesView
-  pub auxiliaries : ℕ
-  pub lines : OwnLinesView
 
 -- Each of `tries` gives a set for each auxiliary of the second region.
 pub data VerbView : Type 0 where
@@ -42,24 +23,8 @@ pub record QuestionView : Type 0 where
   pub body : BodyView
   pub text : List ℕ
 
--- what contracts see of own lines
-abbrev pub own_lines_view : OwnLines → OwnLinesView
-own_lines_view own = record { givens = map given_view own.givens.items; rows = map relation_view own.rows.items }
-
--- what contracts see of a region
-abbrev pub region_view : Region → RegionView
-region_view r = record { names = r.names; auxiliaries = r.auxiliaries; lines = own_lines_view r.lines }
-
 -- what contracts see of a verb
 abbrev pub verb_view : Verb → VerbView
 verb_view (verbs.Prove r) = Prove (relation_view r)
 verb_view (verbs.Eliminate rates) = Eliminate rates.items
-verb_view (verbs.Contain first second tries) = Contain (region_view first) (region_view second) tries.items
-
--- what contracts see of a whole question, but for its text
-abbrev pub question_body : Question → BodyView
-question_body q = record { names = q.names; lines = own_lines_view q.lines; verb = verb_view q.verb }
-
--- what contracts see of a question, with its text
-abbrev pub question_view : Question → QuestionView
-question_view q = record { body = question_body q; text = text_of_lines (map (λ v. v.items) q.source.items) }
+verb_view (verbs.Contain first second tries) = Contain first second tries.items

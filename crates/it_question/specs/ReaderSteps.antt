@@ -2,7 +2,8 @@
 use Rattle.std.specs.Prelude.{◌≡◌, ℕ, ◌≤◌, ◌+◌, List, ◌++◌, length, ◌==◌, Bool, not, [], ◌∷◌, Option, Some, None, ◌⊎◌, if◌then◌else◌, codes}
 use Rattle.it_forms.specs.declared.types.Code.{Code}
 use Rattle.it_forms.specs.declared.types.Code.TheVariants as codes
-use Rattle.it_question.specs.Questions.{OwnLinesView, RegionView, VerbView, Prove, Eliminate, Contain}
+use Rattle.it_question.specs.OwnLines.{OwnLinesView, RegionView}
+use Rattle.it_question.specs.Questions.{VerbView, Prove, Eliminate, Contain}
 use Rattle.it_syntax.specs.Misspellings.{SpellsUntil}
 use Rattle.it_question.specs.Lines.{plain_text, LineView, IsLine, IsFilled}
 use Rattle.it_question.specs.QuestionForms.{own_words, more_tries}

@@ -16,7 +16,8 @@ use Rattle.it_demand.specs.RowsOfForms.{terms_of_form}
 use Rattle.it_question.specs.LineOrigins.{line_origins}
 use Rattle.it_question.specs.LineDemands.{line_demands}
 use Rattle.it_question.specs.ProblemLines.{problem_names, problem_lines}
-use Rattle.it_question.specs.Questions.{OwnLinesView, BodyView}
+use Rattle.it_question.specs.OwnLines.{OwnLinesView}
+use Rattle.it_question.specs.Questions.{BodyView}
 
 -- the constraint that states a demand of an origin
 abbrev pub constraint_of : Space → Origin × Demand → Constraint

@@ -2,7 +2,8 @@
 use Rattle.std.specs.Prelude.{ℕ, ◌+◌, List, [], ◌∷◌, length, map, take, drop, min}
 use Rattle.it_question.specs.Lines.{LineView}
 use Rattle.it_question.specs.LineTexts.{text_of_lines}
-use Rattle.it_question.specs.Questions.{OwnLinesView, RegionView, VerbView, Prove, Eliminate, Contain, BodyView, QuestionView}
+use Rattle.it_question.specs.OwnLines.{OwnLinesView, RegionView}
+use Rattle.it_question.specs.Questions.{VerbView, Prove, Eliminate, Contain, BodyView, QuestionView}
 
 -- the number of `given` and `row` lines
 abbrev pub own_line_count : OwnLinesView → ℕ

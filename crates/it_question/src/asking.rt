@@ -13,7 +13,7 @@ ghost use Rattle.it_question.specs.Limits.{AreLinesOver};
 ghost use Rattle.it_question.specs.Bodies.{body_view};
 ghost use Rattle.it_question.specs.Cursors.{Parses, ParsesBy};
 ghost use Rattle.it_question.specs.QuestionForms as forms;
-ghost use Rattle.it_question.specs.Questions.{own_lines_view, verb_view, Prove, Eliminate};
+ghost use Rattle.it_question.specs.Questions.{verb_view, Prove, Eliminate};
 
 use crate::bodies::Body;
 use crate::cursor::Cursor;
@@ -64,8 +64,8 @@ fn verb(
     lines: &OwnLines,
 ) -> Result<Verb, Stop>
     requires space { IsSpace (space_of names.now) }
-    requires lines { AreLinesOver names.now (own_lines_view lines.now) }
-    ensures { ParsesBy verb_view result (forms.verb (own_lines_view lines.now) names.now) cursor.old cursor.new }
+    requires lines { AreLinesOver names.now lines.now }
+    ensures { ParsesBy verb_view result (forms.verb lines.now names.now) cursor.old cursor.new }
 {
     match cursor.front() {
         Some((Piece::Word(word), after)) => {

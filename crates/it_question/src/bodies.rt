@@ -1,8 +1,8 @@
 //! Questions as they are read, without their texts.
 ghost use Rattle.std.specs.Prelude.{◌≡◌, map};
 ghost use Rattle.it_question.specs.Bodies.{body_view};
+ghost use Rattle.it_question.specs.Limits.{IsQuestion};
 ghost use Rattle.it_question.specs.LineTexts.{text_of_lines};
-ghost use Rattle.it_question.specs.Questions.{question_view};
 
 use crate::types::{OwnLines, Question, Verb};
 use it_syntax::Names;
@@ -26,8 +26,9 @@ impl Drop for Body {
 
 impl Body {
     /// The question with the lines `source`.
-    pub(crate) fn with_source(self, source: Vec<Vec<u8>>) -> Question
-        ensures { question_view result ≡ record { body = body_view self; text = text_of_lines (map (λ v. v.items) source.items) } }
+    pub fn with_source(self, source: Vec<Vec<u8>>) -> Question
+        requires { IsQuestion (body_view self) }
+        ensures { result ≡ record { body = body_view self; text = text_of_lines (map (λ v. v.items) source.items) } }
     {
         let Body { names, lines, verb } = self;
         Question {

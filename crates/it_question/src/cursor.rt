@@ -1,6 +1,7 @@
 //! The rest of a file, which is still to be read.
 ghost use Rattle.std.specs.Prelude.{◌≡◌, ◌≤◌, length};
 ghost use Rattle.it_syntax.specs.Spans.{InLine, InLine-prop};
+ghost use Rattle.it_syntax.specs.Lines.{most_text_bytes};
 
 use it_syntax::rest::Rest;
 use it_syntax::types::LineTokens;
@@ -11,7 +12,7 @@ pub struct Line {
     pub number: u32,
     pub text: Vec<u8>,
     pub tokens: LineTokens,
-    pub ghost short: { length text.items ≤ 1048577 },
+    pub ghost short: { length text.items ≤ most_text_bytes },
     pub ghost inside: { InLine text.items tokens.tokens.items } by { InLine-prop text.items tokens.tokens.items },
 }
 

@@ -6,7 +6,7 @@ ghost use Rattle.it_question.specs.WholeFiles.{place_of};
 ghost use Rattle.it_question.specs.Stops.{IsLeft, IfFault, IsFaultAt, IsStopAt};
 ghost use Rattle.it_question.specs.Limits.{IsQuestion};
 ghost use Rattle.it_question.specs.Lines.{letters_of_lines};
-ghost use Rattle.it_question.specs.Questions.{question_view, question_body};
+ghost use Rattle.it_syntax.specs.Lines.{most_text_bytes};
 
 use crate::asking::bodies;
 use crate::cursor::{Cursor, Line};
@@ -52,9 +52,9 @@ pub fn stop_fault(lines: &[Line], cursor: Cursor<'_>, stop: Stop) -> FileFault
 /// name that is named again, `Unfinished` at the file's end inside a question. A line's end has the column after its last
 /// token, and the file's end the line after the last one and column 1.
 pub fn questions(alloc: Global, bytes: &[u8]) -> Result<Vec<Question>, FileFault>
-    requires { length bytes.now ≤ 1048577 }
-    ensures read { IfOk result (λ qs. IsFile bytes.now (map question_view qs.items)) }
-    ensures limits { IfOk result (λ qs. All (λ q. IsQuestion (question_body q)) qs.items) }
+    requires { length bytes.now ≤ most_text_bytes }
+    ensures read { IfOk result (λ qs. IsFile bytes.now qs.items) }
+    ensures limits { IfOk result (λ qs. All (λ q. IsQuestion q.body) qs.items) }
     ensures fault { IfErr result (IsFirstFileFault bytes.now) }
 {
     let lines = file_lines(alloc, bytes)?;

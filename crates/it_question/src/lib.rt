@@ -15,6 +15,7 @@ mod places;
 mod plain;
 mod rates;
 pub mod readers;
+mod region_types;
 mod regions;
 mod sorts;
 mod tables;

@@ -5,6 +5,7 @@ ghost use Rattle.std.specs.Prelude.{◌≡◌, ◌≤◌, [], length, map, None,
 ghost use Rattle.it_question.specs.Cursors.{line_view};
 ghost use Rattle.it_question.specs.Lines.{AreLinesOf, IsLine, end_line, IsFilled};
 ghost use Rattle.it_question.specs.ReaderSteps.{IsLineAdded};
+ghost use Rattle.it_syntax.specs.Lines.{most_text_bytes};
 
 use crate::cursor::Line;
 use crate::plain::{first_line, plain_text};
@@ -14,7 +15,7 @@ use std::alloc::{AllocError, Global};
 
 /// The line number `number`, whose bytes are `bytes`, with its tokens.
 fn line_of(alloc: Global, number: u32, bytes: &[u8]) -> Result<Line, AllocError>
-    requires { length bytes.now ≤ 1048577 }
+    requires { length bytes.now ≤ most_text_bytes }
     ensures { IfOk result (λ l. IsLine number bytes.now (line_view l)) }
 {
     let text = plain_text(alloc, bytes)?;
@@ -43,7 +44,7 @@ fn has_tokens(line: &Line) -> bool
 
 /// Appends the line of `bytes` to `lines`, if it has tokens or a misspelling.
 fn add(alloc: Global, lines: &mut Vec<Line>, number: u32, bytes: &[u8]) -> Result<(), AllocError>
-    requires { length bytes.now ≤ 1048577 }
+    requires { length bytes.now ≤ most_text_bytes }
     ensures { OnOk result (IsLineAdded number bytes.now (map line_view lines.old.items) (map line_view lines.new.items)) }
 {
     let line = line_of(alloc, number, bytes)?;
@@ -75,7 +76,7 @@ fn end(alloc: Global, number: u32) -> Line
 
 /// The lines of a file that have tokens or a misspelling, in order, and then the file's end.
 pub fn file_lines(alloc: Global, bytes: &[u8]) -> Result<Vec<Line>, AllocError>
-    requires { length bytes.now ≤ 1048577 }
+    requires { length bytes.now ≤ most_text_bytes }
     ensures { IfOk result (λ lines. AreLinesOf bytes.now (map line_view lines.items)) }
 {
     let mut lines = Vec::new(alloc);

@@ -5,8 +5,7 @@ ghost use Rattle.it_forms.specs.FormReading.{read, after};
 ghost use Rattle.it_syntax.specs.declared.rest.Stop.TheVariants.{Memory};
 ghost use Rattle.it_syntax.specs.Givens.{given_view};
 ghost use Rattle.it_syntax.specs.Meaning.{relation_view};
-ghost use Rattle.it_question.specs.Cursors.{ParsesBy, letters_left};
-ghost use Rattle.it_question.specs.Questions.{own_lines_view};
+ghost use Rattle.it_question.specs.Cursors.{Parses, ParsesBy, letters_left};
 ghost use Rattle.it_question.specs.QuestionForms as forms;
 ghost use Rattle.it_question.specs.ReaderSteps.{own_word, with_given, with_row};
 ghost use Rattle.it_question.specs.QuestionLimits.{givens_left, rows_left};
@@ -26,22 +25,22 @@ pub const MOST_LINES: usize = 64;
 impl OwnLines {
     /// The number of `given` lines that may still follow, of `most` in all.
     pub fn givens_left(&self, most: usize) -> usize
-        ensures { result ≡ givens_left most (own_lines_view self.now) }
+        ensures { result ≡ givens_left most self.now }
     {
-        most.saturating_sub(self.givens.len())
+        most.saturating_sub(self.givens().len())
     }
 
     /// The number of `row` lines that may still follow, of `most` in all.
     pub fn rows_left(&self, most: usize) -> usize
-        ensures { result ≡ rows_left most (own_lines_view self.now) }
+        ensures { result ≡ rows_left most self.now }
     {
-        most.saturating_sub(self.rows.len())
+        most.saturating_sub(self.rows().len())
     }
 }
 
 /// Appends the constraint of a `given` line.
 fn add_given(own: &mut OwnLines, given: Given) -> Result<(), Stop>
-    ensures added { OnOk result (own_lines_view own.new ≡ with_given (own_lines_view own.old) (given_view given)) }
+    ensures added { OnOk result (own.new ≡ with_given own.old (given_view given)) }
     ensures memory { IfErr result (λ e. e ≡ Memory) }
 {
     own.givens.push(given)?;
@@ -50,7 +49,7 @@ fn add_given(own: &mut OwnLines, given: Given) -> Result<(), Stop>
 
 /// Appends the relation of a `row` line.
 fn add_row(own: &mut OwnLines, row: Relation) -> Result<(), Stop>
-    ensures added { OnOk result (own_lines_view own.new ≡ with_row (own_lines_view own.old) (relation_view row)) }
+    ensures added { OnOk result (own.new ≡ with_row own.old (relation_view row)) }
     ensures memory { IfErr result (λ e. e ≡ Memory) }
 {
     own.rows.push(row)?;
@@ -78,7 +77,7 @@ fn own_word(cursor: Cursor<'_>) -> Option<(bool, Cursor<'_>)>
 
 /// The number of lines of this kind that may still follow.
 fn lines_left(own: &OwnLines, is_given: bool, most_givens: usize, most_rows: usize) -> usize
-    ensures { result ≡ (if is_given then givens_left most_givens (own_lines_view own.now) else rows_left most_rows (own_lines_view own.now)) }
+    ensures { result ≡ (if is_given then givens_left most_givens own.now else rows_left most_rows own.now) }
 {
     if is_given {
         own.givens_left(most_givens)
@@ -96,7 +95,7 @@ fn own_line(
     cursor: &mut Cursor<'_>,
     names: &Names,
 ) -> Result<(), Stop>
-    ensures { ParsesBy (λ x. own_lines_view own.new) result (forms.own_line names.now (own_lines_view own.old) is_given) cursor.old cursor.new }
+    ensures { ParsesBy (λ x. own.new) result (forms.own_line names.now own.old is_given) cursor.old cursor.new }
 {
     if is_given {
         match given(alloc, cursor, names) {
@@ -119,7 +118,7 @@ pub fn own_lines(
     most_givens: usize,
     most_rows: usize,
 ) -> Result<OwnLines, Stop>
-    ensures { ParsesBy own_lines_view result (forms.own_lines most_givens most_rows names.now) cursor.old cursor.new }
+    ensures { Parses result (forms.own_lines most_givens most_rows names.now) cursor.old cursor.new }
 {
     let mut own = OwnLines {
         givens: Vec::new(alloc),

@@ -2,7 +2,7 @@
 ghost use Rattle.std.specs.Prelude.{◌≡◌, ◌≤◌, ◌+◌, ◌-◌, length, codes};
 ghost use Rattle.it_forms.specs.FormReading.{read};
 ghost use Rattle.it_question.specs.Cursors.{Parses, ParsesBy};
-ghost use Rattle.it_question.specs.Questions.{own_lines_view, verb_view, region_view};
+ghost use Rattle.it_question.specs.Questions.{verb_view};
 ghost use Rattle.it_space.specs.Spaces.{IsSpace, most_variables};
 ghost use Rattle.it_demand.specs.QuestionSpaces.{space_of};
 ghost use Rattle.it_question.specs.Limits.{AreLinesOver, IsRegionOf};
@@ -73,7 +73,7 @@ fn region(
     givens: usize,
     rows: usize,
 ) -> Result<Region, Stop>
-    ensures { ParsesBy region_view result (forms.region givens rows names.now) cursor.old cursor.new }
+    ensures { Parses result (forms.region givens rows names.now) cursor.old cursor.new }
 {
     line_end(cursor)?;
     let inside = region_names(cursor, names)?;
@@ -96,11 +96,11 @@ fn contain(
     first: &Region,
 ) -> Result<(), Stop>
     requires space { IsSpace (space_of names.now) }
-    requires lines { AreLinesOver names.now (own_lines_view lines.now) }
-    requires region { IsRegionOf names.now (region_view first.now) }
-    requires few_givens { length lines.now.givens.items + length first.now.lines.givens.items ≤ most_lines }
-    requires few_rows { length lines.now.rows.items + length first.now.lines.rows.items ≤ most_lines }
-    ensures { Parses result (contain_line (own_lines_view lines.now) (region_view first.now)) cursor.old cursor.new }
+    requires lines { AreLinesOver names.now lines.now }
+    requires region { IsRegionOf names.now first.now }
+    requires few_givens { length lines.now.givens + length first.now.lines.givens ≤ most_lines }
+    requires few_rows { length lines.now.rows + length first.now.lines.rows ≤ most_lines }
+    ensures { Parses result (contain_line lines.now first.now) cursor.old cursor.new }
 {
     match after_word(*cursor, CONTAIN) {
         Some(after) => {
@@ -123,22 +123,22 @@ pub fn containment(
     lines: &OwnLines,
 ) -> Result<Verb, Stop>
     requires space { IsSpace (space_of names.now) }
-    requires lines { AreLinesOver names.now (own_lines_view lines.now) }
-    ensures { ParsesBy verb_view result (forms.containment (own_lines_view lines.now) names.now) cursor.old cursor.new }
+    requires lines { AreLinesOver names.now lines.now }
+    ensures { ParsesBy verb_view result (forms.containment lines.now names.now) cursor.old cursor.new }
 {
     let most_givens = lines.givens_left(MOST_LINES);
     let most_rows = lines.rows_left(MOST_LINES);
     let first = region(alloc, cursor, names, most_givens, most_rows)?;
     word(cursor, REGION)?;
-    let givens = first.lines.givens_left(most_givens);
-    let rows = first.lines.rows_left(most_rows);
+    let givens = first.lines().givens_left(most_givens);
+    let rows = first.lines().rows_left(most_rows);
     let second = region(alloc, cursor, names, givens, rows)?;
     let regions = Regions {
         question: names,
-        first: &first.names,
-        second: &second.names,
+        first: first.names(),
+        second: second.names(),
     };
-    let tries = tries(alloc, cursor, regions, second.auxiliaries)?;
+    let tries = tries(alloc, cursor, regions, second.auxiliaries())?;
     contain(alloc, cursor, names, lines, &first)?;
     Ok(Verb::Contain {
         first,

@@ -8,7 +8,6 @@ ghost use Rattle.it_syntax.specs.Givens.{IsRelationOf, IsGivenOf};
 ghost use Rattle.it_demand.specs.Origins.{AreStated};
 ghost use Rattle.it_demand.specs.QuestionSpaces.{space_of};
 ghost use Rattle.it_question.specs.Limits.{AreLinesOver, IsRegionOf};
-ghost use Rattle.it_question.specs.Questions.{own_lines_view, region_view};
 ghost use Rattle.it_question.specs.QuestionLimits.{most_lines};
 ghost use Rattle.it_question.specs.ReaderSteps.{containment_flag, flag_if_large};
 ghost use Rattle.it_question.specs.LineOrigins.{line_origins};
@@ -38,14 +37,14 @@ pub fn line_constraints(
     space: Space,
 ) -> Result<Vec<Constraint>, AllocError>
     requires space { IsSpace space }
-    requires givens { All (IsGivenOf space.variables) (own_lines_view lines.now).givens }
-    requires rows { All (IsRelationOf space.variables space.rates) (own_lines_view lines.now).rows }
-    requires few_givens { length lines.now.givens.items ≤ most_lines }
-    requires few_rows { length lines.now.rows.items ≤ most_lines }
-    ensures { IfOk result (λ v. AreStated space (line_origins space.variables (own_lines_view lines.now)) (line_demands space.variables (own_lines_view lines.now)) v.items) }
+    requires givens { All (IsGivenOf space.variables) lines.now.givens }
+    requires rows { All (IsRelationOf space.variables space.rates) lines.now.rows }
+    requires few_givens { length lines.now.givens ≤ most_lines }
+    requires few_rows { length lines.now.rows ≤ most_lines }
+    ensures { IfOk result (λ v. AreStated space (line_origins space.variables lines.now) (line_demands space.variables lines.now) v.items) }
 {
-    let mut constraints = given_constraints(alloc, lines.givens.as_slice(), 1, space)?;
-    let mut others = row_constraints(alloc, lines.rows.as_slice(), 1, space)?;
+    let mut constraints = given_constraints(alloc, lines.givens(), 1, space)?;
+    let mut others = row_constraints(alloc, lines.rows(), 1, space)?;
     constraints.append(&mut others)?;
     Ok(constraints)
 }
@@ -58,21 +57,23 @@ pub fn region_constraints(
     space: Space,
 ) -> Result<Vec<Constraint>, AllocError>
     requires space { IsSpace space }
-    requires givens { All (IsGivenOf space.variables) (own_lines_view lines.now).givens }
-    requires rows { All (IsRelationOf space.variables space.rates) (own_lines_view lines.now).rows }
-    requires few_givens { length lines.now.givens.items ≤ most_lines }
-    requires few_rows { length lines.now.rows.items ≤ most_lines }
-    requires own { AreLinesOver region.now.names (region_view region.now).lines }
+    requires givens { All (IsGivenOf space.variables) lines.now.givens }
+    requires rows { All (IsRelationOf space.variables space.rates) lines.now.rows }
+    requires few_givens { length lines.now.givens ≤ most_lines }
+    requires few_rows { length lines.now.rows ≤ most_lines }
+    requires own { AreLinesOver region.now.names region.now.lines }
     requires names { space ≡ space_of region.now.names }
-    ensures { IfOk result (λ v. (let lines = lines_with (own_lines_view lines.now) (region_view region.now) in AreStated space (line_origins space.variables lines) (line_demands space.variables lines) v.items)) }
+    ensures { IfOk result (λ v. (let lines = lines_with lines.now region.now in AreStated space (line_origins space.variables lines) (line_demands space.variables lines) v.items)) }
 {
-    let own = &region.lines;
-    let first_given = 1 + lines.givens.len() as u16;
-    let first_row = 1 + lines.rows.len() as u16;
-    let mut constraints = given_constraints(alloc, lines.givens.as_slice(), 1, space)?;
-    let mut own_givens = given_constraints(alloc, own.givens.as_slice(), first_given, space)?;
-    let mut shared_rows = row_constraints(alloc, lines.rows.as_slice(), 1, space)?;
-    let mut own_rows = row_constraints(alloc, own.rows.as_slice(), first_row, space)?;
+    let own = region.lines();
+    let givens = lines.givens();
+    let rows = lines.rows();
+    let first_given = 1 + givens.len() as u16;
+    let first_row = 1 + rows.len() as u16;
+    let mut constraints = given_constraints(alloc, givens, 1, space)?;
+    let mut own_givens = given_constraints(alloc, own.givens(), first_given, space)?;
+    let mut shared_rows = row_constraints(alloc, rows, 1, space)?;
+    let mut own_rows = row_constraints(alloc, own.rows(), first_row, space)?;
     constraints.append(&mut own_givens)?;
     constraints.append(&mut shared_rows)?;
     constraints.append(&mut own_rows)?;
@@ -92,8 +93,8 @@ fn is_large(alloc: Global, space: Space, constraints: Vec<Constraint>) -> Result
 /// Whether the table of a question that asks for a proof is too large.
 pub fn proof_is_large(alloc: Global, names: &Names, lines: &OwnLines) -> Result<bool, Stop>
     requires space { IsSpace (space_of names.now) }
-    requires lines { AreLinesOver names.now (own_lines_view lines.now) }
-    ensures large { IfOk result (λ large. size_flag names.now (own_lines_view lines.now) ≡ flag_if_large large) }
+    requires lines { AreLinesOver names.now lines.now }
+    ensures large { IfOk result (λ large. size_flag names.now lines.now ≡ flag_if_large large) }
     ensures memory { IfErr result (λ e. e ≡ Memory) }
 {
     let space = names.space();
@@ -108,15 +109,15 @@ pub fn proof_is_large(alloc: Global, names: &Names, lines: &OwnLines) -> Result<
 /// Whether the table of a question that asks for an elimination is too large; its `row` lines are no part of it.
 pub fn elimination_is_large(alloc: Global, names: &Names, lines: &OwnLines) -> Result<bool, Stop>
     requires space { IsSpace (space_of names.now) }
-    requires lines { AreLinesOver names.now (own_lines_view lines.now) }
-    ensures large { IfOk result (λ large. size_flag names.now (givens_alone (own_lines_view lines.now)) ≡ flag_if_large large) }
+    requires lines { AreLinesOver names.now lines.now }
+    ensures large { IfOk result (λ large. size_flag names.now (givens_alone lines.now) ≡ flag_if_large large) }
     ensures memory { IfErr result (λ e. e ≡ Memory) }
 {
     let space = names.space();
     if space.variables <= MOST_SMALL {
         return Ok(false);
     }
-    let constraints = given_constraints(alloc, lines.givens.as_slice(), 1, space)?;
+    let constraints = given_constraints(alloc, lines.givens(), 1, space)?;
     let large = is_large(alloc, space, constraints)?;
     Ok(large)
 }
@@ -129,14 +130,14 @@ pub fn containment_is_large(
     first: &Region,
 ) -> Result<bool, Stop>
     requires space { IsSpace (space_of names.now) }
-    requires lines { AreLinesOver names.now (own_lines_view lines.now) }
-    requires region { IsRegionOf names.now (region_view first.now) }
-    requires few_givens { length lines.now.givens.items + length first.now.lines.givens.items ≤ most_lines }
-    requires few_rows { length lines.now.rows.items + length first.now.lines.rows.items ≤ most_lines }
-    ensures large { IfOk result (λ large. containment_flag (own_lines_view lines.now) (region_view first.now) ≡ flag_if_large large) }
+    requires lines { AreLinesOver names.now lines.now }
+    requires region { IsRegionOf names.now first.now }
+    requires few_givens { length lines.now.givens + length first.now.lines.givens ≤ most_lines }
+    requires few_rows { length lines.now.rows + length first.now.lines.rows ≤ most_lines }
+    ensures large { IfOk result (λ large. containment_flag lines.now first.now ≡ flag_if_large large) }
     ensures memory { IfErr result (λ e. e ≡ Memory) }
 {
-    let space = first.names.space();
+    let space = first.space();
     if space.variables <= MOST_SMALL {
         return Ok(false);
     }

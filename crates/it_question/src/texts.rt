@@ -6,7 +6,7 @@ ghost use Rattle.it_question.specs.Bodies.{body_view};
 ghost use Rattle.it_question.specs.Cursors.{line_view};
 ghost use Rattle.it_question.specs.Limits.{IsQuestion};
 ghost use Rattle.it_question.specs.ReaderSteps.{FewLines, FewLinesOf};
-ghost use Rattle.it_question.specs.Questions.{verb_view, question_view, region_view};
+ghost use Rattle.it_question.specs.Questions.{verb_view};
 ghost use Rattle.it_question.specs.LineTexts.{without_leading, without_trailing};
 ghost use Rattle.it_question.specs.Texts.{region_line_count, verb_line_count, question_line_count, with_texts};
 
@@ -55,10 +55,10 @@ impl Question {
     /// The question's text: its lines from `vars` to the verb, each from its first token to its last with tabs as spaces, and
     /// a line feed after it. It is put together anew at each call, since only a report needs it.
     pub fn text(&self, alloc: Global) -> Result<Vec<u8>, AllocError>
-        ensures { IfOk result (λ text. text.items ≡ (question_view self.now).text) }
+        ensures { IfOk result (λ text. text.items ≡ self.now.text) }
     {
         let mut text = Vec::new(alloc);
-        for line in self.source.as_slice() {
+        for line in self.source() {
             text.extend_from_slice(trim(line.as_slice()))?;
             match text.push(b'\n') {
                 Ok(()) => {}
@@ -72,12 +72,12 @@ impl Question {
 /// The number of lines of a region, its `region` line among them.
 #[tactic(auto, using(crate::proofs::LineCountLemmas::few_givens, crate::proofs::LineCountLemmas::few_rows, crate::proofs::LineCountLemmas::region_lines_are))]
 fn region_line_count(region: &Region) -> usize
-    requires { FewLines (region_view region.now).lines }
-    ensures lines { result ≡ region_line_count (region_view region.now) }
+    requires { FewLines region.now.lines }
+    ensures lines { result ≡ region_line_count region.now }
     ensures few { result ≤ 130 }
 {
-    let auxiliaries = if region.auxiliaries == 0 { 0 } else { 1 };
-    1 + auxiliaries + (region.lines.givens.len() + region.lines.rows.len())
+    let auxiliaries = if region.auxiliaries() == 0 { 0 } else { 1 };
+    1 + auxiliaries + (region.lines().givens().len() + region.lines().rows().len())
 }
 
 /// The number of lines from the verb, or from the first region, to the question's end.
@@ -108,7 +108,7 @@ fn question_line_count(question: &Body) -> usize
         1
     };
     1 + rates
-        + (question.lines.givens.len() + question.lines.rows.len())
+        + (question.lines.givens().len() + question.lines.rows().len())
         + verb_line_count(&question.verb)
 }
 
@@ -144,7 +144,7 @@ pub fn with_texts(
     bodies: Vec<Body>,
 ) -> Result<Vec<Question>, AllocError>
     requires { All (λ b. IsQuestion (body_view b)) bodies.items }
-    ensures { IfOk result (λ qs. map question_view qs.items ≡ with_texts (map line_view lines.items) (map body_view bodies.items)) }
+    ensures { IfOk result (λ qs. qs.items ≡ with_texts (map line_view lines.items) (map body_view bodies.items)) }
 {
     let mut rest = lines.into_iter();
     let mut left = bodies.into_iter();

@@ -121,23 +121,31 @@ fn add_rise(
     Ok(())
 }
 
-/// Adds `amount` times h(a) + h(b) - h(a∪b) - h(below) to the weights, where `below` is in both sets.
+/// Two sets, and a set `below` that lies in both.
+#[derive(Clone, Copy, Drop)]
+struct SetPair {
+    left: VarSet,
+    right: VarSet,
+    below: VarSet,
+}
+
+/// Adds `amount` times h(left) + h(right) - h(left∪right) - h(below) to the weights.
 fn add_pair(
     alloc: Global,
     weights: &mut Totals,
     n: u8,
-    a: VarSet,
-    b: VarSet,
-    below: VarSet,
+    pair: SetPair,
     amount: i128,
 ) -> Result<(), RowFault>
     requires some { 1 ≤ n }
     requires few { n ≤ most_variables }
 {
-    let both = a.meet(b);
-    let indexes = mutual(alloc, n, a.minus(b), b.minus(a), both)?;
+    let both = pair.left.meet(pair.right);
+    let left = pair.left.minus(pair.right);
+    let right = pair.right.minus(pair.left);
+    let indexes = mutual(alloc, n, left, right, both)?;
     weights.add_each(indexes.as_slice(), amount)?;
-    add_rise(alloc, weights, n, below, both, amount)
+    add_rise(alloc, weights, n, pair.below, both, amount)
 }
 
 /// Adds `amount` times an inequality over closed sets.
@@ -159,9 +167,12 @@ fn add_inequality(
             add_rise(alloc, weights, n, rest, full, amount)
         }
         Elemental::Mutual { left, right, given } => {
-            let a = closures.of(with(given, left));
-            let b = closures.of(with(given, right));
-            add_pair(alloc, weights, n, a, b, closures.of(given), amount)
+            let pair = SetPair {
+                left: closures.of(with(given, left)),
+                right: closures.of(with(given, right)),
+                below: closures.of(given),
+            };
+            add_pair(alloc, weights, n, pair, amount)
         }
     }
 }
@@ -212,7 +223,12 @@ fn add_turn(
     requires some { 1 ≤ n }
     requires few { n ≤ most_variables }
 {
-    add_pair(alloc, weights, n, by.to, set, by.from, amount)?;
+    let pair = SetPair {
+        left: by.to,
+        right: set,
+        below: by.from,
+    };
+    add_pair(alloc, weights, n, pair, amount)?;
     let sign = if by.negated { 1 } else { -1 };
     weights.add(by.generator as usize, amount, sign)?;
     Ok(())
@@ -313,10 +329,13 @@ fn excesses(
 fn common_denominator(weights: &[ColumnWeight]) -> Option<u64> {
     let mut all: u64 = 1;
     for weight in weights {
-        if weight.bottom == 0 {
+        if weight.denominator == 0 {
             return None;
         }
-        all = short_product(all, weight.bottom / common_divisor(weight.bottom, all))?;
+        all = short_product(
+            all,
+            weight.denominator / common_divisor(weight.denominator, all),
+        )?;
     }
     Some(all)
 }
@@ -345,8 +364,10 @@ fn generator_weights(
 ) -> Result<Totals, RowFault> {
     let mut all = Totals::zeros(alloc, generator_count(problem) as usize)?;
     for weight in weights {
-        if weight.bottom != 0 {
-            let amount = i128::from(scale / weight.bottom).wrapping_mul(i128::from(weight.number));
+        if weight.denominator != 0 {
+            let amount = i128::from(scale / weight.denominator).wrapping_mul(i128::from(
+                weight.number,
+            ));
             let n = problem.space().variables;
             add_column(alloc, &mut all, n, closed, weight.column, amount)?;
         }

@@ -14,7 +14,7 @@ const MOST_PRICE: u64 = 1 << 52;
 const MOST_ON_THE_WAY: u64 = 1 << 62;
 
 /// A bound on the denominator of prices.
-const MOST_BOTTOM: u64 = 1 << 40;
+const MOST_DENOMINATOR: u64 = 1 << 40;
 
 /// A column that may enter: its entry in the leaving row, which is above 0, and its reduced cost.
 #[derive(Clone, Copy)]
@@ -52,7 +52,7 @@ fn raised(price: i64, factor: i64, number: i32, times: i64) -> Option<i64> {
 #[derive(Drop)]
 pub struct Prices {
     numbers: Vec<i64>,
-    bottom: u64,
+    denominator: u64,
 }
 
 impl Prices {
@@ -60,25 +60,25 @@ impl Prices {
     pub fn start(alloc: Global, width: usize) -> Result<Prices, AllocError> {
         Ok(Prices {
             numbers: Vec::from_elem(alloc, 0i64, width)?,
-            bottom: 1,
+            denominator: 1,
         })
     }
 
     /// The denominator as a signed number.
-    fn signed_bottom(&self) -> i64 {
-        i64::try_from(self.bottom).unwrap_or(i64::MAX)
+    fn signed_denominator(&self) -> i64 {
+        i64::try_from(self.denominator).unwrap_or(i64::MAX)
     }
 
     /// The entering column for the leaving row `row`: of the columns with an entry above 0, the first that costs least for each unit of
     /// its entry. `None` if there is no such column.
     pub fn cheapest(&self, program: &Program, row: &[i32]) -> Option<Entering> {
         let prices = self.numbers.as_slice();
-        let bottom = self.signed_bottom();
+        let denominator = self.signed_denominator();
         let mut best: Option<Entering> = None;
         for column in 0..program.columns() {
             let entry = program.entry(column, row);
             if entry > 0 {
-                let cost = program.reduced_cost(column, prices, bottom);
+                let cost = program.reduced_cost(column, prices, denominator);
                 best = cheaper(
                     best,
                     Entering {
@@ -98,7 +98,7 @@ impl Prices {
             return false;
         }
         let (factor, times) = lowest_terms(entering.entry, entering.cost);
-        let Some(bottom) = short_product(self.bottom, factor.unsigned_abs()) else {
+        let Some(denominator) = short_product(self.denominator, factor.unsigned_abs()) else {
             return false;
         };
         for k in 0..self.numbers.len() {
@@ -109,24 +109,24 @@ impl Prices {
                 self.numbers[k] = price;
             }
         }
-        self.put_over(bottom);
-        self.bottom <= MOST_BOTTOM && greatest_size(self.numbers.as_slice()) <= MOST_PRICE
+        self.put_over(denominator);
+        self.denominator <= MOST_DENOMINATOR && greatest_size(self.numbers.as_slice()) <= MOST_PRICE
     }
 
-    /// Puts the prices over the denominator `bottom`, in lowest terms.
-    fn put_over(&mut self, bottom: u64) {
-        self.bottom = bottom;
-        if bottom <= 1 {
+    /// Puts the prices over the denominator `denominator`, in lowest terms.
+    fn put_over(&mut self, denominator: u64) {
+        self.denominator = denominator;
+        if denominator <= 1 {
             return;
         }
-        let shared = it_vectors::numbers::divisor(self.numbers.as_slice(), bottom);
+        let shared = it_vectors::numbers::divisor(self.numbers.as_slice(), denominator);
         if shared.is_one() {
             return;
         }
         for k in 0..self.numbers.len() {
             self.numbers[k] = quotient(self.numbers[k], &shared);
         }
-        self.bottom = shared.size_quotient(bottom);
+        self.denominator = shared.size_quotient(denominator);
     }
 }
 

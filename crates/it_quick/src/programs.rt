@@ -143,11 +143,11 @@ impl Program {
         }
     }
 
-    /// The reduced cost of a column at `prices` over the denominator `bottom`, times `bottom`.
+    /// The reduced cost of a column at `prices` over the denominator `denominator`, times `denominator`.
     #[inline]
-    pub fn reduced_cost(&self, column: usize, prices: &[i64], bottom: i64) -> i64 {
+    pub fn reduced_cost(&self, column: usize, prices: &[i64], denominator: i64) -> i64 {
         let (cost, price) = self.cost_and_price(column, prices);
-        bottom.wrapping_mul(cost).wrapping_sub(price)
+        denominator.wrapping_mul(cost).wrapping_sub(price)
     }
 
     /// Sets the cost of a column to 0, until `put_costs_back` is called.

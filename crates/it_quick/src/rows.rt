@@ -2,11 +2,12 @@
 //!
 //! A row has a number at each place of the program: at place 0 the number 0, and at place `RIGHT` the row's value at the right side.
 ghost use Rattle.std.specs.Prelude.{◌≡◌};
-ghost use Rattle.std.specs.Option.{IfNone};
+ghost use Rattle.std.specs.Option.{IfNone, IfSome};
+ghost use Rattle.it_vectors.specs.Stretches.{AreStretches};
 
 use crate::numbers::at;
 use it_vectors::narrow_numbers::{
-    STRETCH, combine, divide, divisor, greatest_size, note_stretches,
+    STRETCH, Subtrahend, combine, divide, divisor, greatest_size, note_stretches,
 };
 use it_vectors::{lowest_terms, short_product};
 use std::alloc::{AllocError, Global};
@@ -19,7 +20,7 @@ pub const RIGHT: usize = 1;
 const LIMIT: u64 = (1 << 31) - 1;
 
 /// A row is put in lowest terms only if its denominator or its numbers are above these bounds, as that takes a pass over the row.
-const LARGE_BOTTOM: u64 = 1 << 12;
+const LARGE_DENOMINATOR: u64 = 1 << 12;
 
 const LARGE: u64 = 1 << 20;
 
@@ -43,27 +44,27 @@ fn value_at(numbers: &[i32], right: &[i32]) -> Option<i32> {
     i32::try_from(sum).ok()
 }
 
-/// Divides `numbers` and their denominator `bottom` by their greatest common divisor, and returns the new denominator. `None` if the
+/// Divides `numbers` and their denominator `denominator` by their greatest common divisor, and returns the new denominator. `None` if the
 /// divisor is 1, and then the numbers are unchanged.
-fn shorten(numbers: &mut [i32], bottom: u64) -> Option<u64>
+fn shorten(numbers: &mut [i32], denominator: u64) -> Option<u64>
     ensures { IfNone result (numbers.new ≡ numbers.old) }
 {
-    if bottom <= 1 {
+    if denominator <= 1 {
         return None;
     }
-    let shared = divisor(numbers, bottom);
+    let shared = divisor(numbers, denominator);
     if shared.is_one() {
         return None;
     }
     divide(numbers, &shared);
-    Some(shared.size_quotient(bottom))
+    Some(shared.size_quotient(denominator))
 }
 
 /// A row of the inverse of a basis.
 #[derive(Drop)]
 pub struct InverseRow {
     numbers: Vec<i32>,
-    bottom: u64,
+    denominator: u64,
     // a bound on the absolute values of the numbers
     most: u64,
     // the sum of the squares of the numbers, which only the choice of a row uses
@@ -101,7 +102,7 @@ impl InverseRow {
         let squares = sum_of_squares(numbers.as_slice());
         Ok(InverseRow {
             numbers,
-            bottom: 1,
+            denominator: 1,
             most,
             squares,
             basic: None,
@@ -114,8 +115,8 @@ impl InverseRow {
     }
 
     /// The denominator.
-    pub fn bottom(&self) -> u64 {
-        self.bottom
+    pub fn denominator(&self) -> u64 {
+        self.denominator
     }
 
     /// The column that is basic in this row; `None` if that is an artificial one.
@@ -168,25 +169,22 @@ impl InverseRow {
             return false;
         }
         let (a, b) = lowest_terms(leaving.pivot, entry);
-        let Some(bottom) = short_product(self.bottom, a.unsigned_abs()) else {
+        let Some(denominator) = short_product(self.denominator, a.unsigned_abs()) else {
             return false;
         };
         let Some(most) = combine(
             self.numbers.as_mut_slice(),
-            leaving.numbers.as_slice(),
-            leaving.starts.as_slice(),
-            leaving.noted,
+            &leaving.as_subtrahend(),
             a,
             b,
             self.most,
-            leaving.most,
             LIMIT,
         ) else {
             return false;
         };
         self.most = most;
-        self.bottom = bottom;
-        if bottom > LARGE_BOTTOM || most > LARGE {
+        self.denominator = denominator;
+        if denominator > LARGE_DENOMINATOR || most > LARGE {
             self.put_in_lowest_terms();
         }
         self.squares = sum_of_squares(self.numbers.as_slice());
@@ -195,9 +193,9 @@ impl InverseRow {
 
     /// Divides the numbers and the denominator by their greatest common divisor. `false` if that is 1.
     pub fn put_in_lowest_terms(&mut self) -> bool {
-        match shorten(self.numbers.as_mut_slice(), self.bottom) {
+        match shorten(self.numbers.as_mut_slice(), self.denominator) {
             Some(smaller) => {
-                self.bottom = smaller;
+                self.denominator = smaller;
                 self.most = greatest_size(self.numbers.as_slice());
                 true
             }
@@ -216,7 +214,7 @@ impl InverseRow {
         } = leaving;
         self.squares = sum_of_squares(numbers.as_slice());
         self.numbers = numbers;
-        self.bottom = pivot.unsigned_abs();
+        self.denominator = pivot.unsigned_abs();
         self.most = most;
         self.basic = Some(column);
     }
@@ -270,11 +268,29 @@ impl LeavingRow {
         self.numbers.as_slice()
     }
 
+    /// The places where the stretches begin outside of which the row is 0, if they are known.
+    fn known_starts(&self) -> Option<&[usize]>
+        ensures { IfSome result (λ starts. AreStretches self.now starts.now) }
+    {
+        if self.noted {
+            Some(self.starts.as_slice())
+        } else {
+            None
+        }
+    }
+
+    /// The row as one whose multiples are subtracted from others.
+    fn as_subtrahend(&self) -> Subtrahend<'_>
+        ensures { result ≡ self.now }
+    {
+        Subtrahend::new(self.numbers.as_slice(), self.known_starts(), self.most)
+    }
+
     /// Divides the row by `entry`, its entry in the entering column, which is above 0.
     pub fn divide_by(&mut self, entry: i64) {
         self.noted = false;
-        let bottom = entry.unsigned_abs();
-        let smaller = shorten(self.numbers.as_mut_slice(), bottom).unwrap_or(bottom);
+        let denominator = entry.unsigned_abs();
+        let smaller = shorten(self.numbers.as_mut_slice(), denominator).unwrap_or(denominator);
         self.pivot = i64::try_from(smaller).unwrap_or(0);
         self.most = greatest_size(self.numbers.as_slice());
         self.noted = note_stretches(self.numbers.as_slice(), &mut self.starts);

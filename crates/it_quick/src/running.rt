@@ -19,12 +19,12 @@ pub enum End {
     GaveUp,
 }
 
-/// The weight of a column: `number` over the denominator `bottom`.
+/// The weight of a column: `number` over the denominator `denominator`.
 #[derive(Clone, Copy)]
 pub struct ColumnWeight {
     pub column: usize,
     pub number: i64,
-    pub bottom: u64,
+    pub denominator: u64,
 }
 
 /// The state of a run.
@@ -93,15 +93,15 @@ fn steepest(rows: &[InverseRow]) -> Option<Faulty> {
 /// The weight of the column that is basic in `row`, in lowest terms. `None` if an artificial column is, or the weight is 0.
 fn weight(row: &InverseRow) -> Option<ColumnWeight> {
     let column = row.basic()?;
-    let bottom = i64::try_from(row.bottom()).ok()?;
-    if bottom < 1 || row.right() == 0 {
+    let denominator = i64::try_from(row.denominator()).ok()?;
+    if denominator < 1 || row.right() == 0 {
         return None;
     }
-    let (bottom, number) = lowest_terms(bottom, i64::from(row.right()));
+    let (denominator, number) = lowest_terms(denominator, i64::from(row.right()));
     Some(ColumnWeight {
         column,
         number,
-        bottom: bottom.unsigned_abs(),
+        denominator: denominator.unsigned_abs(),
     })
 }
 

@@ -1,7 +1,6 @@
 //! The rates that a question eliminates, and the problem that all its lines pose.
 ghost use Rattle.std.specs.Prelude.{◌≡◌, IfOk};
-ghost use Rattle.it_question.specs.Limits.{IsQuestion};
-ghost use Rattle.it_question.specs.Questions.{question_body, verb_view};
+ghost use Rattle.it_question.specs.Questions.{verb_view};
 ghost use Rattle.it_canon.specs.QuestionDemands.{IsProblemOf};
 ghost use Rattle.it_rates.specs.Asked.{gone_rates, under_all_lines};
 
@@ -23,10 +22,10 @@ pub fn gone_rates(verb: &Verb) -> &[u8]
 
 /// The problem that all lines of a question pose, `row` lines too.
 pub fn problem_of_lines(alloc: Global, question: &Question) -> Result<Problem, AllocError>
-    requires { IsQuestion (question_body question.now) }
-    ensures { IfOk result (λ p. IsProblemOf (under_all_lines (question_body question.now)) p) }
+    ensures { IfOk result (λ p. IsProblemOf (under_all_lines question.now.body) p) }
 {
-    let space = question.names.space();
-    let constraints = line_constraints(alloc, &question.lines, space)?;
+    question.facts();
+    let space = question.space();
+    let constraints = line_constraints(alloc, question.lines(), space)?;
     Ok(Problem { space, constraints })
 }

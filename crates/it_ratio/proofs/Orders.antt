@@ -13,10 +13,10 @@ product_above (negsuc m) y h k = absurd (omega (arith, ints))
 -- den f = num e, with e and den above 0: a factor a / b that holds there is at least num / den
 pub no_smaller : (num den a b e f : ℤ) → pos 1 ≤ℤ e → pos 1 ≤ℤ den → den *ℤ f ≡ num *ℤ e → pos 0 ≤ℤ (a *ℤ e -ℤ b *ℤ f) → (num *ℤ b) ≤ℤ (a *ℤ den)
 no_smaller num den a b e f some one equal holds = ordered num den a b (least_by_multiple e (a *ℤ den -ℤ num *ℤ b) (omega (arith, ints, some))
-    (turned num den a b e f (product_least den (a *ℤ e -ℤ b *ℤ f) (omega (arith, ints, one)) holds) (ap (λ y. b *ℤ y) equal)))
+    (negated num den a b e f (product_least den (a *ℤ e -ℤ b *ℤ f) (omega (arith, ints, one)) holds) (ap (λ y. b *ℤ y) equal)))
   where
-    turned : (num den a b e f : ℤ) → pos 0 ≤ℤ (den *ℤ (a *ℤ e -ℤ b *ℤ f)) → b *ℤ (den *ℤ f) ≡ b *ℤ (num *ℤ e) → pos 0 ≤ℤ (e *ℤ (a *ℤ den -ℤ num *ℤ b))
-    turned num den a b e f h q = omega (arith, zring, h, q)
+    negated : (num den a b e f : ℤ) → pos 0 ≤ℤ (den *ℤ (a *ℤ e -ℤ b *ℤ f)) → b *ℤ (den *ℤ f) ≡ b *ℤ (num *ℤ e) → pos 0 ≤ℤ (e *ℤ (a *ℤ den -ℤ num *ℤ b))
+    negated num den a b e f h q = omega (arith, zring, h, q)
 
     ordered : (num den a b : ℤ) → pos 0 ≤ℤ (a *ℤ den -ℤ num *ℤ b) → (num *ℤ b) ≤ℤ (a *ℤ den)
     ordered num den a b h = omega (arith, ints, h)

@@ -1,18 +1,18 @@
 -- Reduced elimination rate after rate: it has one end, and a region is the projection.
-use Rattle.std.proofs.Common.{◌≡◌, inl, inr, ℕ, ◌+◌, ◌<◌, ◌≤◌, ◌^◌, ℤ, List, [], ◌∷◌, map, length, drop, get_or, refl, sym, ap, subst, ◌∙◌, arith, All, Result, Ok, Err, IfOk}
+use Rattle.std.proofs.Common.{◌≡◌, inl, inr, ℕ, ◌+◌, ◌<◌, ◌≤◌, ◌^◌, ℤ, List, [], ◌∷◌, map, length, drop, get_or, refl, sym, subst, ◌∙◌, arith, All}
 use Rattle.it_space.proofs.ListLemmas.{drop_item}
 use Rattle.it_problems.specs.declared.problems.System.{System}
 use Rattle.it_space.specs.declared.spaces.Space.{Space}
 use Rattle.it_space.specs.Answers.{CertificateView}
-use Rattle.it_problems.specs.Problems.{ProblemView, IsProblem, IsSystem}
+use Rattle.it_problems.specs.Problems.{ProblemView, IsProblem}
 use Rattle.it_space.specs.Rows.{Terms, IsOver}
-use Rattle.it_space.specs.Spaces.{IsSpace, size_of}
+use Rattle.it_space.specs.Spaces.{size_of}
 use Rattle.it_eliminate.specs.Elimination.{EliminatedView, EliminationEnds, ordered_rows, next_list, list_after}
 use Rattle.it_eliminate.specs.Elimination as elimination
 use Rattle.it_eliminate.specs.Projections.{IsPointOf, Extends, LacksCoordinate}
-use Rattle.it_eliminate.specs.declared.types.Eliminated.{Eliminated}
-use Rattle.it_eliminate.specs.declared.types.Eliminated.TheVariants as elimination_ends
-use Rattle.it_eliminate.specs.Views.{eliminated_view}
+use Rattle.it_eliminate.specs.declared.types.Stop.{Stop}
+use Rattle.it_eliminate.specs.declared.types.Stop.TheVariants as stops
+use Rattle.it_eliminate.specs.Views.{StopsBy as EliminationStopsBy}
 use Rattle.it_eliminate.proofs.LawLemmas.{one_end}
 use Rattle.it_eliminate.proofs.MemberLemmas.{Member, member_of, contains_of, member_mapped}
 use Rattle.it_eliminate.proofs.OrderLemmas.{RowLacks, lacks-ordered_rows}
@@ -20,15 +20,12 @@ use Rattle.it_eliminate.proofs.RateLemmas.{next_keeps_lacking, projection_exact,
 use Rattle.it_eliminate.proofs.RegionLemmas.{step_list, step_up}
 use Rattle.it_eliminate.proofs.StepLemmas.{next_lacks}
 use Rattle.it_prove.specs.declared.types.Effort.{Effort}
-use Rattle.it_redundant.specs.declared.types.Projected.{Projected}
-use Rattle.it_redundant.specs.declared.types.Projected.TheVariants as projection_ends
 use Rattle.it_redundant.specs.declared.types.Reduced.{Reduced}
 use Rattle.it_redundant.specs.Reduction.{NeedView, Reduces, dropped_view, kept_rows, kept_view}
-use Rattle.it_redundant.specs.ReducedElimination.{ProjectedView, Region, Rows, Wide, GoesOn, ReducedEnds, projected_view}
-use Rattle.it_redundant.specs.ProjectionSteps.{HasRowsUpTo, IsAfterRate, IsNext, Resumes}
+use Rattle.it_redundant.specs.ReducedElimination.{ProjectedView, Region, Rows, Wide, GoesOn, ReducedEnds}
+use Rattle.it_redundant.specs.ProjectionSteps.{IsAfterRate, Resumes, StopsBy, region_view}
 use Rattle.it_redundant.specs.Theorems.{MeetsGivens, HoldAlike, AreNeeded, SpeakOfSets, IsReducedRegion, RegionIsReduced, OneReducedEnd}
 use Rattle.it_redundant.proofs.MultipleLemmas.{multiple_meets}
-use Rattle.it_redundant.proofs.VisitLemmas.{rows_kept}
 use Rattle.it_redundant.proofs.ReductionLemmas.{all_kept, hold_alike, kept_are_needed, one_reduction}
 
 -- the rows that stay of a step's list are of the space
@@ -52,25 +49,47 @@ module _ (givens : ProblemView) (effort : Effort) (most : ℕ) where
   resumes_more rows last gone r rs now end (elimination.Wide rate, e, is) h
       = (elimination.Wide rate, e, subst (λ (x : ProjectedView). Resumes givens effort most rs x end) is h)
 
-  next_more : (r : ℕ) (rs : List ℕ) (old new end : ProjectedView) → IsNext givens effort most r old new
-      → Resumes givens effort most rs new end → Resumes givens effort most (r ∷ rs) old end
-  next_more r rs (Region kept dropped) new end n h = resumes_more (kept_rows kept) kept dropped r rs new end n h
-  next_more r rs (Rows other) new end n h = subst (λ (x : ProjectedView). Resumes givens effort most rs x end) n h
-  next_more r rs (Wide other) new end n h = subst (λ (x : ProjectedView). Resumes givens effort most rs x end) n h
+  module _ (rates : List ℕ) (i r : ℕ) (below : i < length rates) (is : r ≡ get_or rates i 0) (rows : List Terms)
+      (last : List (Terms × NeedView)) (gone : List (Terms × CertificateView)) where
+    one_more_rate : (now end : ProjectedView) → IsAfterRate givens effort most rows r now → Resumes givens effort most (drop (i + 1) rates) now end
+        → ReducedEnds givens effort most rows last gone (drop i rates) end
+    one_more_rate now end after h = subst (λ (rs : List ℕ). ReducedEnds givens effort most rows last gone rs end) (sym (drop_item rates i 0 below is))
+        (resumes_more rows last gone r (drop (i + 1) rates) now end after h)
+
+    stop_is_end : (ends : ProjectedView → Type 0) → ((end : ProjectedView) → ReducedEnds givens effort most rows last gone (drop i rates) end → ends end)
+        → (stop : Stop) → StopsBy (IsAfterRate givens effort most rows r) stop → StopsBy ends stop
+    stop_is_end ends f stops.Memory h = tt
+    stop_is_end ends f (stops.Rows other) h = f (Rows other) (one_more_rate (Rows other) (Rows other) h refl)
+    stop_is_end ends f (stops.Wide other) h = f (Wide other) (one_more_rate (Wide other) (Wide other) h refl)
 
   -- i rates are eliminated: the end of the others is that of all
-  pub record Leads (size : ℕ) (rows : List Terms) (rates : List ℕ) (now : ProjectedView) (i : ℕ) : Type 0 where
-    pub more : (end : ProjectedView) → Resumes givens effort most (drop i rates) now end → ReducedEnds givens effort most rows [] [] rates end
-    pub up : HasRowsUpTo size now
+  pub record Leads (size : ℕ) (rows : List Terms) (rates : List ℕ) (now : Reduced) (i : ℕ) : Type 0 where
+    pub more : (end : ProjectedView) → Resumes givens effort most (drop i rates) (region_view now) end → ReducedEnds givens effort most rows [] [] rates end
+    pub up : All (IsOver size) (kept_rows (kept_view now))
 
   module _ (size : ℕ) (rows : List Terms) (rates : List ℕ) where
-    pub leads_more : (old new : ProjectedView) (i r : ℕ) → i < length rates → r ≡ get_or rates i 0 → IsNext givens effort most r old new
-        → HasRowsUpTo size new → Leads size rows rates old i → Leads size rows rates new (i + 1)
-    leads_more old new i r below is next up l = record {
-      more = λ end h. l.more end (subst (λ (xs : List ℕ). Resumes givens effort most xs old end) (sym (drop_item rates i 0 below is))
-          (next_more r (drop (i + 1) rates) old new end next h));
-      up = up;
-    }
+    module _ (r : ℕ) (some : 0 < length rates) (is : r ≡ get_or rates 0 0) where
+      pub leads_first : (new : Reduced) → IsAfterRate givens effort most rows r (region_view new) → All (IsOver size) (kept_rows (kept_view new))
+          → Leads size rows rates new 1
+      leads_first new after up = record { more = λ end h. one_more_rate rates 0 r some is rows [] [] (region_view new) end after h; up = up }
+
+      pub stops_first : (stop : Stop) → StopsBy (IsAfterRate givens effort most rows r) stop
+          → StopsBy (ReducedEnds givens effort most rows [] [] rates) stop
+      stops_first stop h = stop_is_end rates 0 r some is rows [] [] (ReducedEnds givens effort most rows [] [] rates) (λ end e. e) stop h
+
+    module _ (old : Reduced) (i r : ℕ) (below : i < length rates) (is : r ≡ get_or rates i 0) (l : Leads size rows rates old i) where
+      pub leads_more : (new : Reduced) → IsAfterRate givens effort most (kept_rows (kept_view old)) r (region_view new)
+          → All (IsOver size) (kept_rows (kept_view new)) → Leads size rows rates new (i + 1)
+      leads_more new after up = record {
+        more = λ end h. l.more end (one_more_rate rates i r below is (kept_rows (kept_view old)) (kept_view old) (dropped_view old)
+            (region_view new) end after h);
+        up = up;
+      }
+
+      pub stops_later : (stop : Stop) → StopsBy (IsAfterRate givens effort most (kept_rows (kept_view old)) r) stop
+          → StopsBy (ReducedEnds givens effort most rows [] [] rates) stop
+      stops_later stop h = stop_is_end rates i r below is (kept_rows (kept_view old)) (kept_view old) (dropped_view old)
+          (ReducedEnds givens effort most rows [] [] rates) l.more stop h
 
 -- ---- one end
 
@@ -235,44 +254,33 @@ module _ (givens : ProblemView) (effort : Effort) (most : ℕ) (limits : IsProbl
 
 -- ---- the code's step and reduction
 
-module _ (givens : ProblemView) (effort : Effort) (most : ℕ) (system : System) (rate : ℕ) (end : Eliminated) (space : system.space ≡ givens.space)
-    (ends : EliminationEnds (2 ^ system.space.variables) most (ordered_rows system.rows.items) (rate ∷ []) (eliminated_view end)) where
-  over_givens : (e : EliminatedView) → eliminated_view end ≡ e
+module _ (givens : ProblemView) (effort : Effort) (most : ℕ) (system : System) (rate : ℕ) (space : system.space ≡ givens.space) where
+  over_givens : (e : EliminatedView) → EliminationEnds (2 ^ system.space.variables) most (ordered_rows system.rows.items) (rate ∷ []) e
       → EliminationEnds (2 ^ givens.space.variables) most (ordered_rows system.rows.items) (rate ∷ []) e
-  over_givens e is = subst (λ (s : Space). EliminationEnds (2 ^ s.variables) most (ordered_rows system.rows.items) (rate ∷ []) e) space
-      (subst (λ (x : EliminatedView). EliminationEnds (2 ^ system.space.variables) most (ordered_rows system.rows.items) (rate ∷ []) x) is ends)
+  over_givens e is = subst (λ (s : Space). EliminationEnds (2 ^ s.variables) most (ordered_rows system.rows.items) (rate ∷ []) e) space is
 
-  -- a cause of the step is the end
-  pub wide_ends : (other : ℕ) → end ≡ elimination_ends.Wide other → IsAfterRate givens effort most system.rows.items rate (Wide other)
-  wide_ends other is = (elimination.Wide other, over_givens (elimination.Wide other) (ap eliminated_view is), refl)
+  pub stop_ends : (stop : Stop) → EliminationStopsBy (EliminationEnds (2 ^ system.space.variables) most (ordered_rows system.rows.items) (rate ∷ [])) stop
+      → StopsBy (IsAfterRate givens effort most system.rows.items rate) stop
+  stop_ends stops.Memory h = tt
+  stop_ends (stops.Rows other) h = (elimination.Rows other, over_givens (elimination.Rows other) h, refl)
+  stop_ends (stops.Wide other) h = (elimination.Wide other, over_givens (elimination.Wide other) h, refl)
 
-  module _ (next : System) (is : end ≡ elimination_ends.Region next) where
-    pub region_up : (reduced : Reduced) → All (IsOver (size_of system.space)) system.rows.items
-        → Reduces givens effort [] next.rows.items (kept_view reduced) (dropped_view reduced)
-        → All (IsOver (size_of givens.space)) (kept_rows (kept_view reduced))
-    region_up reduced up red = kept_up givens effort most system.rows.items rate next.rows.items (kept_view reduced) (dropped_view reduced)
+  module _ (next : System) (reduced : Reduced)
+      (ends : EliminationEnds (2 ^ system.space.variables) most (ordered_rows system.rows.items) (rate ∷ []) (elimination.Region next.rows.items))
+      (reduces : Reduces givens effort [] next.rows.items (kept_view reduced) (dropped_view reduced)) where
+    pub region_ends : IsAfterRate givens effort most system.rows.items rate (region_view reduced)
+    region_ends = (
+      elimination.Region next.rows.items,
+      over_givens (elimination.Region next.rows.items) ends,
+      (kept_view reduced, dropped_view reduced, reduces, refl),
+    )
+
+    pub region_up : All (IsOver (size_of system.space)) system.rows.items → All (IsOver (size_of givens.space)) (kept_rows (kept_view reduced))
+    region_up up = kept_up givens effort most system.rows.items rate next.rows.items (kept_view reduced) (dropped_view reduced)
         (subst (λ (s : Space). All (IsOver (size_of s)) system.rows.items) space up)
-        (over_givens (elimination.Region next.rows.items) (ap eliminated_view is)) red
+        (over_givens (elimination.Region next.rows.items) ends) reduces
 
--- the result of a rate on the rows that are kept is that on their system
-pub next_of_region : {E : Type 0} (givens : ProblemView) (effort : Effort) (most rate : ℕ) (end : Projected) (reduced : Reduced)
-    (rows : List Terms) (result : Result Projected E) → end ≡ projection_ends.Region reduced
-    → rows ≡ map (λ k. k.0) reduced.kept.items → IfOk result (λ e. IsAfterRate givens effort most rows rate (projected_view e))
-    → IfOk result (λ e. IsNext givens effort most rate (projected_view end) (projected_view e))
-next_of_region givens effort most rate end reduced rows (Err e) is same h = tt
-next_of_region givens effort most rate end reduced rows (Ok e) is same h = subst
-    (λ (x : Projected). IsNext givens effort most rate (projected_view x) (projected_view e)) (sym is)
-    (subst (λ (xs : List Terms). IsAfterRate givens effort most xs rate (projected_view e)) (same ∙ sym (rows_kept reduced.kept.items)) h)
-
--- the rows that stay are a system over the givens' space
-pub kept_is_system : (givens : ProblemView) (end : Projected) (reduced : Reduced) (system : System) → IsSpace givens.space
-    → end ≡ projection_ends.Region reduced → HasRowsUpTo (size_of givens.space) (projected_view end)
-    → system.space ≡ givens.space → system.rows.items ≡ map (λ k. k.0) reduced.kept.items → IsSystem system
-kept_is_system givens end reduced system limits is up space rows =
-    let kept : All (IsOver (size_of givens.space)) (kept_rows (kept_view reduced)) = subst
-    (λ (x : Projected). HasRowsUpTo (size_of givens.space) (projected_view x)) is up in
-    record {
-      space = subst IsSpace (sym space) limits;
-      rows = subst (λ (s : Space). All (IsOver (size_of s)) system.rows.items) (sym space)
-          (subst (λ (xs : List Terms). All (IsOver (size_of givens.space)) xs) (rows_kept reduced.kept.items ∙ sym rows) kept);
-    }
+-- the list after a rate has few rows, if few are allowed
+pub few_after : (base most : ℕ) (rows : List Terms) (r : ℕ) (next : List Terms) → most ≤ 65535
+    → EliminationEnds base most rows (r ∷ []) (elimination.Region next) → length next ≤ 65535
+few_after base most rows r next few e = let below = (step_list base most rows r next e).1 in omega (arith, few, below)

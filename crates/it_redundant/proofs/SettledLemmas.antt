@@ -16,7 +16,7 @@ use Rattle.it_prove.proofs.RightLemmas.{ends_agree}
 use Rattle.it_redundant.specs.Reduction as reduction
 use Rattle.it_eliminate.specs.RowLines.{with_rows}
 use Rattle.it_redundant.specs.Reduction.{NeedView, Reduces, kept_by, kept_rows}
-use Rattle.it_redundant.specs.ReducedElimination.{ProjectedView, Region, Rows, Wide, GoesOn}
+use Rattle.it_redundant.specs.ReducedElimination.{ProjectedView, GoesOn}
 use Rattle.it_redundant.specs.Theorems.{IsSettledRow, SettledEnds, HaveSameRows, SettledRegionsAgree}
 use Rattle.it_redundant.proofs.ReductionLemmas.{AreTaken, own_up, taken_first, taken_next, taken_problem, rows_of_parts, all_kept}
 

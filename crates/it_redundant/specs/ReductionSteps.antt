@@ -1,5 +1,5 @@
 -- The visit of one row. No public clause cites this module.
-use Rattle.std.specs.Prelude.{◌≡◌, ℕ, ◌+◌, List, [], ◌∷◌, ◌++◌, All, length}
+use Rattle.std.specs.Prelude.{◌≡◌, ℕ, ◌+◌, List, [], ◌∷◌, ◌++◌, All, length, map}
 use Rattle.it_problems.specs.declared.problems.Constraint.{Constraint}
 use Rattle.it_problems.specs.declared.problems.Origin.TheVariants.{Rate}
 use Rattle.it_problems.specs.Problems.{ProblemView}
@@ -20,6 +20,10 @@ pub record IsVisited (givens : ProblemView) (effort : Effort) (row : Terms) (aft
   pub ends : EndsWith (with_rows givens (kept_rows (kept_view old) ++ after)) row effort outcome
   pub kept : kept_view new ≡ kept_view old ++ kept_by row outcome
   pub dropped : dropped_view new ≡ dropped_view old ++ dropped_by row outcome
+
+-- the givens with the rows kept so far, and then rows that aren't visited yet
+abbrev pub with_unvisited : ProblemView → Reduced → List Terms → ProblemView
+with_unvisited givens reduced rows = with_rows givens (map (λ k. k.0) reduced.kept.items ++ rows)
 
 -- constraints as those of `row` lines, from line number `line` on
 abbrev pub numbered : ℕ → List Constraint → List Constraint

@@ -11,7 +11,7 @@ use std::alloc::{AllocError, Global};
 /// Numbers the constraints from `place` on as `row` lines, from number `line` on.
 fn number_from(constraints: &mut Vec<Constraint>, place: usize, line: usize)
     requires place { place ≤ length constraints.old.items }
-    requires few { line + length constraints.old.items ≤ 65536 + place }
+    requires few { line + length constraints.old.items ≤ most_system_rows + 1 + place }
     ensures { constraints.new.items ≡ take place constraints.old.items ++ numbered line (drop place constraints.old.items) }
 {
     for i in place..constraints.len() {
@@ -24,7 +24,7 @@ fn number_from(constraints: &mut Vec<Constraint>, place: usize, line: usize)
 /// Removes the row at `place`, which is `row` line number `line`; the numbers of those after it go down by one.
 pub fn remove_row(constraints: &mut Vec<Constraint>, place: usize, line: usize)
     requires place { place < length constraints.old.items }
-    requires few { line + length constraints.old.items ≤ 65536 + place }
+    requires few { line + length constraints.old.items ≤ most_system_rows + 1 + place }
     ensures { IsRemoved place line constraints.old.items constraints.new.items }
 {
     constraints.remove(place);

@@ -5,9 +5,8 @@ ghost use Rattle.it_space.specs.Rows.{IsOver, most_system_rows};
 ghost use Rattle.it_space.specs.Spaces.{size_of};
 ghost use Rattle.it_prove.specs.ClosedProblems.{IsClosedProblem};
 ghost use Rattle.it_prove.specs.ProofViews.{proof_view};
-ghost use Rattle.it_eliminate.specs.RowLines.{with_rows};
 ghost use Rattle.it_redundant.specs.Reduction.{IsSystemUnder, Reduces, dropped_by, dropped_view, kept_by, kept_rows, kept_view, need_view};
-ghost use Rattle.it_redundant.specs.ReductionSteps.{AreRowsUpTo, IsVisited};
+ghost use Rattle.it_redundant.specs.ReductionSteps.{AreRowsUpTo, IsVisited, with_unvisited};
 ghost use Rattle.it_redundant.specs.Theorems.{AreNeeded, HoldAlike};
 
 use crate::others::{insert_row, remove_row};
@@ -17,6 +16,20 @@ use it_problems::{Problem, System};
 use it_prove::{ClosedProblem, Effort, Proof};
 use it_space::{Certificate, Row};
 use std::alloc::{AllocError, Global};
+
+/// A reduction: the givens under which rows are proved, and the effort of each run.
+#[derive(Drop)]
+struct Reduction<'a> {
+    givens: &'a Problem,
+    effort: Effort,
+}
+
+/// The rows that aren't visited yet: the next one, and those after it.
+#[derive(Drop)]
+struct Unvisited<'a> {
+    next: &'a Row,
+    after: &'a [Row],
+}
 
 /// Reduces the rows of `system`: visits them in order, each as the target of a run under the givens and all other rows that are still
 /// in the list, in order, as `row` lines counted from 1. A row that is proved is dropped, any other is kept.
@@ -32,8 +45,9 @@ pub fn reduce(
     ensures alike { IfOk result (λ r. HoldAlike givens.now system.now.rows.items (kept_rows (kept_view r))) }
     ensures needed { IfOk result (λ r. AreNeeded givens.now (kept_view r)) }
 {
+    let reduction = Reduction { givens, effort };
     // named before it is returned, so that the contract of the call is available at the return
-    let reduced = reduced_rows(alloc, system.rows.as_slice(), givens, effort)?;
+    let reduced = reduced_rows(alloc, system.rows.as_slice(), &reduction)?;
     Ok(reduced)
 }
 
@@ -41,66 +55,65 @@ pub fn reduce(
 fn reduced_rows(
     alloc: Global,
     rows: &[Row],
-    givens: &Problem,
-    effort: Effort,
+    reduction: &Reduction<'_>,
 ) -> Result<Reduced, AllocError>
-    requires rows { AreRowsUpTo (size_of givens.now.space) rows.now }
+    requires rows { AreRowsUpTo (size_of reduction.now.givens.now.space) rows.now }
     requires few_rows { length rows.now ≤ most_system_rows }
-    requires few_givens { length givens.now.constraints ≤ most_system_rows }
-    ensures { IfOk result (λ r. Reduces givens.now effort [] rows.now (kept_view r) (dropped_view r)) }
+    requires few_givens { length reduction.now.givens.now.constraints ≤ most_system_rows }
+    ensures { IfOk result (λ r. Reduces reduction.now.givens.now reduction.now.effort [] rows.now (kept_view r) (dropped_view r)) }
 {
-    let mut closed = ClosedProblem::read(alloc, givens, effort)?;
-    let mut problem = problem_with(alloc, givens, rows)?;
+    let mut closed = ClosedProblem::read(alloc, reduction.givens, reduction.effort)?;
+    let mut problem = problem_with(alloc, reduction.givens, rows)?;
     let mut reduced = Reduced {
         kept: Vec::new(alloc),
         dropped: Vec::new(alloc),
     };
     for i in 0..rows.len() {
+        let rest = Unvisited {
+            next: &rows[i],
+            after: &rows[i + 1..],
+        };
         visit(
             alloc,
-            givens,
+            reduction,
             &mut problem,
             &mut closed,
             &mut reduced,
-            &rows[i],
-            &rows[i + 1..],
-            effort,
+            &rest,
         )?;
     }
     Ok(reduced)
 }
 
-/// Visits `row`: in `problem` the rows kept so far are before it, and the unvisited ones after it. It is removed for its run, and
+/// Visits the next row: in `problem` the rows kept so far are before it, and the unvisited ones after it. It is removed for its run, and
 /// inserted again if it is kept. `closed` is the closed problem of the givens, which serves each visit.
 fn visit(
     alloc: Global,
-    givens: &Problem,
+    reduction: &Reduction<'_>,
     problem: &mut Problem,
     closed: &mut ClosedProblem,
     reduced: &mut Reduced,
-    row: &Row,
-    after: &[Row],
-    effort: Effort,
+    rest: &Unvisited<'_>,
 ) -> Result<(), AllocError>
-    requires few_givens { length givens.now.constraints ≤ most_system_rows }
-    requires few { length reduced.old.kept.items + length after.now < 65535 }
-    requires row { IsOver (size_of givens.now.space) row.now }
-    requires kept { AreRowsUpTo (size_of givens.now.space) (map (λ k. k.0) reduced.old.kept.items) }
-    requires after { AreRowsUpTo (size_of givens.now.space) after.now }
-    requires closed { IsClosedProblem givens.now closed.old }
-    requires problem { problem.old ≡ with_rows givens.now (map (λ k. k.0) reduced.old.kept.items ++ row.now ∷ after.now) }
-    ensures visited { OnOk result (IsVisited givens.now effort row.now after.now reduced.old reduced.new) }
-    ensures closed { OnOk result (IsClosedProblem givens.now closed.new) }
-    ensures problem { OnOk result (problem.new ≡ with_rows givens.now (map (λ k. k.0) reduced.new.kept.items ++ after.now)) }
+    requires few_givens { length reduction.now.givens.now.constraints ≤ most_system_rows }
+    requires few { length reduced.old.kept.items + length rest.now.after.now < most_system_rows }
+    requires next { IsOver (size_of reduction.now.givens.now.space) rest.now.next.now }
+    requires kept { AreRowsUpTo (size_of reduction.now.givens.now.space) (map (λ k. k.0) reduced.old.kept.items) }
+    requires after { AreRowsUpTo (size_of reduction.now.givens.now.space) rest.now.after.now }
+    requires closed { IsClosedProblem reduction.now.givens.now closed.old }
+    requires problem { problem.old ≡ with_unvisited reduction.now.givens.now reduced.old (rest.now.next.now ∷ rest.now.after.now) }
+    ensures visited { OnOk result (IsVisited reduction.now.givens.now reduction.now.effort rest.now.next.now rest.now.after.now reduced.old reduced.new) }
+    ensures closed { OnOk result (IsClosedProblem reduction.now.givens.now closed.new) }
+    ensures problem { OnOk result (problem.new ≡ with_unvisited reduction.now.givens.now reduced.new rest.now.after.now) }
 {
-    givens.facts();
+    reduction.givens.facts();
     let line = reduced.kept.len() + 1;
-    let place = givens.constraints().len() + reduced.kept.len();
+    let place = reduction.givens.constraints().len() + reduced.kept.len();
     remove_row(&mut problem.constraints, place, line);
-    let proof = closed.prove(alloc, problem, row, effort)?;
-    put(alloc, reduced, row, proof)?;
+    let proof = closed.prove(alloc, problem, rest.next, reduction.effort)?;
+    put(alloc, reduced, rest.next, proof)?;
     if reduced.kept.len() == line {
-        insert_row(alloc, &mut problem.constraints, place, line, row)?;
+        insert_row(alloc, &mut problem.constraints, place, line, rest.next)?;
     }
     Ok(())
 }

@@ -12,7 +12,8 @@ use Rattle.it_space.proofs.EveryLemmas.{every_of}
 use Rattle.it_polymatroid.specs.Certificates.{Form}
 use Rattle.it_syntax.specs.Givens.{IsRelationOf, IsGivenOf}
 use Rattle.it_question.specs.Limits.{IsQuestion, IsVerbOver}
-use Rattle.it_question.specs.Questions.{BodyView, RegionView, Contain}
+use Rattle.it_question.specs.OwnLines.{RegionView}
+use Rattle.it_question.specs.Questions.{BodyView, Contain}
 use Rattle.it_question.specs.LineDemands.{line_demands}
 use Rattle.it_question.specs.ProblemLines.{problem_names, names_under}
 use Rattle.it_question.proofs.NumberLemmas.{VerbHasSmallNumbers, QuestionHasSmallNumbers}

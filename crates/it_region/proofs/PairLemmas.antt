@@ -9,7 +9,8 @@ use Rattle.it_problems.specs.Problems.{IsProblem}
 use Rattle.it_space.specs.Rows.{Terms, IsOver, row_mass}
 use Rattle.it_space.specs.Spaces.{size_of}
 use Rattle.it_question.specs.Limits.{IsQuestion, IsVerbOver, IsRegionOf}
-use Rattle.it_question.specs.Questions.{RegionView, VerbView, Prove, Eliminate, Contain, BodyView}
+use Rattle.it_question.specs.OwnLines.{RegionView}
+use Rattle.it_question.specs.Questions.{VerbView, Prove, Eliminate, Contain, BodyView}
 use Rattle.it_space.specs.Bounds.{IsSmall}
 use Rattle.it_demand.specs.Demands.{Demand}
 use Rattle.it_demand.specs.Origins.{States, AreStated}

@@ -5,7 +5,8 @@ use Rattle.it_demand.specs.Targets.{inequalities_of}
 use Rattle.it_polymatroid.specs.Certificates.{Form}
 use Rattle.it_polymatroid.proofs.Images.{pulled_polymatroid}
 use Rattle.it_question.specs.Limits.{IsQuestion, IsVerbOver}
-use Rattle.it_question.specs.Questions.{RegionView, Contain, BodyView}
+use Rattle.it_question.specs.OwnLines.{RegionView}
+use Rattle.it_question.specs.Questions.{Contain, BodyView}
 use Rattle.it_syntax.specs.Meaning.{Holds}
 use Rattle.it_syntax.specs.Givens.{IsTrueAt}
 use Rattle.it_demand.specs.Demands.{Demand, demand_of, demands}

@@ -21,50 +21,50 @@ use Rattle.it_region.specs.Obligations.{pulled_form, constraint_obligations, IsP
 
 -- ---- the terms of one row
 
--- the row at the pulled-back map, negated if `turned`
+-- the row at the pulled-back map, negated if `negated`
 abbrev pub signed_form : (ℕ → ℕ) → Bool → Terms → Form
-signed_form f turned ts p = signed_by turned (value ts (λ c. p (f c)))
+signed_form f negated ts p = signed_by negated (value ts (λ c. p (f c)))
 
 -- the first i terms are added, and the others are still to add
-pub record IsUnderWay (f : ℕ → ℕ) (turned : Bool) (whole : Terms) (size : ℕ) (now : List ℤ) (i : ℕ) : Type 0 where
+pub record IsUnderWay (f : ℕ → ℕ) (negated : Bool) (whole : Terms) (size : ℕ) (now : List ℤ) (i : ℕ) : Type 0 where
   pub complete : length now ≡ size + 1
   pub small : largest now + row_mass (drop i whole) ≤ row_mass whole
-  pub sum : (p : ℕ → ℤ) → dense_form now p +ℤ signed_form f turned (drop i whole) p ≡ signed_form f turned whole p
+  pub sum : (p : ℕ → ℤ) → dense_form now p +ℤ signed_form f negated (drop i whole) p ≡ signed_form f negated whole p
 
-signed_form-cons : (f : ℕ → ℕ) (turned : Bool) (t : ℕ × ℤ) (ts : Terms) (p : ℕ → ℤ)
-    → signed_form f turned (t ∷ ts) p ≡ signed_by turned t.1 *ℤ p (f t.0) +ℤ signed_form f turned ts p
+signed_form-cons : (f : ℕ → ℕ) (negated : Bool) (t : ℕ × ℤ) (ts : Terms) (p : ℕ → ℤ)
+    → signed_form f negated (t ∷ ts) p ≡ signed_by negated t.1 *ℤ p (f t.0) +ℤ signed_form f negated ts p
 signed_form-cons f true t ts p = negated_sum t.1 (p (f t.0)) (value ts (λ c. p (f c)))
   where
     negated_sum : (x y z : ℤ) → neg_ℤ (x *ℤ y +ℤ z) ≡ neg_ℤ x *ℤ y +ℤ neg_ℤ z
     negated_sum x y z = omega (arith, zring)
 signed_form-cons f false t ts p = refl
 
-pub goes_on : (f : ℕ → ℕ) (turned : Bool) (whole : Terms) (size : ℕ) (now new : List ℤ) (i : ℕ) (t : ℕ × ℤ) → i < length whole → t ≡ get_or whole i t
-    → IsFormAdded now new (unsigned_abs t.1) (λ p. signed_by turned t.1 *ℤ p (f t.0)) → IsUnderWay f turned whole size now i
-    → IsUnderWay f turned whole size new (i + 1)
-goes_on f turned whole size now new i t l is a u = record {
+pub goes_on : (f : ℕ → ℕ) (negated : Bool) (whole : Terms) (size : ℕ) (now new : List ℤ) (i : ℕ) (t : ℕ × ℤ) → i < length whole → t ≡ get_or whole i t
+    → IsFormAdded now new (unsigned_abs t.1) (λ p. signed_by negated t.1 *ℤ p (f t.0)) → IsUnderWay f negated whole size now i
+    → IsUnderWay f negated whole size new (i + 1)
+goes_on f negated whole size now new i t l is a u = record {
   complete = a.complete ∙ u.complete;
   small = omega (arith, a.small, u.small, ap row_mass (drop_item whole i t l is));
-  sum = λ p. sum_with_rest (dense_form new p) (dense_form now p) (signed_by turned t.1 *ℤ p (f t.0))
-      (signed_form f turned (drop (i + 1) whole) p) (signed_form f turned whole p) (a.sum p)
-      (ap (λ x. dense_form now p +ℤ x) (sym (ap (λ (ts : Terms). signed_form f turned ts p) (drop_item whole i t l is)
-      ∙ signed_form-cons f turned t (drop (i + 1) whole) p)) ∙ u.sum p);
+  sum = λ p. sum_with_rest (dense_form new p) (dense_form now p) (signed_by negated t.1 *ℤ p (f t.0))
+      (signed_form f negated (drop (i + 1) whole) p) (signed_form f negated whole p) (a.sum p)
+      (ap (λ x. dense_form now p +ℤ x) (sym (ap (λ (ts : Terms). signed_form f negated ts p) (drop_item whole i t l is)
+      ∙ signed_form-cons f negated t (drop (i + 1) whole) p)) ∙ u.sum p);
 }
   where
     sum_with_rest : (new now x rest all : ℤ) → new ≡ now +ℤ x → now +ℤ (x +ℤ rest) ≡ all → new +ℤ rest ≡ all
     sum_with_rest new now x rest all e h = omega (arith, ints, e, h)
 
-signed_form-nil : (f : ℕ → ℕ) (turned : Bool) (p : ℕ → ℤ) → signed_form f turned [] p ≡ pos 0
+signed_form-nil : (f : ℕ → ℕ) (negated : Bool) (p : ℕ → ℤ) → signed_form f negated [] p ≡ pos 0
 signed_form-nil f true p = refl
 signed_form-nil f false p = refl
 
-pub row_at_end : {E : Type 0} (s : Space) (f : ℕ → ℕ) (turned : Bool) (whole : Terms) (now : List ℤ) (i : ℕ) (row : Result Terms E)
-    → length whole ≤ i → IsUnderWay f turned whole (size_of s) now i
+pub row_at_end : {E : Type 0} (s : Space) (f : ℕ → ℕ) (negated : Bool) (whole : Terms) (now : List ℤ) (i : ℕ) (row : Result Terms E)
+    → length whole ≤ i → IsUnderWay f negated whole (size_of s) now i
     → IfOk row (λ r. (p : ℕ → ℤ) → p 0 ≡ pos 0 → value r p ≡ dense_form now p) → IfOk row (IsOver (length now - 1)) → IfOk row IsCanonical
-    → IfOk row (IsPulledRow s (signed_form f turned whole))
-row_at_end s f turned whole now i (Err e) l u same up can = tt
-row_at_end s f turned whole now i (Ok row) l u same up can = record {
-  same = λ p z. same p z ∙ omega (arith, ints, u.sum p, ap (λ (ts : Terms). signed_form f turned ts p) (drop_all i whole l) ∙ signed_form-nil f turned p);
+    → IfOk row (IsPulledRow s (signed_form f negated whole))
+row_at_end s f negated whole now i (Err e) l u same up can = tt
+row_at_end s f negated whole now i (Ok row) l u same up can = record {
+  same = λ p z. same p z ∙ omega (arith, ints, u.sum p, ap (λ (ts : Terms). signed_form f negated ts p) (drop_all i whole l) ∙ signed_form-nil f negated p);
   coordinates = let e : length now - 1 ≡ size_of s = omega (arith, u.complete) in subst (λ n. IsOver n row) e up;
   canonical = can;
 }

@@ -14,7 +14,8 @@ use Rattle.it_space.specs.Sums.{terms_from}
 use Rattle.it_polymatroid.specs.Certificates.{Form}
 use Rattle.it_polymatroid.specs.Elementals.{span}
 use Rattle.it_polymatroid.proofs.Forms.{one_at-zero}
-use Rattle.it_question.specs.Questions.{BodyView, RegionView}
+use Rattle.it_question.specs.OwnLines.{RegionView}
+use Rattle.it_question.specs.Questions.{BodyView}
 use Rattle.it_demand.specs.Demands.{Demand}
 use Rattle.it_demand.specs.Origins.{States}
 use Rattle.it_question.specs.LineDemands.{line_demands}

@@ -6,7 +6,8 @@ use Rattle.it_problems.specs.declared.problems.Constraint.{Constraint}
 use Rattle.it_space.specs.Rows.{Terms, IsCanonical, IsOver, value}
 use Rattle.it_space.specs.Spaces.{size_of}
 use Rattle.it_polymatroid.specs.Certificates.{Form}
-use Rattle.it_question.specs.Questions.{RegionView, BodyView}
+use Rattle.it_question.specs.OwnLines.{RegionView}
+use Rattle.it_question.specs.Questions.{BodyView}
 use Rattle.it_demand.specs.Targets.{inequalities_of}
 use Rattle.it_demand.specs.Demands.{Demand}
 use Rattle.it_question.specs.LineDemands.{line_demands}

@@ -4,7 +4,8 @@ use Rattle.it_problems.specs.Problems.{IsProblem}
 use Rattle.it_space.specs.Rows.{IsOver, row_mass}
 use Rattle.it_space.specs.Spaces.{IsSpace, size_of}
 use Rattle.it_polymatroid.specs.Certificates.{Form}
-use Rattle.it_question.specs.Questions.{RegionView, VerbView, Contain, BodyView}
+use Rattle.it_question.specs.OwnLines.{RegionView}
+use Rattle.it_question.specs.Questions.{VerbView, Contain, BodyView}
 use Rattle.it_demand.specs.Origins.{AreStated}
 use Rattle.it_canon.specs.QuestionDemands.{question_demands, question_origins}
 use Rattle.it_question.specs.LineOrigins.{origins_from}

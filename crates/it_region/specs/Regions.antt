@@ -1,7 +1,8 @@
 -- Regions, by the meaning of their lines, and what it means that one lies in another.
 use Rattle.std.specs.Prelude.{ℕ, ℤ, length}
 use Rattle.it_polymatroid.specs.Polymatroid.{IsPolymatroid}
-use Rattle.it_question.specs.Questions.{OwnLinesView, RegionView, BodyView}
+use Rattle.it_question.specs.OwnLines.{OwnLinesView, RegionView}
+use Rattle.it_question.specs.Questions.{BodyView}
 use Rattle.it_canon.specs.Agreement.{AgreeOnCommon}
 use Rattle.it_canon.specs.TrueLines.{AreTrueAt}
 use Rattle.it_question.specs.ProblemLines.{lines_with}

@@ -1,7 +1,8 @@
 -- What obligations prove.
 use Rattle.std.specs.Prelude.{◌≡◌, ℕ, ℤ, List, length}
 use Rattle.it_question.specs.Limits.{IsQuestion}
-use Rattle.it_question.specs.Questions.{RegionView, Contain, BodyView}
+use Rattle.it_question.specs.OwnLines.{RegionView}
+use Rattle.it_question.specs.Questions.{Contain, BodyView}
 use Rattle.it_region.specs.Pulling.{substituted_sets, pulled_map}
 use Rattle.it_region.specs.Regions.{IsIn, IsCounterpart, LiesIn}
 use Rattle.it_region.specs.Obligations.{obligations, AreFormsAtLeastZero, IsSubstitution}

@@ -62,47 +62,53 @@ fn pulled_coordinate(pair: &Pair, sets: &[VarSet], coordinate: u32) -> usize
     }
 }
 
-/// The coefficient of `term`, negated if `turned`.
-fn signed_coefficient(term: &(u32, i128), turned: bool) -> i128
+/// The coefficient of `term`, negated if `negated`.
+fn signed_coefficient(term: &(u32, i128), negated: bool) -> i128
     requires { unsigned_abs term.now.1 < 2 ^ 127 }
-    ensures value { result ≡ signed_by turned term.now.1 }
+    ensures value { result ≡ signed_by negated term.now.1 }
     ensures size { unsigned_abs result ≡ unsigned_abs term.now.1 }
 {
-    if turned { -term.1 } else { term.1 }
+    if negated { -term.1 } else { term.1 }
 }
 
-/// Adds `term`, negated if `turned`, at its pulled coordinate.
-fn add_term(sums: &mut Coefficients, pair: &Pair, sets: &[VarSet], term: &(u32, i128), turned: bool)
+/// Adds `term`, negated if `negated`, at its pulled coordinate.
+fn add_term(
+    sums: &mut Coefficients,
+    pair: &Pair,
+    sets: &[VarSet],
+    term: &(u32, i128),
+    negated: bool,
+)
     requires pair { IsPair pair.now }
     requires sets { AreSetsFor pair.now sets.now }
     requires coordinate { term.now.0 ≤ size_of pair.now.space }
     requires complete { length sums.old ≡ size_of pair.now.first.space + 1 }
     requires room { largest sums.old + unsigned_abs term.now.1 < 2 ^ 127 }
-    ensures { IsFormAdded sums.old sums.new (unsigned_abs term.now.1) (λ p. signed_by turned term.now.1 *ℤ p (pair_coordinate pair.now sets.now term.now.0)) }
+    ensures { IsFormAdded sums.old sums.new (unsigned_abs term.now.1) (λ p. signed_by negated term.now.1 *ℤ p (pair_coordinate pair.now sets.now term.now.0)) }
 {
     sums.add(
         pulled_coordinate(pair, sets, term.0),
-        signed_coefficient(term, turned),
+        signed_coefficient(term, negated),
     );
 }
 
-/// The row that `row`, of the second region, is at the pulled-back map, negated if `turned`.
+/// The row that `row`, of the second region, is at the pulled-back map, negated if `negated`.
 fn pulled_row(
     alloc: Global,
     pair: &Pair,
     sets: &[VarSet],
     row: &Row,
-    turned: bool,
+    negated: bool,
 ) -> Result<Row, AllocError>
     requires pair { IsPair pair.now }
     requires sets { AreSetsFor pair.now sets.now }
     requires row { IsOver (size_of pair.now.space) row.now }
     requires small { row_mass row.now < 2 ^ 127 }
-    ensures { IfOk result (IsPulledRow pair.now.first.space (λ p. signed_by turned (value row.now (λ c. p (pair_coordinate pair.now sets.now c))))) }
+    ensures { IfOk result (IsPulledRow pair.now.first.space (λ p. signed_by negated (value row.now (λ c. p (pair_coordinate pair.now sets.now c))))) }
 {
     let mut sums = Coefficients::new(alloc, pair.first.space)?;
     for term in row.terms() {
-        add_term(&mut sums, pair, sets, term, turned);
+        add_term(&mut sums, pair, sets, term, negated);
     }
     sums.into_row(alloc)
 }

@@ -5,7 +5,8 @@ use Rattle.it_problems.specs.declared.problems.Kind.{Kind}
 use Rattle.it_problems.specs.declared.problems.Kind.TheVariants.{Inequality, Equation}
 use Rattle.it_polymatroid.specs.Certificates.{Form}
 use Rattle.it_syntax.specs.Meaning.{RelationView}
-use Rattle.it_question.specs.Questions.{BodyView, RegionView}
+use Rattle.it_question.specs.OwnLines.{RegionView}
+use Rattle.it_question.specs.Questions.{BodyView}
 use Rattle.it_demand.specs.Demands.{Demand, kind_of}
 use Rattle.it_question.specs.LineDemands.{line_demands}
 use Rattle.it_demand.specs.Canonical.{form_of}

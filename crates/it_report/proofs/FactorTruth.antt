@@ -213,7 +213,7 @@ module _ (q : BodyView) (p : ProblemView) (is : IsProblemOf q p) where
 
     abbrev rest_of : ℤ → ℤ → (Terms → Terms → FactorVerdict) → FactorVerdict
     rest_of num den judge = with_row (row_unless (unformed size num den left right) (row_for num den))
-        (λ factor. with_row (row_unless (unformed size (neg_ℤ (pos 1)) (pos 0) left right) (row_for (neg_ℤ (pos 1)) (pos 0))) (λ turned. judge factor turned))
+        (λ factor. with_row (row_unless (unformed size (neg_ℤ (pos 1)) (pos 0) left right) (row_for (neg_ℤ (pos 1)) (pos 0))) (λ negated. judge factor negated))
 
     rest_is : (num den : ℤ) (judge : Terms → Terms → FactorVerdict) → rest_of num den judge ≡ valid
         → judge (row_for num den) (row_for (neg_ℤ (pos 1)) (pos 0)) ≡ valid
@@ -222,14 +222,15 @@ module _ (q : BodyView) (p : ProblemView) (is : IsProblemOf q p) where
         (row_taken (unformed size num den left right) (row_for num den) (λ factor. with_row
         (row_unless (unformed size (neg_ℤ (pos 1)) (pos 0) left right) (row_for (neg_ℤ (pos 1)) (pos 0))) (judge factor)) e)
 
-    turned_at : (x y : ℤ) → pos 0 ≤ℤ (neg_ℤ (pos 1) *ℤ x -ℤ pos 0 *ℤ y) → pos 0 ≤ℤ neg_ℤ x
-    turned_at x y h = omega (arith, ints, h)
+    negated_at : (x y : ℤ) → pos 0 ≤ℤ (neg_ℤ (pos 1) *ℤ x -ℤ pos 0 *ℤ y) → pos 0 ≤ℤ neg_ℤ x
+    negated_at x y h = omega (arith, ints, h)
 
     true_by : (best : BestView) → HasBestShape size best → best_verdict p left right best ≡ Some valid → IsTrueBest HoldsBetween best
     true_by (Least num den w values) shape e =
-        let one = denominator_is den (rest_of num den (λ factor turned. first_wrong (proof_verdict p factor w) (tight_verdict p turned factor values)))
-        (some_same (from_one den (rest_of num den (λ factor turned. first_wrong (proof_verdict p factor w) (tight_verdict p turned factor values)))) valid e) in
-        let rest = rest_is num den (λ factor turned. first_wrong (proof_verdict p factor w) (tight_verdict p turned factor values)) one.1 in
+        let one = denominator_is den (rest_of num den (λ factor negated. first_wrong (proof_verdict p factor w) (tight_verdict p negated factor values)))
+        (some_same (from_one den (rest_of num den
+        (λ factor negated. first_wrong (proof_verdict p factor w) (tight_verdict p negated factor values)))) valid e) in
+        let rest = rest_is num den (λ factor negated. first_wrong (proof_verdict p factor w) (tight_verdict p negated factor values)) one.1 in
         let both = both_valid (proof_verdict p (row_for num den) w) (tight_verdict p (row_for (neg_ℤ (pos 1)) (pos 0)) (row_for num den) values) rest in
         let at = tight values shape.2.each num den both.1 in (
           one.0,
@@ -237,21 +238,21 @@ module _ (q : BodyView) (p : ProblemView) (is : IsProblemOf q p) where
           λ a b from holds. no_smaller num den a b (f (point_of values)) (g (point_of values)) at.1 one.0 at.2 (holds (point_of values) at.0),
         )
     true_by (Never values) shape e =
-        let rest = row_taken (unformed size (pos 0) (pos 1) left right) (row_for (pos 0) (pos 1)) (λ turned. tight_verdict p turned left values)
+        let rest = row_taken (unformed size (pos 0) (pos 1) left right) (row_for (pos 0) (pos 1)) (λ negated. tight_verdict p negated left values)
         (some_same (with_row (row_unless (unformed size (pos 0) (pos 1) left right) (row_for (pos 0) (pos 1)))
-        (λ turned. tight_verdict p turned left values)) valid e) in
+        (λ negated. tight_verdict p negated left values)) valid e) in
         let at = never values shape.each rest in
         λ a b from holds. none_at_zero a b (f (point_of values)) (g (point_of values)) at.1 at.2 from (holds (point_of values) at.0)
     true_by (Unbounded num den w below) shape e =
-        let one = denominator_is den (rest_of num den (λ factor turned. first_wrong (proof_verdict p factor w) (Checked (proof_verdict p turned below))))
-        (some_same (from_one den (rest_of num den (λ factor turned. first_wrong (proof_verdict p factor w)
-        (Checked (proof_verdict p turned below))))) valid e) in
-        let rest = rest_is num den (λ factor turned. first_wrong (proof_verdict p factor w) (Checked (proof_verdict p turned below))) one.1 in
+        let one = denominator_is den (rest_of num den (λ factor negated. first_wrong (proof_verdict p factor w) (Checked (proof_verdict p negated below))))
+        (some_same (from_one den (rest_of num den (λ factor negated. first_wrong (proof_verdict p factor w)
+        (Checked (proof_verdict p negated below))))) valid e) in
+        let rest = rest_is num den (λ factor negated. first_wrong (proof_verdict p factor w) (Checked (proof_verdict p negated below))) one.1 in
         let both = both_valid (proof_verdict p (row_for num den) w) (Checked (proof_verdict p (row_for (neg_ℤ (pos 1)) (pos 0)) below)) rest in
         let second = checked_valid (proof_verdict p (row_for (neg_ℤ (pos 1)) (pos 0)) below) both.1 in (
           one.0,
           λ a b from smaller m h. all_smaller num den a b (f m) (g m) one.0 from smaller (holds_by num den w both.0 m h)
-              (turned_at (f m) (g m) (holds_by (neg_ℤ (pos 1)) (pos 0) below second m h)),
+              (negated_at (f m) (g m) (holds_by (neg_ℤ (pos 1)) (pos 0) below second m h)),
         )
     true_by (Undecided cause) shape e = tt
 

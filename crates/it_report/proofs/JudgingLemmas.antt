@@ -17,7 +17,8 @@ use Rattle.it_syntax.specs.NamesViews.{NamesView}
 use Rattle.it_syntax.specs.declared.types.Sign.{Sign}
 use Rattle.it_syntax.specs.declared.types.Sign.TheVariants.{AtLeast, AtMost, Equal}
 use Rattle.it_question.specs.Limits.{IsQuestion}
-use Rattle.it_question.specs.Questions.{BodyView, QuestionView, RegionView, VerbView, Prove, Eliminate, Contain, question_body}
+use Rattle.it_question.specs.OwnLines.{RegionView}
+use Rattle.it_question.specs.Questions.{BodyView, QuestionView, VerbView, Prove, Eliminate, Contain}
 use Rattle.it_demand.specs.Canonical.{IsRowOf, form_of}
 use Rattle.it_elemental.specs.Generators.{is_equation}
 use Rattle.it_demand.specs.Demands.{kind_of}
@@ -34,8 +35,8 @@ use Rattle.it_region.specs.Pairs.{IsPair, IsPairOf, Pairs, IsContainment, FitsPa
 use Rattle.it_region.proofs.TextLemmas.{text_rows, parts_fit, rows_as_pulled, pulled_rows_are}
 use Rattle.it_certificate.specs.AnswerShapes.{HasQuestionShape, HasVerbShape, HasContainmentShape, IsRowIn}
 use Rattle.it_certificate.specs.Bounds.{BoundsView, bounds_view}
-use Rattle.it_certificate.specs.CodeReading.{HasCodedShape, IsNo, ReportedCodeView, reported_code_view}
-use Rattle.it_codes.specs.Codes.{AreEntropies, IsCode, IsFirstOther, variables_of}
+use Rattle.it_certificate.specs.CodeReading.{HasCodedShape, IsNo, ReportedCodeView}
+use Rattle.it_codes.specs.Codes.{AreEntropies, IsFirstOther, variables_of}
 use Rattle.it_certificate.specs.declared.keys.Key.{Key}
 use Rattle.it_certificate.specs.declared.keys.ReportFault.{ReportFault}
 use Rattle.it_certificate.specs.OriginReading.{IsRegion, rows_of}
@@ -52,7 +53,7 @@ use Rattle.it_report.specs.LineVerdicts.{LineVerdict, NotJson, Shape, Skipped, J
 use Rattle.it_ratio.specs.BestViews.{BestView, best_view}
 use Rattle.it_ratio.specs.Truth.{asked_by, at_least}
 use Rattle.it_report.specs.declared.factors.FactorVerdict.{FactorVerdict}
-use Rattle.it_report.specs.Judging.{answer_verdict, factor_line_verdict, factor_verdict_of, values_of, verdict_of, weighed_by, IsAnswerVerdict, IsBoundsVerdict, IsCodedVerdict, IsDerivedVerdict, IsReadingVerdict, IsVerdict, IsJudgedLine}
+use Rattle.it_report.specs.Judging.{answer_verdict, factor_line_verdict, factor_verdict_of, values_of, verdict_of, weighed_by, IsAnswerVerdict, IsBoundsVerdict, IsCodedVerdict, IsDerivedVerdict, IsReadingVerdict, IsVerdict, IsJudgedLine, IsJudgedWhereRead}
 use Rattle.it_report.specs.FactorVerdicts.{best_verdict}
 use Rattle.it_report.specs.Steps.{IsAboutRelation, IsFaultLine, IsJudgedAnswer, IsJudgedBounds, IsJudgedCoded, IsJudgedDerived, IsJudgedReport}
 use Rattle.it_demand.specs.RowsOfForms.{terms_of_form}
@@ -161,80 +162,99 @@ valid_coded k q a c t i is_no valid judged all = by_verdict judged.verdict judge
     by_verdict (OtherCode names s) is told = absurd is
     by_verdict (Hulled v) is told = absurd is
 
-module _ {L E : Type 0} (text : L → List ℕ) (invalid : L → Bool) (k : ℕ) where
-  pub fault_is_judged : (line : List ℕ) (fault : ReportFault) (r : Result L E) → Reports line (Err fault)
-      → IfOk r (λ j. IsFaultLine k fault (text j) (invalid j)) → IfOk r (λ j. IsJudgedLine k line (text j) (invalid j))
-  fault_is_judged line faults.Memory (Ok j) h told = absurd told
-  fault_is_judged line faults.NotJson (Ok j) h told = record { verdict = NotJson; is = h; told = told }
-  fault_is_judged line (faults.Shape key) (Ok j) h told = record { verdict = Shape key; is = h; told = told }
-  fault_is_judged line fault (Err e) h told = tt
+line_is_judged : (k : ℕ) (line text : List ℕ) (invalid : Bool) (reported : Reported) → Reports line (Ok reported)
+    → IsJudgedReport k reported text invalid → IsJudgedLine k line text invalid
+line_is_judged k line text invalid reported h judged = by_reading h.0 reported h.1 h.2 judged
+  where
+    by_reading : (reading : Reading) (reported : Reported) → IsReported reading reported → ReadsReport line (Ok reading)
+        → IsJudgedReport k reported text invalid → IsJudgedLine k line text invalid
+    by_reading (Answered source a) (variants.Answered question answer) same h judged =
+        let verdict : IsAnswerVerdict (asked source).body a judged.verdict =
+        subst (λ b. IsAnswerVerdict (asked source).body b judged.verdict) (sym same.1)
+        (subst (λ (q : QuestionView). IsAnswerVerdict q.body (answer_view answer) judged.verdict) (sym same.0) judged.is) in
+        record { verdict = judged.verdict; is = read_verdict line (Answered source a) judged.verdict h verdict; told = judged.told }
+    by_reading (Answered source a) (variants.Coded question answer code) same h judged = absurd same
+    by_reading (Answered source a) (variants.Derived question answer origins) same h judged = absurd same
+    by_reading (Answered source a) (variants.Factored question best) same h judged = absurd same
+    by_reading (Answered source a) (variants.Bounded question bounds) same h judged = absurd same
+    by_reading (Answered source a) variants.Misfit same h judged = absurd same
+    by_reading (Coded source a c) (variants.Answered question answer) same h judged = absurd same
+    by_reading (Coded source a c) (variants.Coded question answer code) same h judged =
+        let verdict : IsCodedVerdict (asked source).body a c judged.verdict =
+        subst (λ x. IsCodedVerdict (asked source).body a x judged.verdict) (sym same.2)
+        (subst (λ x. IsCodedVerdict (asked source).body x code judged.verdict) (sym same.1)
+        (subst (λ (q : QuestionView). IsCodedVerdict q.body (answer_view answer) code judged.verdict) (sym same.0) judged.is)) in
+        record { verdict = judged.verdict; is = read_verdict line (Coded source a c) judged.verdict h verdict; told = judged.told }
+    by_reading (Coded source a c) (variants.Derived question answer origins) same h judged = absurd same
+    by_reading (Coded source a c) (variants.Factored question best) same h judged = absurd same
+    by_reading (Coded source a c) (variants.Bounded question bounds) same h judged = absurd same
+    by_reading (Coded source a c) variants.Misfit same h judged = absurd same
+    by_reading (Derived source a ws) (variants.Answered question answer) same h judged = absurd same
+    by_reading (Derived source a ws) (variants.Coded question answer code) same h judged = absurd same
+    by_reading (Derived source a ws) (variants.Derived question answer origins) same h judged =
+        let verdict : IsDerivedVerdict (asked source).body a ws judged.verdict =
+        subst (λ x. IsDerivedVerdict (asked source).body a x judged.verdict) (sym same.2)
+        (subst (λ x. IsDerivedVerdict (asked source).body x (map certificate_view origins.items) judged.verdict) (sym same.1)
+        (subst (λ (q : QuestionView). IsDerivedVerdict q.body (answer_view answer) (map certificate_view origins.items) judged.verdict)
+        (sym same.0) judged.is)) in
+        record { verdict = judged.verdict; is = read_verdict line (Derived source a ws) judged.verdict h verdict; told = judged.told }
+    by_reading (Derived source a ws) (variants.Factored question best) same h judged = absurd same
+    by_reading (Derived source a ws) (variants.Bounded question bounds) same h judged = absurd same
+    by_reading (Derived source a ws) variants.Misfit same h judged = absurd same
+    by_reading (Factored source b) (variants.Answered question answer) same h judged = absurd same
+    by_reading (Factored source b) (variants.Coded question answer code) same h judged = absurd same
+    by_reading (Factored source b) (variants.Derived question answer origins) same h judged = absurd same
+    by_reading (Factored source b) (variants.Factored question best) same h judged =
+        let v = factor_line_verdict question.body (best_view best) in
+        let told : v ≡ factor_line_verdict (asked source).body b = ap₂ (λ (q : QuestionView) (x : BestView). factor_line_verdict q.body x)
+        (sym same.0) (sym same.1) in
+        record { verdict = factor_line_verdict question.body (best_view best); is = read_verdict line (Factored source b) v h told; told = judged }
+    by_reading (Factored source b) (variants.Bounded question bounds) same h judged = absurd same
+    by_reading (Factored source b) variants.Misfit same h judged = absurd same
+    by_reading (Bounded source b) (variants.Answered question answer) same h judged = absurd same
+    by_reading (Bounded source b) (variants.Coded question answer code) same h judged = absurd same
+    by_reading (Bounded source b) (variants.Derived question answer origins) same h judged = absurd same
+    by_reading (Bounded source b) (variants.Factored question best) same h judged = absurd same
+    by_reading (Bounded source b) (variants.Bounded question bounds) same h judged =
+        let verdict : IsBoundsVerdict (asked source).body b judged.verdict =
+        subst (λ c. IsBoundsVerdict (asked source).body c judged.verdict) (sym same.1)
+        (subst (λ (q : QuestionView). IsBoundsVerdict q.body (bounds_view bounds) judged.verdict) (sym same.0) judged.is) in
+        record { verdict = judged.verdict; is = read_verdict line (Bounded source b) judged.verdict h verdict; told = judged.told }
+    by_reading (Bounded source b) variants.Misfit same h judged = absurd same
+    by_reading Misfit (variants.Answered question answer) same h judged = absurd same
+    by_reading Misfit (variants.Coded question answer code) same h judged = absurd same
+    by_reading Misfit (variants.Derived question answer origins) same h judged = absurd same
+    by_reading Misfit (variants.Factored question best) same h judged = absurd same
+    by_reading Misfit (variants.Bounded question bounds) same h judged = absurd same
+    by_reading Misfit variants.Misfit same h judged = record { verdict = Skipped; is = read_verdict line Misfit Skipped h refl; told = judged }
 
-  pub report_is_judged : (line : List ℕ) (reported : Reported) (r : Result L E) → Reports line (Ok reported)
-      → IfOk r (λ j. IsJudgedReport k reported (text j) (invalid j)) → IfOk r (λ j. IsJudgedLine k line (text j) (invalid j))
-  report_is_judged line reported (Ok j) h judged = by_reading h.0 reported h.1 h.2 judged
-    where
-      by_reading : (reading : Reading) (reported : Reported) → IsReported reading reported → ReadsReport line (Ok reading)
-          → IsJudgedReport k reported (text j) (invalid j) → IsJudgedLine k line (text j) (invalid j)
-      by_reading (Answered source a) (variants.Answered question answer) same h judged =
-          let verdict : IsAnswerVerdict (asked source).body a judged.verdict =
-          subst (λ b. IsAnswerVerdict (asked source).body b judged.verdict) (sym same.1)
-          (subst (λ (q : QuestionView). IsAnswerVerdict q.body (answer_view answer) judged.verdict) (sym same.0) judged.is) in
-          record { verdict = judged.verdict; is = read_verdict line (Answered source a) judged.verdict h verdict; told = judged.told }
-      by_reading (Answered source a) (variants.Coded question answer code) same h judged = absurd same
-      by_reading (Answered source a) (variants.Derived question answer origins) same h judged = absurd same
-      by_reading (Answered source a) (variants.Factored question best) same h judged = absurd same
-      by_reading (Answered source a) (variants.Bounded question bounds) same h judged = absurd same
-      by_reading (Answered source a) variants.Misfit same h judged = absurd same
-      by_reading (Coded source a c) (variants.Answered question answer) same h judged = absurd same
-      by_reading (Coded source a c) (variants.Coded question answer code) same h judged =
-          let verdict : IsCodedVerdict (asked source).body a c judged.verdict =
-          subst (λ x. IsCodedVerdict (asked source).body a x judged.verdict) (sym same.2)
-          (subst (λ x. IsCodedVerdict (asked source).body x (reported_code_view code) judged.verdict) (sym same.1)
-          (subst (λ (q : QuestionView). IsCodedVerdict q.body (answer_view answer) (reported_code_view code) judged.verdict) (sym same.0) judged.is)) in
-          record { verdict = judged.verdict; is = read_verdict line (Coded source a c) judged.verdict h verdict; told = judged.told }
-      by_reading (Coded source a c) (variants.Derived question answer origins) same h judged = absurd same
-      by_reading (Coded source a c) (variants.Factored question best) same h judged = absurd same
-      by_reading (Coded source a c) (variants.Bounded question bounds) same h judged = absurd same
-      by_reading (Coded source a c) variants.Misfit same h judged = absurd same
-      by_reading (Derived source a ws) (variants.Answered question answer) same h judged = absurd same
-      by_reading (Derived source a ws) (variants.Coded question answer code) same h judged = absurd same
-      by_reading (Derived source a ws) (variants.Derived question answer origins) same h judged =
-          let verdict : IsDerivedVerdict (asked source).body a ws judged.verdict =
-          subst (λ x. IsDerivedVerdict (asked source).body a x judged.verdict) (sym same.2)
-          (subst (λ x. IsDerivedVerdict (asked source).body x (map certificate_view origins.items) judged.verdict) (sym same.1)
-          (subst (λ (q : QuestionView). IsDerivedVerdict q.body (answer_view answer) (map certificate_view origins.items) judged.verdict)
-          (sym same.0) judged.is)) in
-          record { verdict = judged.verdict; is = read_verdict line (Derived source a ws) judged.verdict h verdict; told = judged.told }
-      by_reading (Derived source a ws) (variants.Factored question best) same h judged = absurd same
-      by_reading (Derived source a ws) (variants.Bounded question bounds) same h judged = absurd same
-      by_reading (Derived source a ws) variants.Misfit same h judged = absurd same
-      by_reading (Factored source b) (variants.Answered question answer) same h judged = absurd same
-      by_reading (Factored source b) (variants.Coded question answer code) same h judged = absurd same
-      by_reading (Factored source b) (variants.Derived question answer origins) same h judged = absurd same
-      by_reading (Factored source b) (variants.Factored question best) same h judged =
-          let v = factor_line_verdict (question_body question) (best_view best) in
-          let told : v ≡ factor_line_verdict (asked source).body b = ap₂ (λ (q : QuestionView) (x : BestView). factor_line_verdict q.body x)
-          (sym same.0) (sym same.1) in
-          record { verdict = factor_line_verdict (question_body question) (best_view best); is = read_verdict line (Factored source b) v h told; told = judged }
-      by_reading (Factored source b) (variants.Bounded question bounds) same h judged = absurd same
-      by_reading (Factored source b) variants.Misfit same h judged = absurd same
-      by_reading (Bounded source b) (variants.Answered question answer) same h judged = absurd same
-      by_reading (Bounded source b) (variants.Coded question answer code) same h judged = absurd same
-      by_reading (Bounded source b) (variants.Derived question answer origins) same h judged = absurd same
-      by_reading (Bounded source b) (variants.Factored question best) same h judged = absurd same
-      by_reading (Bounded source b) (variants.Bounded question bounds) same h judged =
-          let verdict : IsBoundsVerdict (asked source).body b judged.verdict =
-          subst (λ c. IsBoundsVerdict (asked source).body c judged.verdict) (sym same.1)
-          (subst (λ (q : QuestionView). IsBoundsVerdict q.body (bounds_view bounds) judged.verdict) (sym same.0) judged.is) in
-          record { verdict = judged.verdict; is = read_verdict line (Bounded source b) judged.verdict h verdict; told = judged.told }
-      by_reading (Bounded source b) variants.Misfit same h judged = absurd same
-      by_reading Misfit (variants.Answered question answer) same h judged = absurd same
-      by_reading Misfit (variants.Coded question answer code) same h judged = absurd same
-      by_reading Misfit (variants.Derived question answer origins) same h judged = absurd same
-      by_reading Misfit (variants.Factored question best) same h judged = absurd same
-      by_reading Misfit (variants.Bounded question bounds) same h judged = absurd same
-      by_reading Misfit variants.Misfit same h judged = record { verdict = Skipped; is = read_verdict line Misfit Skipped h refl; told = judged }
-  report_is_judged line reported (Err e) h judged = tt
+module _ {L E : Type 0} (text : L → List ℕ) (invalid : L → Bool) (k : ℕ) where
+  -- the line about a fault is that of each line that has it
+  pub fault_is_judged : (fault : ReportFault) (r : Result L E) → IfOk r (λ j. IsFaultLine k fault (text j) (invalid j))
+      → IfOk r (λ j. IsJudgedWhereRead k (Err fault) (text j) (invalid j))
+  fault_is_judged faults.Memory (Ok j) told = absurd told
+  fault_is_judged faults.NotJson (Ok j) told = λ line h. record { verdict = NotJson; is = h; told = told }
+  fault_is_judged (faults.Shape key) (Ok j) told = λ line h. record { verdict = Shape key; is = h; told = told }
+  fault_is_judged fault (Err e) told = tt
+
+  pub fault_is_invalid : (fault : ReportFault) (r : Result L E) → IfOk r (λ j. IsFaultLine k fault (text j) (invalid j))
+      → IfOk r (λ j. invalid j ≡ true)
+  fault_is_invalid faults.Memory (Ok j) told = absurd told
+  fault_is_invalid faults.NotJson (Ok j) told = told.1
+  fault_is_invalid (faults.Shape key) (Ok j) told = told.1
+  fault_is_invalid fault (Err e) told = tt
+
+  -- the line about what was read is that of each line that reads so
+  pub report_is_judged : (reported : Reported) (r : Result L E) → IfOk r (λ j. IsJudgedReport k reported (text j) (invalid j))
+      → IfOk r (λ j. IsJudgedWhereRead k (Ok reported) (text j) (invalid j))
+  report_is_judged reported (Ok j) judged = λ line h. line_is_judged k line (text j) (invalid j) reported h judged
+  report_is_judged reported (Err e) judged = tt
+
+  -- that of a line which reads so
+  pub judged_as_read : (line : List ℕ) (read : Result Reported ReportFault) (r : Result L E) → Reports line read
+      → IfOk r (λ j. IsJudgedWhereRead k read (text j) (invalid j)) → IfOk r (λ j. IsJudgedLine k line (text j) (invalid j))
+  judged_as_read line read (Ok j) h judged = judged line h
+  judged_as_read line read (Err e) h judged = tt
 
   pub verdict_is_told : (q : BodyView) (a : AnswerView) (names : NamesView) (v : Verdict) (r : Result L E)
       → IsAnswerVerdict q a (Judged names v) → IfOk r (λ j. IsLineOf k (Judged names v) (text j) (invalid j))
@@ -441,14 +461,6 @@ module _ (q : BodyView) (p : Pair) (parts : List ℕ) (ws : List CertificateView
       ∙ sym (ap (λ v. answer_forms_by q v (Contained parts ws)) e)) (text_rows q first second p o c ts are))
 
 -- ---- a code
-
--- a code of the question's variables is one that calls take
-pub code_is : (q : BodyView) (a : AnswerView) (c : ReportedCodeView) → IsQuestion q → HasCodedShape q a c → IsCode c.code
-code_is q a c k h = record {
-  some = subst (λ n. 1 ≤ n) (sym h.code.variables) k.some;
-  few = subst (λ n. n ≤ 10) (sym h.code.variables) k.few;
-  messages = h.code.messages;
-}
 
 -- the values of the point are those of all sets
 pub values_complete : (q : BodyView) (a : AnswerView) (c : ReportedCodeView) → HasCodedShape q a c → 2 ^ variables_of c.code - 1 ≤ length (values_of a)

@@ -13,7 +13,8 @@ use Rattle.it_polymatroid.specs.Certificates.{Form}
 use Rattle.it_polymatroid.specs.Polymatroid.{IsPolymatroid}
 use Rattle.it_syntax.specs.Meaning.{RelationView, common_denominator, side_at}
 use Rattle.it_question.specs.Limits.{IsQuestion}
-use Rattle.it_question.specs.Questions.{BodyView, RegionView, VerbView, Prove, Eliminate, Contain}
+use Rattle.it_question.specs.OwnLines.{RegionView}
+use Rattle.it_question.specs.Questions.{BodyView, VerbView, Prove, Eliminate, Contain}
 use Rattle.it_question.proofs.NumberLemmas.{QuestionHasSmallNumbers}
 use Rattle.it_demand.specs.Canonical.{form_of}
 use Rattle.it_demand.specs.Targets.{targets}

@@ -50,17 +50,17 @@ module _ (p : ProblemView) (left right : Terms) where
 
   -- the least factor: its certificate, and a point at which the left side is at least 1 and the factor just holds
   abbrev pub least_verdict : ℤ → ℤ → CertificateView → List ℤ → FactorVerdict
-  least_verdict num den proof values = from_one den (with_row (row_of num den) (λ factor. with_row (row_of (neg_ℤ (pos 1)) (pos 0)) (λ turned.
-      first_wrong (proof_verdict p factor proof) (tight_verdict p turned factor values))))
+  least_verdict num den proof values = from_one den (with_row (row_of num den) (λ factor. with_row (row_of (neg_ℤ (pos 1)) (pos 0)) (λ negated.
+      first_wrong (proof_verdict p factor proof) (tight_verdict p negated factor values))))
 
   -- no factor: a point at which the right side is at least 1 and the left one 0
   abbrev pub never_verdict : List ℤ → FactorVerdict
-  never_verdict values = with_row (row_of (pos 0) (pos 1)) (λ turned. tight_verdict p turned left values)
+  never_verdict values = with_row (row_of (pos 0) (pos 1)) (λ negated. tight_verdict p negated left values)
 
   -- no least factor: a factor's certificate, and one that the left side is at most 0
   abbrev pub unbounded_verdict : ℤ → ℤ → CertificateView → CertificateView → FactorVerdict
-  unbounded_verdict num den proof below = from_one den (with_row (row_of num den) (λ factor. with_row (row_of (neg_ℤ (pos 1)) (pos 0)) (λ turned.
-      first_wrong (proof_verdict p factor proof) (Checked (proof_verdict p turned below)))))
+  unbounded_verdict num den proof below = from_one den (with_row (row_of num den) (λ factor. with_row (row_of (neg_ℤ (pos 1)) (pos 0)) (λ negated.
+      first_wrong (proof_verdict p factor proof) (Checked (proof_verdict p negated below)))))
 
   -- the verdict, where something is claimed
   abbrev pub best_verdict : BestView → Option FactorVerdict

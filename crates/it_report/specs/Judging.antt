@@ -1,6 +1,6 @@
 -- The verdict on each line of a report: what its answer says of its question, against the problem that the question poses and the
 -- rows of the forms that the answer speaks of.
-use Rattle.std.specs.Prelude.{◌≡◌, ℕ, ℤ, List, [], map, Bool, false, Option, Some, None, option_and_then, Ok, Err, IsUtf8}
+use Rattle.std.specs.Prelude.{◌≡◌, ℕ, ℤ, List, [], map, Bool, false, Option, Some, None, option_and_then, Result, Ok, Err, IsUtf8}
 use Rattle.serde_json.specs.Read.{read}
 use Rattle.it_space.specs.Answers.{AnswerView, CertificateView}
 use Rattle.it_space.specs.Answers.AnswerView.{Yes, No, Contained}
@@ -16,7 +16,9 @@ use Rattle.it_ratio.specs.BestViews.{BestView}
 use Rattle.it_ratio.specs.Truth.{asked_by}
 use Rattle.it_region.specs.AnswerForms.{answer_forms}
 use Rattle.it_certificate.specs.OriginReading.{rows_of}
-use Rattle.it_certificate.specs.Reports.{Answered, Coded, Derived, Factored, Bounded, Misfit, ReadsReport, Reading}
+use Rattle.it_certificate.specs.declared.keys.ReportFault.{ReportFault}
+use Rattle.it_certificate.specs.declared.types.Reported.{Reported}
+use Rattle.it_certificate.specs.Reports.{Answered, Coded, Derived, Factored, Bounded, Misfit, ReadsReport, Reading, Reports}
 use Rattle.it_certificate.specs.Bounds.{BoundsView}
 use Rattle.it_certificate.specs.CodeReading.{ReportedCodeView}
 use Rattle.it_codes.specs.Codes.{AreEntropies, IsFirstOther}
@@ -123,3 +125,7 @@ pub record IsJudgedLine (k : ℕ) (line text : List ℕ) (invalid : Bool) : Type
   pub verdict : LineVerdict
   pub is : IsVerdict line verdict
   pub told : IsLineOf k verdict text invalid
+
+-- the text and `invalid` are those of each line that reads so, or that has this fault
+abbrev pub IsJudgedWhereRead : ℕ → Result Reported ReportFault → List ℕ → Bool → Type 0
+IsJudgedWhereRead k read text invalid = (line : List ℕ) → Reports line read → IsJudgedLine k line text invalid

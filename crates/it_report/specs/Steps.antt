@@ -2,13 +2,13 @@
 -- coordinates that verdicts name.
 use Rattle.std.specs.Prelude.{ℕ, ◌<◌, List, map, Bool}
 use Rattle.it_space.specs.Answers.{AnswerView, CertificateView, answer_view, certificate_view}
-use Rattle.it_question.specs.Questions.{BodyView, VerbView, Prove, Eliminate, Contain, question_body}
+use Rattle.it_question.specs.Questions.{BodyView, VerbView, Prove, Eliminate, Contain}
 use Rattle.it_certificate.specs.declared.keys.ReportFault.{ReportFault}
 use Rattle.it_certificate.specs.declared.keys.ReportFault.TheVariants as faults
 use Rattle.it_certificate.specs.declared.types.Reported.{Reported}
 use Rattle.it_certificate.specs.declared.types.Reported.TheVariants as reported
 use Rattle.it_certificate.specs.Bounds.{BoundsView, bounds_view}
-use Rattle.it_certificate.specs.CodeReading.{ReportedCodeView, reported_code_view}
+use Rattle.it_certificate.specs.CodeReading.{ReportedCodeView}
 use Rattle.it_check.specs.declared.verdicts.Verdict.{Verdict}
 use Rattle.it_check.specs.declared.verdicts.Verdict.TheVariants.{Mismatch}
 use Rattle.it_report.specs.LineVerdicts.{LineVerdict, NotJson, Shape, Skipped, IsLineOf}
@@ -53,11 +53,11 @@ pub record IsJudgedBounds (k : ℕ) (q : BodyView) (b : BoundsView) (text : List
 
 -- the line about what was read
 abbrev pub IsJudgedReport : ℕ → Reported → List ℕ → Bool → Type 0
-IsJudgedReport k (reported.Answered question answer) text invalid = IsJudgedAnswer k (question_body question) (answer_view answer) text invalid
-IsJudgedReport k (reported.Coded question answer code) text invalid = IsJudgedCoded k (question_body question) (answer_view answer) (reported_code_view code) text invalid
-IsJudgedReport k (reported.Derived question answer origins) text invalid = IsJudgedDerived k (question_body question) (answer_view answer) (map certificate_view origins.items) text invalid
-IsJudgedReport k (reported.Factored question best) text invalid = IsLineOf k (factor_line_verdict (question_body question) (best_view best)) text invalid
-IsJudgedReport k (reported.Bounded question bounds) text invalid = IsJudgedBounds k (question_body question) (bounds_view bounds) text invalid
+IsJudgedReport k (reported.Answered question answer) text invalid = IsJudgedAnswer k question.body (answer_view answer) text invalid
+IsJudgedReport k (reported.Coded question answer code) text invalid = IsJudgedCoded k question.body (answer_view answer) code text invalid
+IsJudgedReport k (reported.Derived question answer origins) text invalid = IsJudgedDerived k question.body (answer_view answer) (map certificate_view origins.items) text invalid
+IsJudgedReport k (reported.Factored question best) text invalid = IsLineOf k (factor_line_verdict question.body (best_view best)) text invalid
+IsJudgedReport k (reported.Bounded question bounds) text invalid = IsJudgedBounds k question.body (bounds_view bounds) text invalid
 IsJudgedReport k reported.Misfit text invalid = IsLineOf k Skipped text invalid
 
 -- the coordinate of a verdict, where it has one, is below a bound

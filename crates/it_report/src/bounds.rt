@@ -2,8 +2,6 @@
 ghost use Rattle.std.specs.Prelude.{◌≡◌, ◌+◌, IfOk, length, All};
 ghost use Rattle.it_space.specs.Rows.{IsOver};
 ghost use Rattle.it_space.specs.Spaces.{size_of};
-ghost use Rattle.it_question.specs.Limits.{IsQuestion};
-ghost use Rattle.it_question.specs.Questions.{question_body};
 ghost use Rattle.it_certificate.specs.Bounds.{HasBoundsShape, bounds_view};
 ghost use Rattle.it_report.specs.BoundsVerdicts.{HullVerdictIs, parts_verdict};
 ghost use Rattle.it_report.specs.Steps.{IsJudgedBounds, IsVerdictOver};
@@ -43,12 +41,12 @@ fn hull_verdict(
     question: &Question,
     bounds: &ReportedBounds,
 ) -> Result<HullVerdict, AllocError>
-    requires limits { IsQuestion (question_body question.now) }
-    requires fits { HasBoundsShape (question_body question.now) (bounds_view bounds.now) }
-    ensures { IfOk result (HullVerdictIs (question_body question.now) (bounds_view bounds.now)) }
+    requires fits { HasBoundsShape question.now.body (bounds_view bounds.now) }
+    ensures { IfOk result (HullVerdictIs question.now.body (bounds_view bounds.now)) }
 {
-    let space = question.names.space();
-    let gone = gone_rates(&question.verb);
+    question.facts();
+    let space = question.space();
+    let gone = gone_rates(question.verb());
     let kept = kept_coordinates(alloc, space, gone)?;
     let frame = Frame {
         space,
@@ -73,14 +71,13 @@ pub fn bounds_line(
     question: &Question,
     bounds: &ReportedBounds,
 ) -> Result<JudgedLine, AllocError>
-    requires limits { IsQuestion (question_body question.now) }
-    requires fits { HasBoundsShape (question_body question.now) (bounds_view bounds.now) }
-    ensures { IfOk result (λ j. IsJudgedBounds k (question_body question.now) (bounds_view bounds.now) j.text.items j.invalid) }
+    requires fits { HasBoundsShape question.now.body (bounds_view bounds.now) }
+    ensures { IfOk result (λ j. IsJudgedBounds k question.now.body (bounds_view bounds.now) j.text.items j.invalid) }
 {
     let problem = problem_of_lines(alloc, question)?;
     let verdict = parts_verdict(&problem, bounds);
     if !is_valid(&verdict) {
-        return verdict_line(alloc, k, &question.names, &verdict);
+        return verdict_line(alloc, k, question.names(), &verdict);
     }
     let hull = hull_verdict(alloc, question, bounds)?;
     hull_line(alloc, k, &hull)

@@ -33,6 +33,21 @@ pub enum FactorVerdict {
     NotZero { value: i128 },
 }
 
+/// The rows of a relation's sides.
+#[derive(Clone, Copy)]
+pub struct SideRows<'a> {
+    pub left: &'a Row,
+    pub right: &'a Row,
+}
+
+/// A factor as it is reported, with the certificate that it holds.
+#[derive(Clone, Copy)]
+struct CertifiedFactor<'a> {
+    num: &'a i128,
+    den: &'a i128,
+    proof: &'a Certificate,
+}
+
 /// The verdict on whether `row` is 0 at `point`.
 fn zero_verdict(problem: &Problem, row: &Row, point: &Point) -> FactorVerdict
     requires row { IsOver (size_of problem.now.space) row.now }
@@ -72,19 +87,19 @@ fn tight_verdict(problem: &Problem, below: &Row, zero: &Row, point: &Point) -> F
 fn factor_verdict(
     problem: &Problem,
     factor: &Row,
-    turned: &Row,
+    negated: &Row,
     proof: &Certificate,
     point: &Point,
 ) -> FactorVerdict
     requires factor { IsOver (size_of problem.now.space) factor.now }
-    requires turned { IsOver (size_of problem.now.space) turned.now }
+    requires negated { IsOver (size_of problem.now.space) negated.now }
     requires complete { length point.now ≡ size_of problem.now.space }
-    ensures verdict { result ≡ first_wrong (proof_verdict problem.now factor.now (certificate_view proof.now)) (tight_verdict problem.now turned.now factor.now point.now) }
+    ensures verdict { result ≡ first_wrong (proof_verdict problem.now factor.now (certificate_view proof.now)) (tight_verdict problem.now negated.now factor.now point.now) }
     ensures over { IsFactorVerdictOver (size_of problem.now.space + 1) result }
 {
     let verdict = proof_verdict(problem, factor, proof);
     if is_valid(&verdict) {
-        tight_verdict(problem, turned, factor, point)
+        tight_verdict(problem, negated, factor, point)
     } else {
         FactorVerdict::Checked(verdict)
     }
@@ -94,18 +109,18 @@ fn factor_verdict(
 fn both_verdict(
     problem: &Problem,
     factor: &Row,
-    turned: &Row,
+    negated: &Row,
     proof: &Certificate,
     below: &Certificate,
 ) -> FactorVerdict
     requires factor { IsOver (size_of problem.now.space) factor.now }
-    requires turned { IsOver (size_of problem.now.space) turned.now }
-    ensures verdict { result ≡ first_wrong (proof_verdict problem.now factor.now (certificate_view proof.now)) (Checked (proof_verdict problem.now turned.now (certificate_view below.now))) }
+    requires negated { IsOver (size_of problem.now.space) negated.now }
+    ensures verdict { result ≡ first_wrong (proof_verdict problem.now factor.now (certificate_view proof.now)) (Checked (proof_verdict problem.now negated.now (certificate_view below.now))) }
     ensures over { IsFactorVerdictOver (size_of problem.now.space + 1) result }
 {
     let verdict = proof_verdict(problem, factor, proof);
     if is_valid(&verdict) {
-        FactorVerdict::Checked(proof_verdict(problem, turned, below))
+        FactorVerdict::Checked(proof_verdict(problem, negated, below))
     } else {
         FactorVerdict::Checked(verdict)
     }
@@ -115,64 +130,73 @@ fn both_verdict(
 fn least_verdict(
     alloc: Global,
     problem: &Problem,
-    left: &Row,
-    right: &Row,
-    num: &i128,
-    den: &i128,
-    proof: &Certificate,
+    sides: &SideRows<'_>,
+    factor: &CertifiedFactor<'_>,
     point: &Point,
 ) -> Result<FactorVerdict, RowStop>
-    requires sides { AreSideRows problem.now left.now right.now }
+    requires sides { AreSideRows problem.now sides.now.left.now sides.now.right.now }
     requires complete { length point.now ≡ size_of problem.now.space }
-    ensures verdict { Gives result (least_verdict problem.now left.now right.now num.now den.now (certificate_view proof.now) point.now) }
+    ensures verdict { Gives result (least_verdict problem.now sides.now.left.now sides.now.right.now factor.now.num.now factor.now.den.now (certificate_view factor.now.proof.now) point.now) }
     ensures over { IfOk result (IsFactorVerdictOver (size_of problem.now.space + 1)) }
 {
-    if *den < 1 {
-        return Ok(FactorVerdict::BelowOne { den: *den });
+    if *factor.den < 1 {
+        return Ok(FactorVerdict::BelowOne { den: *factor.den });
     }
-    let factor = side_row(alloc, problem.space(), left, right, num, den)?;
-    let turned = side_row(alloc, problem.space(), left, right, &-1, &0)?;
-    Ok(factor_verdict(problem, &factor, &turned, proof, point))
+    let space = problem.space();
+    let row = side_row(
+        alloc,
+        space,
+        sides.left,
+        sides.right,
+        factor.num,
+        factor.den,
+    )?;
+    let negated = side_row(alloc, space, sides.left, sides.right, &-1, &0)?;
+    Ok(factor_verdict(problem, &row, &negated, factor.proof, point))
 }
 
 /// The verdict on a point that shows that no factor holds.
 fn never_verdict(
     alloc: Global,
     problem: &Problem,
-    left: &Row,
-    right: &Row,
+    sides: &SideRows<'_>,
     point: &Point,
 ) -> Result<FactorVerdict, RowStop>
-    requires sides { AreSideRows problem.now left.now right.now }
+    requires sides { AreSideRows problem.now sides.now.left.now sides.now.right.now }
     requires complete { length point.now ≡ size_of problem.now.space }
-    ensures verdict { Gives result (never_verdict problem.now left.now right.now point.now) }
+    ensures verdict { Gives result (never_verdict problem.now sides.now.left.now sides.now.right.now point.now) }
     ensures over { IfOk result (IsFactorVerdictOver (size_of problem.now.space + 1)) }
 {
-    let turned = side_row(alloc, problem.space(), left, right, &0, &1)?;
-    Ok(tight_verdict(problem, &turned, left, point))
+    let negated = side_row(alloc, problem.space(), sides.left, sides.right, &0, &1)?;
+    Ok(tight_verdict(problem, &negated, sides.left, point))
 }
 
-/// The verdict on a factor where there is no least one.
+/// The verdict on a factor where there is no least one, and on the certificate `below` that the left side is at most 0.
 fn unbounded_verdict(
     alloc: Global,
     problem: &Problem,
-    left: &Row,
-    right: &Row,
-    num: &i128,
-    den: &i128,
-    proof: &Certificate,
+    sides: &SideRows<'_>,
+    factor: &CertifiedFactor<'_>,
     below: &Certificate,
 ) -> Result<FactorVerdict, RowStop>
-    requires { AreSideRows problem.now left.now right.now }
-    ensures verdict { Gives result (unbounded_verdict problem.now left.now right.now num.now den.now (certificate_view proof.now) (certificate_view below.now)) }
+    requires { AreSideRows problem.now sides.now.left.now sides.now.right.now }
+    ensures verdict { Gives result (unbounded_verdict problem.now sides.now.left.now sides.now.right.now factor.now.num.now factor.now.den.now (certificate_view factor.now.proof.now) (certificate_view below.now)) }
     ensures over { IfOk result (IsFactorVerdictOver (size_of problem.now.space + 1)) }
 {
-    if *den < 1 {
-        return Ok(FactorVerdict::BelowOne { den: *den });
+    if *factor.den < 1 {
+        return Ok(FactorVerdict::BelowOne { den: *factor.den });
     }
-    let factor = side_row(alloc, problem.space(), left, right, num, den)?;
-    let turned = side_row(alloc, problem.space(), left, right, &-1, &0)?;
-    Ok(both_verdict(problem, &factor, &turned, proof, below))
+    let space = problem.space();
+    let row = side_row(
+        alloc,
+        space,
+        sides.left,
+        sides.right,
+        factor.num,
+        factor.den,
+    )?;
+    let negated = side_row(alloc, space, sides.left, sides.right, &-1, &0)?;
+    Ok(both_verdict(problem, &row, &negated, factor.proof, below))
 }
 
 /// The verdict `given`; where a row wasn't formed, `Width` with the coordinate of its wide number.
@@ -189,19 +213,18 @@ fn verdict_or_wide(given: Result<FactorVerdict, RowStop>) -> Result<FactorVerdic
     }
 }
 
-/// The verdict on what is found of the factors between two rows; None where nothing is claimed. `Width` comes with the
+/// The verdict on what is found of the factors between the rows of both sides; None where nothing is claimed. `Width` comes with the
 /// coordinate at which a row isn't formed within the limit, else with the place that the checker gives, or with the one after
 /// that of a point's target.
 pub fn best_verdict(
     alloc: Global,
     problem: &Problem,
-    left: &Row,
-    right: &Row,
+    sides: &SideRows<'_>,
     best: &Best,
 ) -> Result<Option<FactorVerdict>, AllocError>
-    requires sides { AreSideRows problem.now left.now right.now }
+    requires sides { AreSideRows problem.now sides.now.left.now sides.now.right.now }
     requires complete { IsComplete (size_of problem.now.space) (best_view best.now) }
-    ensures verdict { IfOk result (λ v. v ≡ best_verdict problem.now left.now right.now (best_view best.now)) }
+    ensures verdict { IfOk result (λ v. v ≡ best_verdict problem.now sides.now.left.now sides.now.right.now (best_view best.now)) }
     ensures over { IfOk result (λ o. (v : FactorVerdict) → o ≡ Some v → IsFactorVerdictOver (size_of problem.now.space + 1) v) }
 {
     let given = match best {
@@ -210,14 +233,26 @@ pub fn best_verdict(
             den,
             proof,
             point,
-        } => least_verdict(alloc, problem, left, right, num, den, proof, point),
-        Best::Never(point) => never_verdict(alloc, problem, left, right, point),
+        } => least_verdict(
+            alloc,
+            problem,
+            sides,
+            &CertifiedFactor { num, den, proof },
+            point,
+        ),
+        Best::Never(point) => never_verdict(alloc, problem, sides, point),
         Best::Unbounded {
             num,
             den,
             proof,
             below,
-        } => unbounded_verdict(alloc, problem, left, right, num, den, proof, below),
+        } => unbounded_verdict(
+            alloc,
+            problem,
+            sides,
+            &CertifiedFactor { num, den, proof },
+            below,
+        ),
         Best::Undecided(_) => return Ok(None),
     };
     let verdict = verdict_or_wide(given)?;

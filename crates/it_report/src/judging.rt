@@ -1,22 +1,21 @@
 //! The verdict on a line of a report.
-ghost use Rattle.std.specs.Prelude.{◌≡◌, map, IfOk};
+ghost use Rattle.std.specs.Prelude.{◌≡◌, true, map, IfOk, Ok, Err};
 ghost use Rattle.it_space.specs.Answers.{answer_view, certificate_view};
 ghost use Rattle.it_space.specs.Answers.AnswerView.{Yes, No, Region, Contained};
 ghost use Rattle.it_syntax.specs.Meaning.{relation_view};
-ghost use Rattle.it_question.specs.Limits.{IsQuestion};
-ghost use Rattle.it_question.specs.Questions.{Prove, question_body};
+ghost use Rattle.it_question.specs.Questions.{Prove};
 ghost use Rattle.it_certificate.specs.AnswerShapes.{HasQuestionShape};
 ghost use Rattle.it_ratio.specs.BestViews.{best_view};
 ghost use Rattle.it_certificate.specs.FactorShapes.{HasFactorShape};
-ghost use Rattle.it_certificate.specs.CodeReading.{HasCodedShape, IsNo, reported_code_view};
+ghost use Rattle.it_certificate.specs.CodeReading.{HasCodedShape, IsNo};
 ghost use Rattle.it_certificate.specs.OriginReading.{HasDerivedShape, IsRegion, rows_of};
-ghost use Rattle.it_report.specs.Judging.{IsJudgedLine, factor_line_verdict, values_of};
+ghost use Rattle.it_report.specs.Judging.{IsJudgedLine, IsJudgedWhereRead, factor_line_verdict, values_of};
 ghost use Rattle.it_report.specs.LineVerdicts.{IsLineOf};
 ghost use Rattle.it_certificate.specs.Reports.{KeepsLimits};
 ghost use Rattle.it_report.specs.Steps.{IsAboutRelation, IsFaultLine, IsJudgedAnswer, IsJudgedCoded, IsJudgedDerived, IsJudgedReport};
 
 use crate::bounds::bounds_line;
-use crate::factors::best_verdict;
+use crate::factors::{SideRows, best_verdict};
 use crate::lines::{
     JudgedLine, factor_line, not_json_line, other_line, shape_line, skipped_line, verdict_line,
 };
@@ -48,9 +47,29 @@ pub fn judge(alloc: Global, k: usize, line: &[u8]) -> Result<JudgedLine, AllocEr
     ensures { IfOk result (λ j. IsJudgedLine k line.now j.text.items j.invalid) }
 {
     match answer_from_json(alloc, line) {
-        Ok(reported) => report_line(alloc, k, &reported),
-        Err(fault) => fault_line(alloc, k, fault),
+        Ok(reported) => judge_reported(alloc, k, &reported),
+        Err(fault) => judge_fault(alloc, k, fault),
     }
+}
+
+/// The line about line `k` of a report, where `answer_from_json` read this of it; what `judge` says of it.
+pub fn judge_reported(
+    alloc: Global,
+    k: usize,
+    reported: &Reported,
+) -> Result<JudgedLine, AllocError>
+    requires { KeepsLimits reported.now }
+    ensures { IfOk result (λ j. IsJudgedWhereRead k (Ok reported.now) j.text.items j.invalid) }
+{
+    report_line(alloc, k, reported)
+}
+
+/// The line about line `k` of a report, where `answer_from_json` refused it with this fault; what `judge` says of it.
+pub fn judge_fault(alloc: Global, k: usize, fault: ReportFault) -> Result<JudgedLine, AllocError>
+    ensures line { IfOk result (λ j. IsJudgedWhereRead k (Err fault) j.text.items j.invalid) }
+    ensures invalid { IfOk result (λ j. j.invalid ≡ true) }
+{
+    fault_line(alloc, k, fault)
 }
 
 /// The line about a line that has no reading.
@@ -94,9 +113,8 @@ fn answer_line(
     question: &Question,
     answer: &Answer,
 ) -> Result<JudgedLine, AllocError>
-    requires limits { IsQuestion (question_body question.now) }
-    requires fits { HasQuestionShape (question_body question.now) (answer_view answer.now) }
-    ensures { IfOk result (λ j. IsJudgedAnswer k (question_body question.now) (answer_view answer.now) j.text.items j.invalid) }
+    requires fits { HasQuestionShape question.now.body (answer_view answer.now) }
+    ensures { IfOk result (λ j. IsJudgedAnswer k question.now.body (answer_view answer.now) j.text.items j.invalid) }
 {
     match answer {
         Answer::Yes(proofs) => yes_line(alloc, k, question, proofs.as_slice()),
@@ -112,10 +130,10 @@ fn answer_line(
 
 /// The relation of a question that is about one.
 fn relation_of(question: &Question) -> &Relation
-    requires { IsAboutRelation (question_body question.now).verb }
-    ensures { (question_body question.now).verb ≡ Prove (relation_view result.now) }
+    requires { IsAboutRelation question.now.body.verb }
+    ensures { question.now.body.verb ≡ Prove (relation_view result.now) }
 {
-    let Verb::Prove(relation) = &question.verb else {
+    let Verb::Prove(relation) = question.verb() else {
         unreachable!()
     };
     relation
@@ -128,10 +146,10 @@ fn yes_line(
     question: &Question,
     proofs: &[Certificate],
 ) -> Result<JudgedLine, AllocError>
-    requires limits { IsQuestion (question_body question.now) }
-    requires fits { HasQuestionShape (question_body question.now) (Yes (map certificate_view proofs.now)) }
-    ensures { IfOk result (λ j. IsJudgedAnswer k (question_body question.now) (Yes (map certificate_view proofs.now)) j.text.items j.invalid) }
+    requires fits { HasQuestionShape question.now.body (Yes (map certificate_view proofs.now)) }
+    ensures { IfOk result (λ j. IsJudgedAnswer k question.now.body (Yes (map certificate_view proofs.now)) j.text.items j.invalid) }
 {
+    question.facts();
     let problem = problem(alloc, question)?;
     let rows = target_rows(alloc, relation_of(question), problem.space())?;
     let verdict = proofs_verdict(&problem, rows.as_slice(), proofs);
@@ -146,10 +164,10 @@ fn no_line(
     back: bool,
     point: &Point,
 ) -> Result<JudgedLine, AllocError>
-    requires limits { IsQuestion (question_body question.now) }
-    requires fits { HasQuestionShape (question_body question.now) (No back point.now) }
-    ensures { IfOk result (λ j. IsJudgedAnswer k (question_body question.now) (No back point.now) j.text.items j.invalid) }
+    requires fits { HasQuestionShape question.now.body (No back point.now) }
+    ensures { IfOk result (λ j. IsJudgedAnswer k question.now.body (No back point.now) j.text.items j.invalid) }
 {
+    question.facts();
     let problem = problem(alloc, question)?;
     let rows = target_rows(alloc, relation_of(question), problem.space())?;
     let verdict = point_verdict(&problem, rows.as_slice(), back, point);
@@ -175,16 +193,15 @@ fn coded_line(
     answer: &Answer,
     code: &ReportedCode,
 ) -> Result<JudgedLine, AllocError>
-    requires limits { IsQuestion (question_body question.now) }
-    requires fits { HasCodedShape (question_body question.now) (answer_view answer.now) (reported_code_view code.now) }
-    ensures { IfOk result (λ j. IsJudgedCoded k (question_body question.now) (answer_view answer.now) (reported_code_view code.now) j.text.items j.invalid) }
+    requires fits { HasCodedShape question.now.body (answer_view answer.now) code.now }
+    ensures { IfOk result (λ j. IsJudgedCoded k question.now.body (answer_view answer.now) code.now j.text.items j.invalid) }
 {
     let judged = answer_line(alloc, k, question, answer)?;
     if judged.invalid {
         return Ok(judged);
     }
     let point = point_of(answer);
-    let other = first_other(alloc, &code.code, code.times as u64, point)?;
+    let other = first_other(alloc, code.code(), code.times() as u64, point)?;
     match other {
         Some(set) => other_line(alloc, k, problem_names(question), set),
         None => Ok(judged),
@@ -211,14 +228,13 @@ fn derived_line(
     answer: &Answer,
     origins: &[Certificate],
 ) -> Result<JudgedLine, AllocError>
-    requires limits { IsQuestion (question_body question.now) }
-    requires fits { HasDerivedShape (question_body question.now) (answer_view answer.now) (map certificate_view origins.now) }
-    ensures { IfOk result (λ j. IsJudgedDerived k (question_body question.now) (answer_view answer.now) (map certificate_view origins.now) j.text.items j.invalid) }
+    requires fits { HasDerivedShape question.now.body (answer_view answer.now) (map certificate_view origins.now) }
+    ensures { IfOk result (λ j. IsJudgedDerived k question.now.body (answer_view answer.now) (map certificate_view origins.now) j.text.items j.invalid) }
 {
     let problem = problem_of_lines(alloc, question)?;
     let rows = unmarked(alloc, rows_of(answer))?;
     let verdict = proofs_verdict(&problem, rows.as_slice(), origins);
-    verdict_line(alloc, k, &question.names, &verdict)
+    verdict_line(alloc, k, question.names(), &verdict)
 }
 
 /// The line about a containment: its certificates against the obligations of its parts, under the first region's problem.
@@ -229,9 +245,8 @@ fn contained_line(
     parts: &[VarSet],
     proofs: &[Certificate],
 ) -> Result<JudgedLine, AllocError>
-    requires limits { IsQuestion (question_body question.now) }
-    requires fits { HasQuestionShape (question_body question.now) (Contained parts.now (map certificate_view proofs.now)) }
-    ensures { IfOk result (λ j. IsJudgedAnswer k (question_body question.now) (Contained parts.now (map certificate_view proofs.now)) j.text.items j.invalid) }
+    requires fits { HasQuestionShape question.now.body (Contained parts.now (map certificate_view proofs.now)) }
+    ensures { IfOk result (λ j. IsJudgedAnswer k question.now.body (Contained parts.now (map certificate_view proofs.now)) j.text.items j.invalid) }
 {
     let pair = pair(alloc, question)?;
     let rows = obligations(alloc, &pair, &candidate(parts))?;
@@ -246,13 +261,17 @@ fn best_line(
     question: &Question,
     best: &Best,
 ) -> Result<JudgedLine, AllocError>
-    requires limits { IsQuestion (question_body question.now) }
-    requires fits { HasFactorShape (question_body question.now) (best_view best.now) }
-    ensures { IfOk result (λ j. IsLineOf k (factor_line_verdict (question_body question.now) (best_view best.now)) j.text.items j.invalid) }
+    requires fits { HasFactorShape question.now.body (best_view best.now) }
+    ensures { IfOk result (λ j. IsLineOf k (factor_line_verdict question.now.body (best_view best.now)) j.text.items j.invalid) }
 {
+    question.facts();
     let problem = problem(alloc, question)?;
     let (left, right) = sides(alloc, relation_of(question), problem.space())?;
-    match best_verdict(alloc, &problem, &left, &right, best)? {
+    let rows = SideRows {
+        left: &left,
+        right: &right,
+    };
+    match best_verdict(alloc, &problem, &rows, best)? {
         Some(verdict) => factor_line(alloc, k, problem_names(question), &verdict),
         None => skipped_line(alloc, k),
     }

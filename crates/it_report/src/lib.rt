@@ -9,7 +9,7 @@ mod lines;
 mod rows;
 mod words;
 
-pub use judging::judge;
+pub use judging::{judge, judge_fault, judge_reported};
 pub use laws::{
     each_line_is_judged, valid_code_is_true, valid_factor_is_true, valid_is_true,
     valid_origins_are_true, verdict_is_one,

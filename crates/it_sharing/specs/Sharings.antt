@@ -4,10 +4,9 @@ use Rattle.it_syntax.specs.declared.types.Atom.{Atom}
 use Rattle.it_syntax.specs.declared.types.Atom.TheVariants.{Nothing, Entropy, Mutual}
 use Rattle.it_syntax.specs.declared.types.Sign.TheVariants.{AtLeast, Equal}
 use Rattle.it_syntax.specs.NamesViews.{NamesView}
-use Rattle.it_syntax.specs.Meaning.{RelationView, relation_view}
+use Rattle.it_syntax.specs.Meaning.{RelationView}
 use Rattle.it_syntax.specs.Givens.{GivenView, Relation, IsRelationOf}
 use Rattle.it_question.specs.Questions.{Prove, QuestionView}
-use Rattle.it_sharing.specs.declared.types.Sharing.{Sharing}
 use Rattle.it_sharing.specs.Parties.{most_parties, most_qualified}
 use Rattle.it_sharing.specs.AccessStructures.{secret, IsPartySet, minimal_sets, maximal_sets}
 
@@ -17,10 +16,6 @@ pub record SharingView : Type 0 where
   pub qualified : List ℕ
   pub best : Bool
   pub relation : RelationView
-
--- what contracts see of what a sharing file says
-abbrev pub sharing_view : Sharing → SharingView
-sharing_view x = record { names = x.names; qualified = x.qualified.items; best = x.best; relation = relation_view x.relation }
 
 -- within the limits: 1 to 8 parties beside the secret, no rates, 1 to 64 listed sets, each a nonempty one of parties, and a relation of
 -- the variables

@@ -1,15 +1,14 @@
 //! The question that is made of a sharing file.
 ghost use Rattle.std.specs.Prelude.{◌≡◌, ◌≤◌, ◌<◌, ◌+◌, ◌++◌, [], ◌∷◌, false, map, IfOk, OnOk, IfErr};
 ghost use Rattle.it_syntax.specs.Givens.{given_view};
-ghost use Rattle.it_question.specs.Questions.{question_view, question_body};
 ghost use Rattle.it_question.specs.Limits.{IsQuestion};
 ghost use Rattle.it_question.specs.QuestionLimits.{most_lines};
 ghost use Rattle.it_sharing.specs.declared.types.MadeFault.TheVariants.{Many};
-ghost use Rattle.it_sharing.specs.Sharings.{sharing_view, IsSharing, vanishing, knows, knows_nothing, made_question, question_under, maximal_count, minimal_count};
+ghost use Rattle.it_sharing.specs.Sharings.{vanishing, knows, knows_nothing, made_question, question_under, maximal_count, minimal_count};
 
 use crate::sets::{maximal_sets, minimal_sets};
 use crate::types::{Made, MadeFault, Sharing};
-use it_question::readers::MOST_LINES;
+use it_question::readers::{Body, MOST_LINES};
 use it_question::types::{OwnLines, Question, Verb};
 use it_space::VarSet;
 use it_syntax::types::{Atom, Expr, Given, Relation, Sign, Term};
@@ -121,19 +120,18 @@ fn made_givens(
 
 /// The question whether the relation of `from` holds under `givens`.
 fn question(alloc: Global, from: &Sharing, givens: Vec<Given>) -> Result<Question, AllocError>
-    ensures { IfOk result (λ q. question_view q ≡ question_under (sharing_view from.now) (map given_view givens.items)) }
+    requires { IsQuestion (question_under from.now (map given_view givens.items)).body }
+    ensures { IfOk result (λ q. q ≡ question_under from.now (map given_view givens.items)) }
 {
-    let names = from.names.copy()?;
-    let relation = from.relation.copy()?;
-    Ok(Question {
-        names,
-        source: Vec::new(alloc),
+    let body = Body {
+        names: from.names().copy()?,
         lines: OwnLines {
             givens,
             rows: Vec::new(alloc),
         },
-        verb: Verb::Prove(relation),
-    })
+        verb: Verb::Prove(from.relation().copy()?),
+    };
+    Ok(body.with_source(Vec::new(alloc)))
 }
 
 /// The question whether the relation of a sharing file holds wherever the secret is shared perfectly: under `H(s|A) = 0`
@@ -141,17 +139,16 @@ fn question(alloc: Global, from: &Sharing, givens: Vec<Given>) -> Result<Questio
 /// verb is `prove`, also where the least factor is asked for; it has no rows and no text. `Many` comes exactly where the sets are
 /// more than 64 together.
 pub fn made(alloc: Global, from: &Sharing) -> Result<Made, MadeFault>
-    requires { IsSharing (sharing_view from.now) }
-    ensures question { IfOk result (λ m. question_view m.question ≡ made_question (sharing_view from.now)) }
-    ensures minimal { IfOk result (λ m. m.minimal ≡ minimal_count (sharing_view from.now)) }
-    ensures maximal { IfOk result (λ m. m.maximal ≡ maximal_count (sharing_view from.now)) }
+    ensures question { IfOk result (λ m. m.question ≡ made_question from.now) }
+    ensures minimal { IfOk result (λ m. m.minimal ≡ minimal_count from.now) }
+    ensures maximal { IfOk result (λ m. m.maximal ≡ maximal_count from.now) }
     ensures few { IfOk result (λ m. m.minimal + m.maximal ≤ most_lines) }
-    ensures limits { IfOk result (λ m. IsQuestion (question_body m.question)) }
-    ensures many { IfErr result (λ e. e ≡ Many → most_lines < minimal_count (sharing_view from.now) + maximal_count (sharing_view from.now)) }
+    ensures limits { IfOk result (λ m. IsQuestion m.question.body) }
+    ensures many { IfErr result (λ e. e ≡ Many → most_lines < minimal_count from.now + maximal_count from.now) }
 {
-    let listed = from.qualified.as_slice();
+    let listed = from.qualified();
     let minimal = minimal_sets(alloc, listed)?;
-    let maximal = maximal_sets(alloc, from.names.space().variables, listed)?;
+    let maximal = maximal_sets(alloc, from.variable_count(), listed)?;
     if minimal.len() + maximal.len() > MOST_LINES {
         return Err(MadeFault::Many);
     }

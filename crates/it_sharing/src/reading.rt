@@ -1,9 +1,9 @@
 //! The reader of sharing files.
 ghost use Rattle.std.specs.Prelude.{◌≡◌, ◌≤◌, length, OnOk, IfOk, IfErr};
-ghost use Rattle.it_question.specs.Cursors.{ParsesBy};
+ghost use Rattle.it_question.specs.Cursors.{Parses, ParsesBy};
 ghost use Rattle.it_question.specs.NewNames.{no_names};
 ghost use Rattle.it_forms.specs.FormReading.{read};
-ghost use Rattle.it_sharing.specs.Sharings.{sharing_view, IsSharing, IsBoundWhereBest};
+ghost use Rattle.it_sharing.specs.Sharings.{IsBoundWhereBest};
 ghost use Rattle.it_sharing.specs.SharingFiles.{IsSharingFile, IsFirstSharingFault};
 ghost use Rattle.it_sharing.specs.SharingForms as forms;
 ghost use Rattle.it_question.specs.QuestionLimits.{most_file_bytes};
@@ -50,7 +50,7 @@ fn parties(cursor: &mut Cursor<'_>, names: &mut Names) -> Result<(), Stop>
 /// What a file says, up to its end.
 #[tactic(auto, unfolding(crate::specs::SharingForms::sharing, it_forms::specs::FormReading::read))]
 fn whole(alloc: Global, cursor: &mut Cursor<'_>) -> Result<Sharing, Stop>
-    ensures { ParsesBy sharing_view result forms.sharing cursor.old cursor.new }
+    ensures { Parses result forms.sharing cursor.old cursor.new }
 {
     let mut names = Names::new(alloc);
     word(cursor, SECRET)?;
@@ -78,9 +78,8 @@ fn whole(alloc: Global, cursor: &mut Cursor<'_>) -> Result<Sharing, Stop>
 /// sign after `best` and at what stands after the last line, `Unfinished` at the file's end before it.
 pub fn sharing(alloc: Global, bytes: &[u8]) -> Result<Sharing, FileFault>
     requires { length bytes.now ≤ most_file_bytes }
-    ensures read { IfOk result (λ s. IsSharingFile bytes.now (sharing_view s)) }
-    ensures limits { IfOk result (λ s. IsSharing (sharing_view s)) }
-    ensures bound { IfOk result (λ s. IsBoundWhereBest (sharing_view s)) }
+    ensures read { IfOk result (IsSharingFile bytes.now) }
+    ensures bound { IfOk result IsBoundWhereBest }
     ensures fault { IfErr result (IsFirstSharingFault bytes.now) }
 {
     let lines = file_lines(alloc, bytes)?;

@@ -66,7 +66,15 @@ fn mix(
     let mut left = up;
     let mut right = down;
     while let Some(coordinate) = first_coordinate(left, right) {
-        put_term(&mut terms, coordinate, left, a, right, b, at)?;
+        let up_rest = Multiple {
+            times: a,
+            terms: left,
+        };
+        let down_rest = Multiple {
+            times: b,
+            terms: right,
+        };
+        put_term(&mut terms, coordinate, &up_rest, &down_rest, at)?;
         left = rest_after(left, coordinate);
         right = rest_after(right, coordinate);
     }
@@ -110,27 +118,32 @@ fn rest_after(terms: &[(u32, i128)], coordinate: u32) -> &[(u32, i128)]
     }
 }
 
-/// Appends the term at `coordinate` of `a` times `left` plus `b` times `right`, unless `coordinate` is `at`.
+/// A factor, and the terms of the row that it multiplies.
+#[derive(Drop)]
+struct Multiple<'a> {
+    times: u128,
+    terms: &'a [(u32, i128)],
+}
+
+/// Appends the term at `coordinate` of the sum of `left` and `right`, unless `coordinate` is `at`.
 fn put_term(
     terms: &mut Vec<(u32, i128)>,
     coordinate: u32,
-    left: &[(u32, i128)],
-    a: u128,
-    right: &[(u32, i128)],
-    b: u128,
+    left: &Multiple<'_>,
+    right: &Multiple<'_>,
     at: u32,
 ) -> Result<(), RowFault>
-    requires left { Ascends coordinate left.now }
-    requires right { Ascends coordinate right.now }
-    requires a { a < 2 ^ 127 }
-    requires b { b < 2 ^ 127 }
-    ensures is { OnOk result (IsTermPut at coordinate a left.now b right.now terms.old.items terms.new.items) }
-    ensures wide { IfErr result (λ fault. fault ≡ IsTooWide → (coordinate ≢ at) × ¬ (MixFitsAt a left.now b right.now coordinate)) }
+    requires left { Ascends coordinate left.now.terms.now }
+    requires right { Ascends coordinate right.now.terms.now }
+    requires left_times { left.now.times < 2 ^ 127 }
+    requires right_times { right.now.times < 2 ^ 127 }
+    ensures is { OnOk result (IsTermPut at coordinate left.now.times left.now.terms.now right.now.times right.now.terms.now terms.old.items terms.new.items) }
+    ensures wide { IfErr result (λ fault. fault ≡ IsTooWide → (coordinate ≢ at) × ¬ (MixFitsAt left.now.times left.now.terms.now right.now.times right.now.terms.now coordinate)) }
 {
     if coordinate == at {
         return Ok(());
     }
-    let total = mixed_coefficient(left, a, right, b, coordinate)?;
+    let total = mixed_coefficient(left.terms, left.times, right.terms, right.times, coordinate)?;
     put_nonzero(terms, coordinate, total)
 }
 

@@ -13,6 +13,10 @@ use Rattle.it_syntax.specs.Spans.{letters_until, last_letter}
 use Rattle.it_forms.specs.Forms.{Form}
 use Rattle.it_forms.specs.FormTexts.{spelling}
 
+-- the most bytes of a text of lines: those of a file, and an end for a last line that has none
+abbrev pub most_text_bytes : ℕ
+most_text_bytes = 1048577
+
 -- the letters of a line from its token number `from` on
 abbrev pub letters_from : List ℕ → LineTokens → ℕ → List Letter
 letters_from line ts from = letters_until line (drop from ts.tokens.items) (last_letter ts.misspelling)

@@ -9,6 +9,7 @@ use Rattle.it_forms.specs.declared.types.Symbol.TheVariants.{Minus}
 use Rattle.it_forms.specs.Forms.{Punctuation, is_of, Terminal, Form, Take, Then}
 use Rattle.it_forms.specs.FormReading.{read, after}
 use Rattle.it_syntax.specs.Gives.{letters_left, StopsAs}
+use Rattle.it_syntax.specs.declared.atoms.TermNames.{TermNames}
 use Rattle.it_syntax.specs.declared.rest.Rest.{Rest}
 use Rattle.it_syntax.specs.declared.rest.Stop.{Stop}
 use Rattle.it_syntax.specs.declared.rest.Piece.{Piece}
@@ -20,7 +21,7 @@ use Rattle.it_syntax.specs.declared.types.TokenKind.{TokenKind}
 use Rattle.it_syntax.specs.declared.types.TokenKind.TheVariants as kinds
 use Rattle.it_syntax.specs.Prefixes.{IsLongestRun, symbol_of}
 use Rattle.it_syntax.specs.LineForms.{signs, denominator, counted, atom, atom_or_nothing, over_or, more_terms}
-use Rattle.it_syntax.specs.Scopes.{Scope}
+use Rattle.it_syntax.specs.Scopes.{Scope, scope_of}
 use Rattle.it_syntax.specs.Spelling.{is_word_byte, StartsWith}
 
 -- a piece and the letters after it; after the line's end and after a misspelling there are none
@@ -63,6 +64,10 @@ StopsAtOnce stop f rest = StopsAs stop (letters_left rest) (read f (letters_left
 abbrev pub counted_by : ℕ → Scope → Form Atom
 counted_by zero s = atom_or_nothing s
 counted_by (suc n) s = atom s
+
+-- the names that a term may have, as the grammar takes them
+abbrev pub known_scope : TermNames → Scope
+known_scope known = scope_of known.names.now known.rates
 
 -- a denominator d and an atom: n / d times the atom, negative if `minus`
 abbrev pub over : ℕ → Scope → Bool → ℕ → Form Term

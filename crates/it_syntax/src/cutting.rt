@@ -7,6 +7,7 @@ ghost use Rattle.it_syntax.specs.Spans.{InLine};
 ghost use Rattle.std.specs.Char.{is_ascii_alphabetic, is_ascii_digit};
 ghost use Rattle.it_syntax.specs.Spelling.{is_space, AreAll, StartsWith, Stops};
 ghost use Rattle.it_forms.specs.SymbolTexts.{symbol_text};
+ghost use Rattle.it_syntax.specs.Lines.{most_text_bytes};
 
 use crate::runs::{digits, spaces, symbol, word_bytes};
 use crate::types::{Code, LineTokens, Misspelling, Symbol, SyntaxFault, Token, TokenKind};
@@ -97,7 +98,7 @@ const FIRST_TOKENS: usize = 32;
 /// The tokens of a line that has neither a comment nor tabs, up to its first misspelling: a byte that begins no token, a
 /// word of more than 16 bytes, or a number of more than 2^64 - 1. Spaces stand between tokens.
 pub fn line_tokens(alloc: Global, line: &[u8]) -> Result<LineTokens, AllocError>
-    requires { length line.now ≤ 1048577 }
+    requires { length line.now ≤ most_text_bytes }
     ensures read { IfOk result (λ ts. SpellsUntil 0 line.now ts.tokens.items ts.misspelling) }
     ensures inside { IfOk result (λ ts. InLine line.now ts.tokens.items) }
 {
@@ -140,7 +141,7 @@ pub fn line_tokens(alloc: Global, line: &[u8]) -> Result<LineTokens, AllocError>
 /// The tokens of a line that has neither a comment nor tabs. The fault is the line's first misspelling, with its column: `Byte`
 /// at a byte that begins no token, `Many` at a word of more than 16 bytes, `Number` at a number of more than 2^64 - 1.
 pub fn tokens(alloc: Global, line: &[u8]) -> Result<Vec<Token>, SyntaxFault>
-    requires { length line.now ≤ 1048577 }
+    requires { length line.now ≤ most_text_bytes }
     ensures read { IfOk result (λ ts. SpellsUntil 0 line.now ts.items None) }
     ensures inside { IfOk result (λ ts. InLine line.now ts.items) }
     ensures fault { IfErr result (IsMisspelled line.now) }

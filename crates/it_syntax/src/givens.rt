@@ -5,7 +5,7 @@ ghost use Rattle.it_syntax.specs.GivenLines.{IsGiven, given_line};
 ghost use Rattle.it_syntax.specs.Givens.{given_view, IsGivenOf};
 ghost use Rattle.it_syntax.specs.Gives.{Parses, ParsesBy, GivesAll, letters_left};
 ghost use Rattle.it_syntax.specs.LineForms as forms;
-ghost use Rattle.it_syntax.specs.Lines.{IsFirstFault};
+ghost use Rattle.it_syntax.specs.Lines.{IsFirstFault, most_text_bytes};
 ghost use Rattle.it_syntax.specs.Scopes.{env_of, scope_of};
 ghost use Rattle.it_syntax.specs.Spans.{InLine};
 
@@ -124,7 +124,7 @@ pub fn given(
     from: usize,
     names: &Names,
 ) -> Result<Given, SyntaxFault>
-    requires short { length line.now ≤ 1048577 }
+    requires short { length line.now ≤ most_text_bytes }
     requires inside { InLine line.now tokens.now.tokens.items }
     requires within { from ≤ length tokens.now.tokens.items }
     ensures read { IfOk result (λ g. IsGiven names.now line.now tokens.now from (given_view g)) }

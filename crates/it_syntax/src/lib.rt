@@ -27,5 +27,6 @@ pub use denominators::common_denominator;
 pub use givens::given;
 pub use laws::{given_is_one, line_tokens_are_one, relation_is_one};
 pub use lists::is_measure;
+pub use measures::{entropy, mutual_information};
 pub use names::Names;
 pub use relations::relation;

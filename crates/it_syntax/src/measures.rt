@@ -26,7 +26,7 @@ fn given_set(rest: &mut Rest<'_>, names: &Names) -> Result<VarSet, Stop>
     }
 }
 
-/// An entropy, after its `H`.
+/// An entropy, after its `H`. At a fault `rest` begins with the piece that the fault is at.
 #[tactic(auto, unfolding(crate::specs::LineForms::entropy, it_forms::specs::FormReading::read))]
 pub fn entropy(rest: &mut Rest<'_>, names: &Names) -> Result<Atom, Stop>
     ensures { Parses result (forms.entropy (env_of names.now)) rest.old rest.new }
@@ -37,7 +37,7 @@ pub fn entropy(rest: &mut Rest<'_>, names: &Names) -> Result<Atom, Stop>
     Ok(Atom::Entropy { of, given })
 }
 
-/// A mutual information, after its `I`.
+/// A mutual information, after its `I`. At a fault `rest` begins with the piece that the fault is at.
 #[tactic(auto, unfolding(crate::specs::LineForms::mutual_information, it_forms::specs::FormReading::read))]
 pub fn mutual_information(rest: &mut Rest<'_>, names: &Names) -> Result<Atom, Stop>
     ensures { Parses result (forms.mutual_information (env_of names.now)) rest.old rest.new }

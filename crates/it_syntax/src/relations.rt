@@ -4,7 +4,7 @@ ghost use Rattle.it_forms.specs.FormReading.{read};
 ghost use Rattle.it_syntax.specs.Givens.{IsRelationOf};
 ghost use Rattle.it_syntax.specs.Gives.{ParsesBy, GivesAll, letters_left};
 ghost use Rattle.it_syntax.specs.LineForms as forms;
-ghost use Rattle.it_syntax.specs.Lines.{IsFirstFault};
+ghost use Rattle.it_syntax.specs.Lines.{IsFirstFault, most_text_bytes};
 ghost use Rattle.it_syntax.specs.Meaning.{relation_view};
 ghost use Rattle.it_syntax.specs.RelationLines.{IsRelation, relation_line};
 ghost use Rattle.it_syntax.specs.Scopes.{scope_of};
@@ -75,7 +75,7 @@ pub fn relation(
     names: &Names,
     rates: bool,
 ) -> Result<Relation, SyntaxFault>
-    requires short { length line.now ≤ 1048577 }
+    requires short { length line.now ≤ most_text_bytes }
     requires inside { InLine line.now tokens.now.tokens.items }
     requires within { from ≤ length tokens.now.tokens.items }
     ensures read { IfOk result (λ r. IsRelation names.now rates line.now tokens.now from (relation_view r)) }

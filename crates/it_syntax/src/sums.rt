@@ -6,10 +6,10 @@ ghost use Rattle.it_syntax.specs.declared.rest.Stop.TheVariants.{Memory};
 ghost use Rattle.it_syntax.specs.Gives.{ParsesBy};
 ghost use Rattle.it_syntax.specs.LineForms as forms;
 ghost use Rattle.it_syntax.specs.Meaning.{multiple_from};
-ghost use Rattle.it_syntax.specs.ReaderSteps.{EachBefore, after_first};
+ghost use Rattle.it_syntax.specs.ReaderSteps.{EachBefore, after_first, known_scope};
 ghost use Rattle.it_syntax.specs.Scopes.{scope_of};
 
-use crate::atoms::allowed_term;
+use crate::atoms::{TermNames, allowed_term};
 use crate::names::Names;
 use crate::rest::{Rest, Stop};
 use crate::signs::sign;
@@ -46,11 +46,10 @@ fn more_terms(
     most: usize,
     multiple: u64,
     rest: &mut Rest<'_>,
-    names: &Names,
-    rates: bool,
+    known: &TermNames<'_>,
 ) -> Result<(Vec<Term>, u64), Stop>
     requires some { 1 ≤ multiple }
-    ensures read { EachBefore multiple first (λ m. ParsesBy (λ x. x.0.items) result (after_first most m (scope_of names.now rates) first) rest.old rest.new) }
+    ensures read { EachBefore multiple first (λ m. ParsesBy (λ x. x.0.items) result (after_first most m (known_scope known.now) first) rest.old rest.new) }
     ensures multiple { IfOk result (λ x. (1 ≤ x.1) × EachBefore multiple first (λ m. x.1 ≡ multiple_from m x.0.items)) }
 {
     let mut found = Vec::new(alloc);
@@ -58,7 +57,7 @@ fn more_terms(
     let mut so_far = multiple;
     while let Some(negative) = sign(rest) {
         let left = most.saturating_sub(found.len());
-        match allowed_term(left, negative, so_far, rest, names, rates) {
+        match allowed_term(left, negative, so_far, rest, known) {
             Ok((next, both)) => {
                 add(&mut found, next)?;
                 so_far = both;
@@ -77,15 +76,14 @@ fn terms(
     multiple: u64,
     negative: bool,
     rest: &mut Rest<'_>,
-    names: &Names,
-    rates: bool,
+    known: &TermNames<'_>,
 ) -> Result<(Vec<Term>, u64), Stop>
     requires some { 1 ≤ multiple }
-    ensures read { ParsesBy (λ x. x.0.items) result (forms.terms most multiple (scope_of names.now rates) negative) rest.old rest.new }
+    ensures read { ParsesBy (λ x. x.0.items) result (forms.terms most multiple (known_scope known.now) negative) rest.old rest.new }
     ensures multiple { IfOk result (λ x. (1 ≤ x.1) × (x.1 ≡ multiple_from multiple x.0.items)) }
 {
-    match allowed_term(most, negative, multiple, rest, names, rates) {
-        Ok((first, both)) => more_terms(alloc, first, most, both, rest, names, rates),
+    match allowed_term(most, negative, multiple, rest, known) {
+        Ok((first, both)) => more_terms(alloc, first, most, both, rest, known),
         Err(stop) => Err(stop),
     }
 }
@@ -105,10 +103,11 @@ pub fn sum(
     ensures read { ParsesBy (λ x. x.0.items) result (forms.sum most multiple (scope_of names.now rates)) rest.old rest.new }
     ensures multiple { IfOk result (λ x. (1 ≤ x.1) × (x.1 ≡ multiple_from multiple x.0.items)) }
 {
+    let known = TermNames { names, rates };
     if takes(rest, Symbol::Plus) {
-        terms(alloc, most, multiple, false, rest, names, rates)
+        terms(alloc, most, multiple, false, rest, &known)
     } else {
         let negative = takes(rest, Symbol::Minus);
-        terms(alloc, most, multiple, negative, rest, names, rates)
+        terms(alloc, most, multiple, negative, rest, &known)
     }
 }

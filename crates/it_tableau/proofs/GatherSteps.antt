@@ -10,7 +10,7 @@ use Rattle.std.proofs.Math.Seq.{drop-cons}
 use Rattle.it_rational.specs.Rational.{Rational, integer}
 use Rattle.it_rational.proofs.Field.{field_ℚ}
 use Rattle.it_fraction.specs.Fits.{IsNarrow}
-use Rattle.it_fraction.proofs.ZeroLemmas.{product-zero, top_of_zero}
+use Rattle.it_fraction.proofs.ZeroLemmas.{product-zero, numerator_of_zero}
 use Rattle.it_space.specs.Rows.{Terms, coefficient, Ascends}
 use Rattle.it_space.proofs.CanonicalRows.{here_is, none_below, other_is}
 use Rattle.it_tableau.specs.Operations.{rationals}
@@ -141,7 +141,7 @@ module _ (cs : List ℕ) (columns : List Terms) (target : Terms) where
   no_entry j k h e = row_column field_ℚ (length cs) (length columns) (feasibility_problem cs columns target) k j h
       ∙ product-zero (sign rationals (feasibility_problem cs columns target) k)
       (integer (coefficient (slice_index_or columns j []) (slice_index_or cs k 0)))
-      (top_of_zero (integer (coefficient (slice_index_or columns j []) (slice_index_or cs k 0))) (ap integer e))
+      (numerator_of_zero (integer (coefficient (slice_index_or columns j []) (slice_index_or cs k 0))) (ap integer e))
 
   pub column_is_gathered : (j : ℕ) (old new : List RowTerms) → AreAppended cs (λ k. start_number cs columns target k j) j old new
       → AreGathered cs columns target j old → AreGathered cs columns target (j + 1) new

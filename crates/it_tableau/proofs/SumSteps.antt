@@ -3,7 +3,7 @@ use Rattle.std.proofs.Common.{◌≡◌, ◌⊎◌, inl, inr, ℕ, suc, ◌+◌,
 use Rattle.std.proofs.lemmas.Bool.{cases_eq, cases_lt}
 use Rattle.it_rational.specs.Rational.{Rational, integer, plus}
 use Rattle.it_fraction.specs.Fits.{IsNarrow, SumFits}
-use Rattle.it_fraction.proofs.ZeroLemmas.{zero-sum, zero-sum-fits, top_of_zero}
+use Rattle.it_fraction.proofs.ZeroLemmas.{zero-sum, zero-sum-fits, numerator_of_zero}
 use Rattle.it_tableau.specs.Merging.{column_at, number_of_term}
 use Rattle.it_tableau.specs.Entries.{entry_at, row_at}
 use Rattle.it_tableau.specs.Rows.{column_sum, ColumnFits}
@@ -23,7 +23,7 @@ pub record IsRowAdditionUnderWay (terms : RowTerms) (old : List Rational) (i : �
 
 -- where a row has no number the sum stays
 null_is_added : (x s : Rational) → x ≡ integer (pos 0) → IsNarrow s → SumFits x s × (s ≡ plus x s)
-null_is_added x s e n = (zero-sum-fits x s (top_of_zero x e) n, sym (zero-sum x s (top_of_zero x e)))
+null_is_added x s e n = (zero-sum-fits x s (numerator_of_zero x e) n, sym (zero-sum x s (numerator_of_zero x e)))
 
 module _ (terms : RowTerms) (old : List Rational) (narrow : AreNarrow old) (i : ℕ) (now : List Rational) (w : IsRowAdditionUnderWay terms old i now) where
   -- a column of which no term is left

@@ -1,15 +1,13 @@
 -- Steps of the text of a code.
 use Rattle.std.proofs.Common.{◌≡◌, ℕ, ◌+◌, ◌<◌, ◌≤◌, ◌||◌, if◌then◌else◌, List, [], ◌∷◌, ◌++◌, length, map, drop, get_or, Bool, true, false, Some, refl, sym, ap, ◌∙◌, append_assoc, codes, arith}
 use Rattle.std.specs.List.{slice_get}
-use Rattle.std.proofs.lemmas.List.{length-map}
 use Rattle.std.proofs.lemmas.Option.{get_or_from_slice_get}
-use Rattle.it_codes.specs.Codes.{functions_of}
+use Rattle.it_codes.specs.Codes.{functions_of, variables_of}
 use Rattle.it_codes.specs.declared.codes.Variable.{Variable}
 use Rattle.it_question.specs.Questions.{BodyView}
 use Rattle.it_space.specs.Answers.{AnswerView}
 use Rattle.it_space.proofs.ListLemmas.{drop_item}
-use Rattle.it_certificate.specs.CodeReading.{HasCodedShape, ReportedCodeView, reported_code_view}
-use Rattle.it_certificate.specs.declared.types.ReportedCode.{ReportedCode}
+use Rattle.it_certificate.specs.CodeReading.{HasCodedShape, ReportedCodeView}
 use Rattle.it_print.specs.Lines.{joined_texts, or_zero}
 use Rattle.it_print.proofs.LineLemmas.{or_zero_unless, sum_step}
 use Rattle.it_tell.specs.CodeTexts.{code_text, function_text, symbol_texts, variable_text, variable_texts}
@@ -55,11 +53,9 @@ variable_step names variables i v name some out h is named =
     ∙ ap (λ xs. out ++ joined_texts (codes ", ") some (variable_texts names i (map functions_of xs))) (sym (drop_item variables i v h is))
 
 -- a code has as many variables as there are names
-pub named_variables : (q : BodyView) (a : AnswerView) (c : ReportedCode) → HasCodedShape q a (reported_code_view c)
-    → length c.code.variables.items ≤ length q.names.variables
-named_variables q a c h =
-    let same : length (map functions_of c.code.variables.items) ≡ length c.code.variables.items = length-map c.code.variables.items functions_of in
-    omega (arith, same, h.code.variables)
+pub named_variables : (q : BodyView) (a : AnswerView) (c : ReportedCodeView) → HasCodedShape q a c
+    → variables_of c.code ≤ length q.names.variables
+named_variables q a c h = omega (arith, h.code.variables)
 
 -- the line of a code below those of an answer
 pub coded_appended : (options : Options) (k : ℕ) (q : BodyView) (a : AnswerView) (c : ReportedCodeView) (answered text : List ℕ)

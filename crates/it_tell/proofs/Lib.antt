@@ -1,6 +1,5 @@
 pub mod LineLemmas
 pub mod PrintableLemmas
-pub mod ReportLemmas
 pub mod EndLemmas
 pub mod DetailLemmas
 pub mod LawLemmas

@@ -1,19 +1,18 @@
 -- What is told of a line of a report, step by step as the code forms it.
-use Rattle.std.proofs.Common.{◌≡◌, ℕ, List, Bool, true, false, Some, None, Ok, Err, IsUtf8, refl, sym, ap, subst, ◌∙◌}
+use Rattle.std.proofs.Common.{◌≡◌, ℕ, List, Bool, true, false, Result, Ok, Err, IfOk, refl, sym, ap, subst, ◌∙◌}
 use Rattle.std.proofs.lemmas.Bool.{true≢false}
-use Rattle.serde_json.specs.Read.{read}
 use Rattle.it_space.specs.Answers.{AnswerView, answer_view}
-use Rattle.it_question.specs.Questions.{QuestionView, question_body}
+use Rattle.it_question.specs.Questions.{QuestionView}
 use Rattle.it_question.proofs.NumberLemmas.{QuestionHasSmallNumbers}
-use Rattle.it_certificate.specs.declared.keys.Key.{Key}
-use Rattle.it_certificate.specs.CodeReading.{ReportedCodeView, reported_code_view}
+use Rattle.it_certificate.specs.declared.keys.ReportFault.{ReportFault}
+use Rattle.it_certificate.specs.CodeReading.{ReportedCodeView}
 use Rattle.it_certificate.specs.Reports as reports
 use Rattle.it_certificate.specs.Reports.{IsReported, KeepsLimits, ReadsReport, Reading, Reports}
 use Rattle.it_certificate.specs.Sources.{Source, asked}
 use Rattle.it_certificate.specs.declared.types.Reported.{Reported}
 use Rattle.it_certificate.specs.declared.types.Reported.TheVariants as variants
 use Rattle.it_certificate.proofs.OneLemmas.{one_reading}
-use Rattle.it_report.specs.Judging.{HasReading, IsAnswerVerdict, IsCodedVerdict, IsJudgedLine, IsReadingVerdict, IsVerdict}
+use Rattle.it_report.specs.Judging.{HasReading, IsAnswerVerdict, IsCodedVerdict, IsJudgedLine, IsJudgedWhereRead, IsReadingVerdict, IsVerdict}
 use Rattle.it_report.specs.LineVerdicts.{LineVerdict, NotJson, Shape, Skipped, Judged, Weighed, OtherCode, Hulled, is_invalid, numbered_line}
 use Rattle.it_report.proofs.OneLemmas.{as_read, same_read}
 use Rattle.it_canon.proofs.ExistenceLemmas.{question_poses}
@@ -29,13 +28,20 @@ use Rattle.it_tell.specs.declared.settings.Options.{Options}
 -- ---- an invalid line
 
 pub invalid_line : (options : Options) (k : ℕ) (line text : List ℕ) (invalid : Bool) → IsJudgedLine k line text invalid → invalid ≡ true
-    → IsToldLine options k line text true
+    → IsToldLine options k line text invalid
 invalid_line options k line text invalid judged is = record {
-  telling = Invalid judged.verdict;
-  is = (judged.is, sym judged.told.1 ∙ is);
+  reply = Invalid judged.verdict;
+  right = (judged.is, sym judged.told.1 ∙ is);
   text_is = judged.told.0;
-  invalid_is = refl;
+  invalid_is = is;
 }
+
+-- a line that wasn't read
+pub fault_line : {L E : Type 0} (text : L → List ℕ) (invalid : L → Bool) (options : Options) (k : ℕ) (line : List ℕ) (fault : ReportFault)
+    (r : Result L E) → Reports line (Err fault) → IfOk r (λ j. IsJudgedWhereRead k (Err fault) (text j) (invalid j))
+    → IfOk r (λ j. invalid j ≡ true) → IfOk r (λ j. IsToldLine options k line (text j) (invalid j))
+fault_line text invalid options k line fault (Ok j) h judged is = invalid_line options k line (text j) (invalid j) (judged line h) is
+fault_line text invalid options k line fault (Err e) h judged is = tt
 
 -- ---- any other line
 
@@ -57,20 +63,6 @@ has_verdict k line text invalid judged e = by_verdict judged.verdict judged.is (
     by_verdict (Weighed names v) is accepted = record { verdict = Weighed names v; is = is; accepted = accepted; said = is }
     by_verdict (OtherCode names s) is accepted = absurd (true≢false accepted)
     by_verdict (Hulled v) is accepted = record { verdict = Hulled v; is = is; accepted = accepted; said = is }
-
--- a line with a verdict on what it says is JSON
-pub is_json : (line : List ℕ) → HasVerdict line → (IsUtf8 line → read line ≡ None) → ⊥
-is_json line h none = some_is_none (sym h.said.reads.is_json ∙ none h.said.reads.utf8)
-  where
-    some_is_none : Some h.said.reads.value ≡ None → ⊥
-    some_is_none e = cc
-
--- no key of such a line is at fault
-pub has_no_fault : (line : List ℕ) (key : Key) → HasVerdict line → ReadsReport line (Err key) → ⊥
-has_no_fault line key h reads = fault_is_reading h.said.reading (one_reading line (Err key) (Ok h.said.reading) reads h.said.reads)
-  where
-    fault_is_reading : (x : Reading) → Err key ≡ as_read x → ⊥
-    fault_is_reading x e = cc
 
 module _ (line : List ℕ) (source : Source) (a : AnswerView) (reads : ReadsReport line (Ok (reports.Answered source a))) where
   pub accepts : HasVerdict line → IsAccepted line source a
@@ -110,10 +102,10 @@ can_be_printed line r read limits h = by_reading read.0 r read.1 read.2 limits
     by_reading : (x : Reading) (r : Reported) → IsReported x r → ReadsReport line (Ok x) → KeepsLimits r → CanBePrinted r
     by_reading (reports.Answered source a) (variants.Answered q answer) same reads limits =
         let small = subst (λ (x : QuestionView). QuestionHasSmallNumbers x.body) same.0 (small_numbers line source a reads) in
-        let verdict : IsAnswerVerdict (question_body q) (answer_view answer) h.verdict =
-        subst (λ b. IsAnswerVerdict (question_body q) b h.verdict) same.1 (subst
+        let verdict : IsAnswerVerdict q.body (answer_view answer) h.verdict =
+        subst (λ b. IsAnswerVerdict q.body b h.verdict) same.1 (subst
         (λ (x : QuestionView). IsAnswerVerdict x.body a h.verdict) same.0 (on_answer line source a reads h)) in
-        printable (question_body q) limits.0 (question_poses (question_body q) limits.0 small) h.verdict h.accepted answer limits.1 verdict
+        printable q.body limits.0 (question_poses q.body limits.0 small) h.verdict h.accepted answer limits.1 verdict
     by_reading (reports.Answered source a) (variants.Coded q answer code) same reads limits = absurd same
     by_reading (reports.Answered source a) (variants.Derived q answer origins) same reads limits = absurd same
     by_reading (reports.Answered source a) (variants.Factored q best) same reads limits = absurd same
@@ -122,10 +114,10 @@ can_be_printed line r read limits h = by_reading read.0 r read.1 read.2 limits
     by_reading (reports.Coded source a c) (variants.Answered q answer) same reads limits = absurd same
     by_reading (reports.Coded source a c) (variants.Coded q answer code) same reads limits =
         let small = subst (λ (x : QuestionView). QuestionHasSmallNumbers x.body) same.0 (coded_numbers line source a c reads) in
-        let verdict : IsAnswerVerdict (question_body q) (answer_view answer) h.verdict =
-        subst (λ b. IsAnswerVerdict (question_body q) b h.verdict) same.1 (subst
+        let verdict : IsAnswerVerdict q.body (answer_view answer) h.verdict =
+        subst (λ b. IsAnswerVerdict q.body b h.verdict) same.1 (subst
         (λ (x : QuestionView). IsAnswerVerdict x.body a h.verdict) same.0 (on_coded line source a c reads h)) in
-        printable (question_body q) limits.0 (question_poses (question_body q) limits.0 small) h.verdict h.accepted answer limits.1.answered verdict
+        printable q.body limits.0 (question_poses q.body limits.0 small) h.verdict h.accepted answer limits.1.answered verdict
     by_reading (reports.Coded source a c) (variants.Derived q answer origins) same reads limits = absurd same
     by_reading (reports.Coded source a c) (variants.Factored q best) same reads limits = absurd same
     by_reading (reports.Coded source a c) (variants.Bounded q bounds) same reads limits = absurd same
@@ -134,8 +126,8 @@ can_be_printed line r read limits h = by_reading read.0 r read.1 read.2 limits
     by_reading (reports.Derived source a ws) (variants.Coded q answer code) same reads limits = absurd same
     by_reading (reports.Derived source a ws) (variants.Derived q answer origins) same reads limits =
         let small = subst (λ (x : QuestionView). QuestionHasSmallNumbers x.body) same.0 (derived_numbers line source a ws reads) in
-        printable (question_body q) limits.0 (question_poses (question_body q) limits.0 small) Skipped refl answer limits.1.answered
-        (region_skipped (question_body q) (answer_view answer) limits.1.region)
+        printable q.body limits.0 (question_poses q.body limits.0 small) Skipped refl answer limits.1.answered
+        (region_skipped q.body (answer_view answer) limits.1.region)
     by_reading (reports.Derived source a ws) (variants.Factored q best) same reads limits = absurd same
     by_reading (reports.Derived source a ws) (variants.Bounded q bounds) same reads limits = absurd same
     by_reading (reports.Derived source a ws) variants.Misfit same reads limits = absurd same
@@ -169,7 +161,7 @@ reported_line options k line text r read h told = by_reading read.0 r read.1 rea
         let back : IsAnsweredText options k (asked source).body a text =
         subst (λ b. IsAnsweredText options k (asked source).body b text) (sym same.1)
         (subst (λ (x : QuestionView). IsAnsweredText options k x.body (answer_view answer) text) (sym same.0) told) in
-        record { telling = tellings.Answered source a back.0; is = (accepts line source a reads h, back.1.0); text_is = back.1.1; invalid_is = refl }
+        record { reply = tellings.Answered source a back.0; right = (accepts line source a reads h, back.1.0); text_is = back.1.1; invalid_is = refl }
     by_reading (reports.Answered source a) (variants.Coded q answer code) same reads told = absurd same
     by_reading (reports.Answered source a) (variants.Derived q answer origins) same reads told = absurd same
     by_reading (reports.Answered source a) (variants.Factored q best) same reads told = absurd same
@@ -179,11 +171,11 @@ reported_line options k line text r read h told = by_reading read.0 r read.1 rea
     by_reading (reports.Coded source a c) (variants.Coded q answer code) same reads told =
         let back : IsCodedText options k (asked source).body a c text =
         subst (λ x. IsCodedText options k (asked source).body a x text) (sym same.2)
-        (subst (λ b. IsCodedText options k (asked source).body b (reported_code_view code) text) (sym same.1)
-        (subst (λ (x : QuestionView). IsCodedText options k x.body (answer_view answer) (reported_code_view code) text) (sym same.0) told)) in
+        (subst (λ b. IsCodedText options k (asked source).body b code text) (sym same.1)
+        (subst (λ (x : QuestionView). IsCodedText options k x.body (answer_view answer) code text) (sym same.0) told)) in
         record {
-          telling = tellings.Coded source a c back.0;
-          is = (record { verdict = h.verdict; is = h.is; accepted = h.accepted; reads = reads }, back.1.0);
+          reply = tellings.Coded source a c back.0;
+          right = (record { verdict = h.verdict; is = h.is; accepted = h.accepted; reads = reads }, back.1.0);
           text_is = back.1.1;
           invalid_is = refl;
         }
@@ -198,8 +190,8 @@ reported_line options k line text r read h told = by_reading read.0 r read.1 rea
         subst (λ b. IsAnsweredText options k (asked source).body b text) (sym same.1)
         (subst (λ (x : QuestionView). IsAnsweredText options k x.body (answer_view answer) text) (sym same.0) told) in
         record {
-          telling = tellings.Derived source a ws back.0;
-          is = (record { verdict = h.verdict; is = h.is; accepted = h.accepted; reads = reads }, back.1.0);
+          reply = tellings.Derived source a ws back.0;
+          right = (record { verdict = h.verdict; is = h.is; accepted = h.accepted; reads = reads }, back.1.0);
           text_is = back.1.1;
           invalid_is = refl;
         }
@@ -210,8 +202,8 @@ reported_line options k line text r read h told = by_reading read.0 r read.1 rea
     by_reading (reports.Factored source b) (variants.Coded q answer code) same reads told = absurd same
     by_reading (reports.Factored source b) (variants.Derived q answer origins) same reads told = absurd same
     by_reading (reports.Factored source b) (variants.Factored q best) same reads told = record {
-      telling = tellings.Factored source b;
-      is = accepts_best line source b reads h;
+      reply = tellings.Factored source b;
+      right = accepts_best line source b reads h;
       text_is = told
           ∙ ap (λ x. numbered_line k (best_words x)) (sym same.1);
       invalid_is = refl;
@@ -223,8 +215,8 @@ reported_line options k line text r read h told = by_reading read.0 r read.1 rea
     by_reading (reports.Bounded source b) (variants.Derived q answer origins) same reads told = absurd same
     by_reading (reports.Bounded source b) (variants.Factored q best) same reads told = absurd same
     by_reading (reports.Bounded source b) (variants.Bounded q bounds) same reads told = record {
-      telling = tellings.Bounded source b;
-      is = record { verdict = h.verdict; is = h.is; accepted = h.accepted; reads = reads };
+      reply = tellings.Bounded source b;
+      right = record { verdict = h.verdict; is = h.is; accepted = h.accepted; reads = reads };
       text_is = told ∙ ap (λ x. numbered_line k (bounds_words x)) (sym same.1);
       invalid_is = refl;
     }
@@ -234,4 +226,4 @@ reported_line options k line text r read h told = by_reading read.0 r read.1 rea
     by_reading reports.Misfit (variants.Derived q answer origins) same reads told = absurd same
     by_reading reports.Misfit (variants.Factored q best) same reads told = absurd same
     by_reading reports.Misfit (variants.Bounded q bounds) same reads told = absurd same
-    by_reading reports.Misfit variants.Misfit same reads told = record { telling = tellings.Misfit; is = reads; text_is = told; invalid_is = refl }
+    by_reading reports.Misfit variants.Misfit same reads told = record { reply = tellings.Misfit; right = reads; text_is = told; invalid_is = refl }

@@ -26,7 +26,8 @@ use Rattle.it_elemental.proofs.GeneratorLemmas.{length-listed}
 use Rattle.it_syntax.specs.Meaning.{RelationView}
 use Rattle.it_syntax.specs.NamesViews.{NamesView}
 use Rattle.it_question.specs.Limits.{IsQuestion, IsVerbOver}
-use Rattle.it_question.specs.Questions.{BodyView, RegionView, VerbView, Prove, Eliminate, Contain}
+use Rattle.it_question.specs.OwnLines.{RegionView}
+use Rattle.it_question.specs.Questions.{BodyView, VerbView, Prove, Eliminate, Contain}
 use Rattle.it_question.specs.ProblemLines.{problem_names, names_under}
 use Rattle.it_demand.specs.QuestionSpaces.{space_of}
 use Rattle.it_canon.specs.QuestionDemands.{IsProblemOf, question_demands, problem_of, terms_in}

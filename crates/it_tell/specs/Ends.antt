@@ -1,12 +1,10 @@
 -- How a call of `tell` ends: what each status says of the words, of what the source gave and of what the sink took. It has no boxes.
 use Rattle.std.specs.Prelude.{◌≡◌, ℕ, List, [], codes, ◌⊎◌, Option, Some, None, option_and_then}
 use Rattle.it_outside.specs.Traffic.{GaveMore, TookPrefix}
-use Rattle.std.specs.List.{list_any}
 use Rattle.it_outside.specs.Causes.{next_count}
-use Rattle.it_question.specs.Lines.{split_lines}
 use Rattle.it_cli.specs.Ends.{Call, IsFaultless, IsTaken, IsUntouched, Wrote, FaultsAre}
 use Rattle.it_cli.specs.Modes.{FirstOutput, Mode, OutputInPart, WholeOutput}
-use Rattle.it_cli.specs.Outputs.{verdict_status}
+use Rattle.it_cli.specs.Outputs.{lines_mode}
 use Rattle.it_cli.specs.Refusals.{long_line}
 use Rattle.it_cli.specs.declared.status.Status.{Status}
 use Rattle.it_cli.specs.declared.status.Status.TheVariants.{Done, Invalid, Usage, Refused, ReadFault, WriteFault, Memory}
@@ -14,19 +12,11 @@ use Rattle.it_tell.specs.declared.settings.Options.{Options}
 use Rattle.it_tell.specs.declared.settings.Settings.{Settings}
 use Rattle.it_tell.specs.declared.settings.Settings.TheVariants.{Tell, Help, Version}
 use Rattle.it_tell.specs.Settings.{settings_of}
-use Rattle.it_tell.specs.Tellings.{IsTelling, Telling, tells_invalid, telling_text}
+use Rattle.it_tell.specs.Tellings.{IsTelling, tells_invalid, telling_text}
 
--- what is told of each line of a report, as these options ask for it, and whether one is invalid
+-- what is told of each line of a report, as these options ask for it
 abbrev pub tell_mode : Options → Mode
-tell_mode options = record {
-  Item = List ℕ;
-  Reply = Telling;
-  Asks = λ bytes lines. lines ≡ split_lines bytes;
-  FaultAt = λ bytes line column code. ⊥;
-  IsRight = λ earlier line telling. IsTelling options line telling;
-  text = λ k line telling. telling_text k telling;
-  status = λ tellings. verdict_status (list_any tells_invalid tellings);
-}
+tell_mode options = lines_mode (IsTelling options) telling_text tells_invalid
 
 -- the most bytes of a report
 abbrev pub most_bytes : ℕ

@@ -1,5 +1,5 @@
 -- No public clause cites this module: what the calls inside `tell` give.
-use Rattle.std.specs.Prelude.{◌≡◌, ◌≤◌, ℕ, ◌-◌, ℤ, List, ◌∷◌, ◌++◌, length, Bool, [], map, codes, ◌⊎◌, Option, Some}
+use Rattle.std.specs.Prelude.{◌≡◌, ◌≤◌, ◌<◌, ℕ, ◌+◌, ◌-◌, All, ℤ, List, ◌∷◌, ◌++◌, length, Bool, [], map, codes, ◌⊎◌, Option, Some}
 use Rattle.std.specs.List.{zip}
 use Rattle.std.specs.Borrow.{Bor}
 use Rattle.it_space.specs.declared.spaces.Space.{Space}
@@ -16,12 +16,14 @@ use Rattle.it_demand.specs.QuestionSpaces.{space_of}
 use Rattle.it_question.specs.LineDemands.{line_demands}
 use Rattle.it_question.specs.LineOrigins.{line_origins}
 use Rattle.it_question.specs.ProblemLines.{problem_names}
+use Rattle.it_terms.specs.declared.proven.Proven.{Proven}
 use Rattle.it_terms.specs.Tells.{TellsForms}
 use Rattle.it_tell.specs.OwnLines.{own_line, own_lines_by}
 use Rattle.it_space.specs.Answers.{AnswerView, CertificateView, answer_view, certificate_view}
 use Rattle.it_polymatroid.specs.Certificates.{Form}
+use Rattle.it_polymatroid.specs.Elementals.{elementals}
 use Rattle.it_syntax.specs.NamesViews.{NamesView}
-use Rattle.it_question.specs.Questions.{BodyView, VerbView, Contain, question_body}
+use Rattle.it_question.specs.Questions.{BodyView, VerbView, Contain}
 use Rattle.it_canon.specs.QuestionDemands.{question_demands}
 use Rattle.it_certificate.specs.declared.types.Reported.{Reported}
 use Rattle.it_certificate.specs.declared.types.Reported.TheVariants as variants
@@ -31,12 +33,14 @@ use Rattle.it_region.specs.AnswerForms.{answer_forms}
 use Rattle.it_ratio.specs.BestViews.{best_view}
 use Rattle.it_certificate.specs.Bounds.{bounds_view}
 use Rattle.it_tell.specs.Tellings.{AreDetails, AreProofTexts, Each, IsPointText, IsTelling, ProofTexts, Telling, best_words, bounds_words, head_line, indented_line, proof_lines, tells_invalid, telling_text, AreOwnLineTexts, TellsObligation, obligation_lines}
-use Rattle.it_certificate.specs.CodeReading.{ReportedCodeView, reported_code_view}
+use Rattle.it_certificate.specs.CodeReading.{ReportedCodeView}
 use Rattle.it_tell.specs.CodeTexts.{code_text}
 use Rattle.it_space.specs.Answers.AnswerView.{Contained}
 use Rattle.it_space.specs.declared.answers.Certificate.{Certificate}
 use Rattle.it_cli.specs.Ends.{call_of}
+use Rattle.it_cli.specs.LineModes.{IsReplied, LineMode}
 use Rattle.it_cli.specs.declared.status.Status.{Status}
+use Rattle.it_tell.specs.declared.containments.Obligations.{Obligations}
 use Rattle.it_tell.specs.declared.settings.Options.{Options}
 use Rattle.it_tell.specs.declared.settings.Settings.TheVariants.{Tell}
 use Rattle.it_tell.specs.declared.settings.Style.{Style}
@@ -44,12 +48,13 @@ use Rattle.it_tell.specs.declared.settings.Style.TheVariants.{Plain, Named, Whol
 use Rattle.it_tell.specs.Settings.{settings_of}
 use Rattle.it_tell.specs.Ends.{Ends}
 
+-- what is told of the lines of a report
+abbrev pub tellings : Options → LineMode
+tellings options = record { Reply = Telling; IsRight = IsTelling options; text = telling_text; is_invalid = tells_invalid }
+
 -- the text has the lines about line `k`, and `invalid` says whether they say so
-pub record IsToldLine (options : Options) (k : ℕ) (line text : List ℕ) (invalid : Bool) : Type 0 where
-  pub telling : Telling
-  pub is : IsTelling options line telling
-  pub text_is : text ≡ telling_text k telling
-  pub invalid_is : invalid ≡ tells_invalid telling
+abbrev pub IsToldLine : Options → ℕ → List ℕ → List ℕ → Bool → Type 0
+IsToldLine options = IsReplied (tellings options)
 
 -- the lines about an answer to a question
 unfoldable pub IsAnsweredText : Options → ℕ → BodyView → AnswerView → List ℕ → Type 0
@@ -62,18 +67,18 @@ IsCodedText options k q answer code text =
 
 -- the lines about what was read
 abbrev pub IsReportedText : Options → ℕ → Reported → List ℕ → Type 0
-IsReportedText options k (variants.Answered question answer) text = IsAnsweredText options k (question_body question) (answer_view answer) text
-IsReportedText options k (variants.Coded question answer code) text = IsCodedText options k (question_body question) (answer_view answer) (reported_code_view code) text
-IsReportedText options k (variants.Derived question answer origins) text = IsAnsweredText options k (question_body question) (answer_view answer) text
+IsReportedText options k (variants.Answered question answer) text = IsAnsweredText options k question.body (answer_view answer) text
+IsReportedText options k (variants.Coded question answer code) text = IsCodedText options k question.body (answer_view answer) code text
+IsReportedText options k (variants.Derived question answer origins) text = IsAnsweredText options k question.body (answer_view answer) text
 IsReportedText options k (variants.Factored question best) text = text ≡ numbered_line k (best_words (best_view best))
 IsReportedText options k (variants.Bounded question bounds) text = text ≡ numbered_line k (bounds_words (bounds_view bounds))
 IsReportedText options k variants.Misfit text = text ≡ numbered_line k (codes "misfit")
 
 -- the answer that was read can be printed
 abbrev pub CanBePrinted : Reported → Type 0
-CanBePrinted (variants.Answered question answer) = IsPrintable (question_body question) (length (question_demands (question_body question))) answer
-CanBePrinted (variants.Coded question answer code) = IsPrintable (question_body question) (length (question_demands (question_body question))) answer
-CanBePrinted (variants.Derived question answer origins) = IsPrintable (question_body question) (length (question_demands (question_body question))) answer
+CanBePrinted (variants.Answered question answer) = IsPrintable question.body (length (question_demands question.body)) answer
+CanBePrinted (variants.Coded question answer code) = IsPrintable question.body (length (question_demands question.body)) answer
+CanBePrinted (variants.Derived question answer origins) = IsPrintable question.body (length (question_demands question.body)) answer
 CanBePrinted (variants.Factored question best) = Unit {0}
 CanBePrinted (variants.Bounded question bounds) = Unit {0}
 CanBePrinted variants.Misfit = Unit {0}
@@ -93,6 +98,18 @@ AppendsPoint v values old new = (text : List ℕ) × (IsPointText v values text 
 -- the form of a row, with a certificate for it
 abbrev pub form_with_proof : Terms → Certificate → Form × CertificateView
 form_with_proof row w = (value row, certificate_view w)
+
+-- the form of a row that is proved, with its certificate
+abbrev pub proven_form : Proven → Form × CertificateView
+proven_form proven = form_with_proof proven.row.now proven.certificate.now
+
+-- a certificate's weights are of the elemental inequalities of n variables, and of so many constraints after these
+abbrev pub IsListed : ℕ → ℕ → Certificate → Type 0
+IsListed n count proof = All (λ w. w.0 < length (elementals n) + count) proof.weights.items
+
+-- the certificates of obligations
+abbrev pub certificates_of : Obligations → List CertificateView
+certificates_of owed = map certificate_view owed.proofs.now
 
 -- the answer that a containment holds by these parts, with these certificates
 abbrev pub contained_by : List ℕ → List Certificate → AnswerView

@@ -1,7 +1,6 @@
 //! A linear code as it is told.
 ghost use Rattle.std.specs.Prelude.{◌≡◌, ◌≤◌, ◌<◌, ◌==◌, ◌++◌, ◌||◌, [], ◌∷◌, not, false, map, length, if◌then◌else◌, codes, IfOk, OnOk};
-ghost use Rattle.it_codes.specs.Codes.{functions_of};
-ghost use Rattle.it_certificate.specs.CodeReading.{reported_code_view};
+ghost use Rattle.it_codes.specs.Codes.{functions_of, variables_of};
 ghost use Rattle.it_print.specs.Lines.{joined_texts};
 ghost use Rattle.it_tell.specs.CodeTexts.{code_text, function_text, symbol_text, times_text, variable_text, variable_texts};
 ghost use Rattle.it_space.specs.Spaces.{most_variables};
@@ -163,16 +162,17 @@ fn write_times(out: &mut Vec<u8>, times: u32) -> Result<(), AllocError>
 /// The text of a code of the variables of `names`.
 #[tactic(auto, unfolding(crate::specs::CodeTexts::code_text))]
 pub fn code_text(alloc: Global, names: &Names, code: &ReportedCode) -> Result<Vec<u8>, AllocError>
-    requires named { length code.now.code.variables.items ≤ length names.now.variables }
+    requires named { variables_of code.now.code ≤ length names.now.variables }
     requires few { length names.now.variables ≤ most_variables }
-    ensures { IfOk result (λ t. t.items ≡ code_text names.now.variables (reported_code_view code.now)) }
+    ensures { IfOk result (λ t. t.items ≡ code_text names.now.variables code.now) }
 {
-    let variables = variables_text(alloc, names, code.code.variables.as_slice())?;
+    let linear = code.code();
+    let variables = variables_text(alloc, names, linear.variables())?;
     let mut out = Vec::new(alloc);
     out.extend_from_slice(b"code over GF(")?;
-    write_number(&mut out, code.code.field.size() as usize)?;
+    write_number(&mut out, linear.field().size() as usize)?;
     out.extend_from_slice(b"): ")?;
     out.extend_from_slice(variables.as_slice())?;
-    write_times(&mut out, code.times)?;
+    write_times(&mut out, code.times())?;
     Ok(out)
 }

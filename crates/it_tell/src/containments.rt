@@ -1,12 +1,9 @@
 //! The lines below the first one of a containment: the proofs of its obligations, each under its line of the second region.
-ghost use Rattle.std.specs.Prelude.{◌≡◌, ◌≤◌, ◌<◌, ◌+◌, ◌++◌, length, map, codes, All, IfOk, OnOk, [], drop, slice_index_or, true, if◌then◌else◌, ◌==◌};
+ghost use Rattle.std.specs.Prelude.{◌≡◌, ◌≤◌, ◌<◌, ◌++◌, length, map, codes, All, IfOk, OnOk, [], drop, slice_index_or, true, if◌then◌else◌, ◌==◌};
 ghost use Rattle.std.specs.Bool.{OnTrue};
 ghost use Rattle.it_space.specs.Answers.{certificate_view};
 ghost use Rattle.it_space.specs.Rows.{IsOver, value};
 ghost use Rattle.it_space.specs.Spaces.{size_of};
-ghost use Rattle.it_polymatroid.specs.Elementals.{elementals};
-ghost use Rattle.it_question.specs.Limits.{IsQuestion};
-ghost use Rattle.it_question.specs.Questions.{question_body};
 ghost use Rattle.it_question.specs.ProblemLines.{problem_names};
 ghost use Rattle.it_canon.specs.TrueLines.{variable_count};
 ghost use Rattle.it_canon.specs.QuestionDemands.{question_origins};
@@ -14,10 +11,10 @@ ghost use Rattle.it_certificate.specs.AnswerShapes.{HasQuestionShape};
 ghost use Rattle.it_print.specs.Lines.{AreListed, auxiliary_names, origins_of, part_for, set_text};
 ghost use Rattle.it_region.specs.Pairs.{IsContainment};
 ghost use Rattle.it_tell.specs.OwnLines.{own_line_comment, relation_part, sets_with, with_text};
-ghost use Rattle.it_tell.specs.Steps.{AppendsDetails, AppendsEachOwnLine, AppendsObligation, AppendsOwnLine, AppendsOwnProofs, AreObligations, AreOwnConstraints, HasObligations, IsFreeProblem, SaysOrNothing, contained_by, form_with_proof, obliged};
+ghost use Rattle.it_tell.specs.Steps.{AppendsDetails, AppendsEachOwnLine, AppendsObligation, AppendsOwnLine, AppendsOwnProofs, AreObligations, AreOwnConstraints, HasObligations, IsFreeProblem, IsListed, SaysOrNothing, certificates_of, contained_by, obliged, proven_form};
 ghost use Rattle.it_tell.specs.Tellings.{IsByShannon};
 
-use crate::details::{write_indented, write_proof, write_proofs};
+use crate::details::{Asked, write_indented, write_proof, write_proofs};
 use crate::settings::{Options, is_plain};
 use it_canon::{problem_names, region_lines};
 use it_check::{Verdict, check_yes};
@@ -27,7 +24,7 @@ use it_question::types::{Question, Verb};
 use it_region::{candidate, obligations, pair};
 use it_space::{Certificate, Row, VarSet};
 use it_syntax::Names;
-use it_terms::told_line;
+use it_terms::{Proven, told_line};
 use std::alloc::{AllocError, Global};
 
 /// A containment question, the options of its telling, the constraints of its problem, and the sets for the second region's
@@ -40,16 +37,22 @@ pub struct Containment<'a> {
     pub parts: &'a [VarSet],
 }
 
+/// The rows of obligations, and the certificates that prove them, in the same order.
+#[derive(Clone, Copy)]
+struct Obligations<'a> {
+    rows: &'a [Row],
+    proofs: &'a [Certificate],
+}
+
 /// The constraints of the second region's own lines; these alone are counted.
 fn own_constraints(alloc: Global, question: &Question) -> Result<Vec<Constraint>, AllocError>
-    requires question { IsQuestion (question_body question.now) }
-    requires contains { IsContainment (question_body question.now).verb }
-    ensures { IfOk result (λ cs. AreOwnConstraints (question_body question.now) cs.items) }
+    requires contains { IsContainment question.now.body.verb }
+    ensures { IfOk result (λ cs. AreOwnConstraints question.now.body cs.items) }
 {
-    let Verb::Contain { second, .. } = &question.verb else {
+    let Verb::Contain { second, .. } = question.verb() else {
         unreachable!()
     };
-    let space = second.names.space();
+    let space = second.space();
     let own = region_lines(alloc, second, 1, 1, space)?;
     Ok(own)
 }
@@ -60,9 +63,8 @@ fn obligation_rows(
     asked: &Containment<'_>,
     proofs: &[Certificate],
 ) -> Result<Vec<Row>, AllocError>
-    requires question { IsQuestion (question_body asked.now.question.now) }
-    requires fits { HasQuestionShape (question_body asked.now.question.now) (contained_by asked.now.parts.now proofs.now) }
-    ensures { IfOk result (λ rows. AreObligations (question_body asked.now.question.now) (contained_by asked.now.parts.now proofs.now) rows.items) }
+    requires fits { HasQuestionShape asked.now.question.now.body (contained_by asked.now.parts.now proofs.now) }
+    ensures { IfOk result (λ rows. AreObligations asked.now.question.now.body (contained_by asked.now.parts.now proofs.now) rows.items) }
 {
     // the proofs are named in the clauses alone
     let _proofs = proofs;
@@ -139,16 +141,16 @@ fn write_choices(
 
 /// Writes the sets for the auxiliary variables of the second region.
 fn write_parts(out: &mut Vec<u8>, asked: &Containment<'_>) -> Result<(), AllocError>
-    requires contains { IsContainment (question_body asked.now.question.now).verb }
-    requires counted { length asked.now.parts.now ≡ length (auxiliary_names (question_body asked.now.question.now).names (question_body asked.now.question.now).verb) }
-    ensures { OnOk result (out.new.items ≡ out.old.items ++ with_text (question_body asked.now.question.now) asked.now.parts.now) }
+    requires contains { IsContainment asked.now.question.now.body.verb }
+    requires counted { length asked.now.parts.now ≡ length (auxiliary_names asked.now.question.now.body.names asked.now.question.now.body.verb) }
+    ensures { OnOk result (out.new.items ≡ out.old.items ++ with_text asked.now.question.now.body asked.now.parts.now) }
 {
-    let Verb::Contain { second, .. } = &asked.question.verb else {
+    let Verb::Contain { second, .. } = asked.question.verb() else {
         unreachable!()
     };
-    let common = asked.question.names.space().variables;
+    let common = asked.question.space().variables;
     let names = problem_names(asked.question);
-    write_choices(out, names, &second.names, common, asked.parts)
+    write_choices(out, names, second.names(), common, asked.parts)
 }
 
 /// Writes a relation after a colon; nothing if there is none.
@@ -183,9 +185,9 @@ fn own_line_comment(
     relation: &[u8],
     is_by_shannon: bool,
 ) -> Result<Vec<u8>, AllocError>
-    requires contains { IsContainment (question_body asked.now.question.now).verb }
-    requires counted { length asked.now.parts.now ≡ length (auxiliary_names (question_body asked.now.question.now).names (question_body asked.now.question.now).verb) }
-    ensures { IfOk result (λ t. t.items ≡ own_line_comment (question_body asked.now.question.now) asked.now.parts.now origin relation.now is_by_shannon) }
+    requires contains { IsContainment asked.now.question.now.body.verb }
+    requires counted { length asked.now.parts.now ≡ length (auxiliary_names asked.now.question.now.body.names asked.now.question.now.body.verb) }
+    ensures { IfOk result (λ t. t.items ≡ own_line_comment asked.now.question.now.body asked.now.parts.now origin relation.now is_by_shannon) }
 {
     let mut out = Vec::new(alloc);
     out.extend_from_slice(b"# ")?;
@@ -200,9 +202,9 @@ fn own_line_comment(
 
 /// The problem of a question without its constraints.
 fn free_problem(alloc: Global, question: &Question) -> Problem
-    requires { IsQuestion (question_body question.now) }
-    ensures { IsFreeProblem (question_body question.now) result }
+    ensures { IsFreeProblem question.now.body result }
 {
+    question.facts();
     let space = problem_names(question).space();
     let constraints = Vec::new(alloc);
     Problem { space, constraints }
@@ -227,8 +229,7 @@ fn line_text(
     origin: Origin,
     rows: &[Row],
 ) -> Result<Vec<u8>, AllocError>
-    requires { IsQuestion (question_body asked.now.question.now) }
-    ensures { IfOk result (λ t. SaysOrNothing (problem_names (question_body asked.now.question.now)) (map value rows.now) t.items) }
+    ensures { IfOk result (λ t. SaysOrNothing (problem_names asked.now.question.now.body) (map value rows.now) t.items) }
 {
     match told_line(alloc, asked.question, asked.parts, origin, rows)? {
         Some(text) => Ok(text),
@@ -244,31 +245,23 @@ fn write_obligation(
     out: &mut Vec<u8>,
     asked: &Containment<'_>,
     free: &Problem,
-    relation: &[u8],
-    row: &Row,
-    proof: &Certificate,
+    proven: &Proven<'_>,
 ) -> Result<(), AllocError>
-    requires question { IsQuestion (question_body asked.now.question.now) }
-    requires some { 1 ≤ variable_count (question_body asked.now.question.now) }
-    requires origins { origins_of asked.now.constraints.now ≡ question_origins (question_body asked.now.question.now) }
-    requires there { All (λ w. w.0 < length (elementals (variable_count (question_body asked.now.question.now))) + length asked.now.constraints.now) proof.now.weights.items }
-    requires free { IsFreeProblem (question_body asked.now.question.now) free.now }
-    requires over { IsOver (size_of free.now.space) row.now }
-    ensures { OnOk result (AppendsObligation (question_body asked.now.question.now) asked.now.options (form_with_proof row.now proof.now) out.old.items out.new.items) }
+    requires origins { origins_of asked.now.constraints.now ≡ question_origins asked.now.question.now.body }
+    requires there { IsListed (variable_count asked.now.question.now.body) (length asked.now.constraints.now) proven.now.certificate.now }
+    requires free { IsFreeProblem asked.now.question.now.body free.now }
+    requires over { IsOver (size_of free.now.space) proven.now.row.now }
+    ensures { OnOk result (AppendsObligation asked.now.question.now.body asked.now.options (proven_form proven.now) out.old.items out.new.items) }
 {
-    if is_by_shannon(free, row, proof) {
+    if is_by_shannon(free, proven.row, proven.certificate) {
         return Ok(());
     }
-    write_proof(
-        alloc,
-        out,
-        asked.question,
-        asked.options,
-        asked.constraints,
-        row,
-        proof,
-        Some(relation),
-    )?;
+    let told = Asked {
+        question: asked.question,
+        options: asked.options,
+        constraints: asked.constraints,
+    };
+    write_proof(alloc, out, &told, proven)?;
     Ok(())
 }
 
@@ -279,21 +272,25 @@ fn own_proofs(
     asked: &Containment<'_>,
     free: &Problem,
     relation: &[u8],
-    rows: &[Row],
-    proofs: &[Certificate],
+    owed: &Obligations<'_>,
 ) -> Result<Vec<u8>, AllocError>
-    requires question { IsQuestion (question_body asked.now.question.now) }
-    requires some { 1 ≤ variable_count (question_body asked.now.question.now) }
-    requires origins { origins_of asked.now.constraints.now ≡ question_origins (question_body asked.now.question.now) }
-    requires there { AreListed (variable_count (question_body asked.now.question.now)) (length asked.now.constraints.now) proofs.now }
-    requires free { IsFreeProblem (question_body asked.now.question.now) free.now }
-    requires over { All (IsOver (size_of free.now.space)) rows.now }
-    requires as_many { length rows.now ≡ length proofs.now }
-    ensures { IfOk result (λ v. AppendsOwnProofs (question_body asked.now.question.now) asked.now.options rows.now (map certificate_view proofs.now) [] v.items) }
+    requires origins { origins_of asked.now.constraints.now ≡ question_origins asked.now.question.now.body }
+    requires there { AreListed (variable_count asked.now.question.now.body) (length asked.now.constraints.now) owed.now.proofs.now }
+    requires free { IsFreeProblem asked.now.question.now.body free.now }
+    requires over { All (IsOver (size_of free.now.space)) owed.now.rows.now }
+    requires as_many { length owed.now.rows.now ≡ length owed.now.proofs.now }
+    ensures { IfOk result (λ v. AppendsOwnProofs asked.now.question.now.body asked.now.options owed.now.rows.now (certificates_of owed.now) [] v.items) }
 {
     let mut out = Vec::new(alloc);
+    let rows = owed.rows;
+    let proofs = owed.proofs;
     for (i, row) in rows.iter().enumerate() {
-        write_obligation(alloc, &mut out, asked, free, relation, row, &proofs[i])?;
+        let proven = Proven {
+            row,
+            certificate: &proofs[i],
+            line: Some(relation),
+        };
+        write_obligation(alloc, &mut out, asked, free, &proven)?;
     }
     Ok(out)
 }
@@ -305,23 +302,20 @@ fn write_own_line(
     asked: &Containment<'_>,
     free: &Problem,
     origin: Origin,
-    rows: &[Row],
-    proofs: &[Certificate],
+    owed: &Obligations<'_>,
 ) -> Result<(), AllocError>
-    requires question { IsQuestion (question_body asked.now.question.now) }
-    requires some { 1 ≤ variable_count (question_body asked.now.question.now) }
-    requires origins { origins_of asked.now.constraints.now ≡ question_origins (question_body asked.now.question.now) }
-    requires contains { IsContainment (question_body asked.now.question.now).verb }
-    requires counted { length asked.now.parts.now ≡ length (auxiliary_names (question_body asked.now.question.now).names (question_body asked.now.question.now).verb) }
-    requires there { AreListed (variable_count (question_body asked.now.question.now)) (length asked.now.constraints.now) proofs.now }
-    requires free { IsFreeProblem (question_body asked.now.question.now) free.now }
-    requires over { All (IsOver (size_of free.now.space)) rows.now }
-    requires as_many { length rows.now ≡ length proofs.now }
-    ensures { OnOk result (AppendsOwnLine (question_body asked.now.question.now) asked.now.options asked.now.parts.now origin rows.now (map certificate_view proofs.now) out.old.items out.new.items) }
+    requires origins { origins_of asked.now.constraints.now ≡ question_origins asked.now.question.now.body }
+    requires contains { IsContainment asked.now.question.now.body.verb }
+    requires counted { length asked.now.parts.now ≡ length (auxiliary_names asked.now.question.now.body.names asked.now.question.now.body.verb) }
+    requires there { AreListed (variable_count asked.now.question.now.body) (length asked.now.constraints.now) owed.now.proofs.now }
+    requires free { IsFreeProblem asked.now.question.now.body free.now }
+    requires over { All (IsOver (size_of free.now.space)) owed.now.rows.now }
+    requires as_many { length owed.now.rows.now ≡ length owed.now.proofs.now }
+    ensures { OnOk result (AppendsOwnLine asked.now.question.now.body asked.now.options asked.now.parts.now origin owed.now.rows.now (certificates_of owed.now) out.old.items out.new.items) }
 {
-    let relation = line_text(alloc, asked, origin, rows)?;
+    let relation = line_text(alloc, asked, origin, owed.rows)?;
     let relation = relation.as_slice();
-    let below = own_proofs(alloc, asked, free, relation, rows, proofs)?;
+    let below = own_proofs(alloc, asked, free, relation, owed)?;
     let below = below.as_slice();
     let comment = own_line_comment(alloc, asked, origin, relation, below.is_empty())?;
     write_indented(out, comment.as_slice())?;
@@ -339,37 +333,37 @@ fn obliged(kind: Kind) -> usize
     }
 }
 
-/// Appends each line of the second region as `write_own_line` does, in order. `own` is the constraints of the lines, `rows`
-/// their obligations, one constraint's after the other's.
+/// Appends each line of the second region as `write_own_line` does, in order. `own` is the constraints of the lines,
+/// `owed` has the obligations of one constraint after those of the other.
 fn write_own_lines(
     alloc: Global,
     out: &mut Vec<u8>,
     asked: &Containment<'_>,
     free: &Problem,
     own: &[Constraint],
-    rows: &[Row],
-    proofs: &[Certificate],
+    owed: &Obligations<'_>,
 ) -> Result<(), AllocError>
-    requires question { IsQuestion (question_body asked.now.question.now) }
-    requires some { 1 ≤ variable_count (question_body asked.now.question.now) }
-    requires contains { IsContainment (question_body asked.now.question.now).verb }
-    requires counted { length asked.now.parts.now ≡ length (auxiliary_names (question_body asked.now.question.now).names (question_body asked.now.question.now).verb) }
-    requires origins { origins_of asked.now.constraints.now ≡ question_origins (question_body asked.now.question.now) }
-    requires there { AreListed (variable_count (question_body asked.now.question.now)) (length asked.now.constraints.now) proofs.now }
-    requires free { IsFreeProblem (question_body asked.now.question.now) free.now }
-    requires over { All (IsOver (size_of free.now.space)) rows.now }
-    requires as_many { length rows.now ≡ length proofs.now }
-    requires all { HasObligations own.now (length rows.now) }
-    ensures { OnOk result (AppendsEachOwnLine (question_body asked.now.question.now) asked.now.options asked.now.parts.now own.now rows.now (map certificate_view proofs.now) out.old.items out.new.items) }
+    requires contains { IsContainment asked.now.question.now.body.verb }
+    requires counted { length asked.now.parts.now ≡ length (auxiliary_names asked.now.question.now.body.names asked.now.question.now.body.verb) }
+    requires origins { origins_of asked.now.constraints.now ≡ question_origins asked.now.question.now.body }
+    requires there { AreListed (variable_count asked.now.question.now.body) (length asked.now.constraints.now) owed.now.proofs.now }
+    requires free { IsFreeProblem asked.now.question.now.body free.now }
+    requires over { All (IsOver (size_of free.now.space)) owed.now.rows.now }
+    requires as_many { length owed.now.rows.now ≡ length owed.now.proofs.now }
+    requires all { HasObligations own.now (length owed.now.rows.now) }
+    ensures { OnOk result (AppendsEachOwnLine asked.now.question.now.body asked.now.options asked.now.parts.now own.now owed.now.rows.now (certificates_of owed.now) out.old.items out.new.items) }
 {
-    let mut rows_left = rows;
-    let mut proofs_left = proofs;
+    let mut rows_left = owed.rows;
+    let mut proofs_left = owed.proofs;
     for constraint in own {
         let count = obliged(constraint.kind);
         let (own_rows, later_rows) = rows_left.split_at(count);
         let (own_proofs, later_proofs) = proofs_left.split_at(count);
-        let origin = constraint.origin;
-        write_own_line(alloc, out, asked, free, origin, own_rows, own_proofs)?;
+        let of_line = Obligations {
+            rows: own_rows,
+            proofs: own_proofs,
+        };
+        write_own_line(alloc, out, asked, free, constraint.origin, &of_line)?;
         rows_left = later_rows;
         proofs_left = later_proofs;
     }
@@ -385,28 +379,24 @@ pub fn write_contained(
     asked: &Containment<'_>,
     proofs: &[Certificate],
 ) -> Result<(), AllocError>
-    requires question { IsQuestion (question_body asked.now.question.now) }
-    requires some { 1 ≤ variable_count (question_body asked.now.question.now) }
-    requires origins { origins_of asked.now.constraints.now ≡ question_origins (question_body asked.now.question.now) }
-    requires there { AreListed (variable_count (question_body asked.now.question.now)) (length asked.now.constraints.now) proofs.now }
-    requires counted { length asked.now.parts.now ≡ length (auxiliary_names (question_body asked.now.question.now).names (question_body asked.now.question.now).verb) }
-    requires fits { HasQuestionShape (question_body asked.now.question.now) (contained_by asked.now.parts.now proofs.now) }
-    ensures { OnOk result (AppendsDetails (question_body asked.now.question.now) asked.now.options (contained_by asked.now.parts.now proofs.now) out.old.items out.new.items) }
+    requires origins { origins_of asked.now.constraints.now ≡ question_origins asked.now.question.now.body }
+    requires there { AreListed (variable_count asked.now.question.now.body) (length asked.now.constraints.now) proofs.now }
+    requires counted { length asked.now.parts.now ≡ length (auxiliary_names asked.now.question.now.body.names asked.now.question.now.body.verb) }
+    requires fits { HasQuestionShape asked.now.question.now.body (contained_by asked.now.parts.now proofs.now) }
+    ensures { OnOk result (AppendsDetails asked.now.question.now.body asked.now.options (contained_by asked.now.parts.now proofs.now) out.old.items out.new.items) }
 {
     let rows = obligation_rows(alloc, asked, proofs)?;
     let rows = rows.as_slice();
     if is_plain(asked.options.style) {
-        return write_proofs(
-            alloc,
-            out,
-            asked.question,
-            asked.options,
-            asked.constraints,
-            rows,
-            proofs,
-        );
+        let told = Asked {
+            question: asked.question,
+            options: asked.options,
+            constraints: asked.constraints,
+        };
+        return write_proofs(alloc, out, &told, rows, proofs);
     }
     let free = free_problem(alloc, asked.question);
     let own = own_constraints(alloc, asked.question)?;
-    write_own_lines(alloc, out, asked, &free, own.as_slice(), rows, proofs)
+    let owed = Obligations { rows, proofs };
+    write_own_lines(alloc, out, asked, &free, own.as_slice(), &owed)
 }

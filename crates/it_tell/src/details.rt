@@ -1,13 +1,11 @@
 //! The lines below the first one of an answer: proofs and points, and those of regions and containments.
-ghost use Rattle.std.specs.Prelude.{◌≡◌, ◌≤◌, ◌<◌, ◌+◌, ◌^◌, ◌++◌, length, map, codes, All, IfOk, IfSome, OnOk};
+ghost use Rattle.std.specs.Prelude.{◌≡◌, ◌≤◌, ◌<◌, ◌+◌, ◌^◌, ◌++◌, length, map, codes, IfOk, IfSome, OnOk};
 ghost use Rattle.std.specs.List.{flat_map};
 ghost use Rattle.it_space.specs.Answers.{answer_view, certificate_view};
 ghost use Rattle.it_space.specs.Rows.{value};
 ghost use Rattle.it_space.specs.Answers.AnswerView.{Yes};
-ghost use Rattle.it_polymatroid.specs.Elementals.{elementals};
-ghost use Rattle.it_question.specs.Limits.{IsQuestion};
 ghost use Rattle.it_syntax.specs.Meaning.{relation_view};
-ghost use Rattle.it_question.specs.Questions.{Prove, question_body};
+ghost use Rattle.it_question.specs.Questions.{Prove};
 ghost use Rattle.it_question.specs.ProblemLines.{problem_names};
 ghost use Rattle.it_canon.specs.TrueLines.{variable_count};
 ghost use Rattle.it_canon.specs.QuestionDemands.{question_origins};
@@ -17,7 +15,7 @@ ghost use Rattle.it_polymatroid.specs.Certificates.{Form};
 ghost use Rattle.it_report.specs.Steps.{IsAboutRelation};
 ghost use Rattle.it_terms.specs.FunctionProofs.{ArePrinted};
 ghost use Rattle.it_tell.specs.Tellings.{ArePrintedSteps, ArePrintedTexts, AreProofSteps, AreProofTexts, IsPointText, IsProofText, indented_line, step_line, weights_text};
-ghost use Rattle.it_tell.specs.Steps.{AppendsDetails, AppendsPoint, AppendsProof, AppendsProofs, AreFormRows, IsStyled, form_with_proof};
+ghost use Rattle.it_tell.specs.Steps.{AppendsDetails, AppendsPoint, AppendsProof, AppendsProofs, AreFormRows, IsListed, IsStyled, proven_form};
 
 use crate::containments::{Containment, write_contained};
 use crate::regions::write_rows;
@@ -29,7 +27,7 @@ use it_problems::Constraint;
 use it_question::types::{Question, Verb};
 use it_space::{Answer, Certificate, Point, Row};
 use it_syntax::types::Relation;
-use it_terms::{PrintedProof, printed_form, printed_steps, told_form, told_steps};
+use it_terms::{PrintedProof, Proven, printed_form, printed_steps, told_form, told_steps};
 use std::alloc::{AllocError, Global};
 
 /// Appends a text as a line below the first one.
@@ -50,9 +48,8 @@ fn weights_text(
     constraints: &[Constraint],
     certificate: &Certificate,
 ) -> Result<Vec<u8>, AllocError>
-    requires some { 1 ≤ variable_count (question_body question.now) }
-    requires there { All (λ w. w.0 < length (elementals (variable_count (question_body question.now))) + length constraints.now) certificate.now.weights.items }
-    ensures { IfOk result (λ t. t.items ≡ weights_text (question_body question.now) (origins_of constraints.now) (certificate_view certificate.now)) }
+    requires there { IsListed (variable_count question.now.body) (length constraints.now) certificate.now }
+    ensures { IfOk result (λ t. t.items ≡ weights_text question.now.body (origins_of constraints.now) (certificate_view certificate.now)) }
 {
     let mut out = Vec::new(alloc);
     out.extend_from_slice(b"as weights ")?;
@@ -65,10 +62,10 @@ fn weights_text(
 
 /// The relation of a question that is about one.
 fn relation_of(question: &Question) -> &Relation
-    requires { IsAboutRelation (question_body question.now).verb }
-    ensures { (question_body question.now).verb ≡ Prove (relation_view result.now) }
+    requires { IsAboutRelation question.now.body.verb }
+    ensures { question.now.body.verb ≡ Prove (relation_view result.now) }
 {
-    let Verb::Prove(relation) = &question.verb else {
+    let Verb::Prove(relation) = question.verb() else {
         unreachable!()
     };
     relation
@@ -80,15 +77,23 @@ fn relation_rows(
     question: &Question,
     proofs: &[Certificate],
 ) -> Result<Vec<Row>, AllocError>
-    requires question { IsQuestion (question_body question.now) }
-    requires fits { HasQuestionShape (question_body question.now) (Yes (map certificate_view proofs.now)) }
-    ensures { IfOk result (λ rows. AreFormRows (question_body question.now) (Yes (map certificate_view proofs.now)) rows.items) }
+    requires fits { HasQuestionShape question.now.body (Yes (map certificate_view proofs.now)) }
+    ensures { IfOk result (λ rows. AreFormRows question.now.body (Yes (map certificate_view proofs.now)) rows.items) }
 {
+    question.facts();
     // the proofs are named in the clauses alone
     let _proofs = proofs;
     let relation = relation_of(question);
-    let rows = target_rows(alloc, relation, question.names.space())?;
+    let rows = target_rows(alloc, relation, question.space())?;
     Ok(rows)
+}
+
+/// A question with how it is told and the constraints of its problem, which are the generators after the elemental inequalities.
+#[derive(Clone, Copy)]
+pub struct Asked<'a> {
+    pub question: &'a Question,
+    pub options: Options,
+    pub constraints: &'a [Constraint],
 }
 
 /// The text of a proof, and those of its steps.
@@ -134,8 +139,7 @@ fn steps_under(
     lines: &[u32],
     named: &[(u32, i128)],
 ) -> Result<Vec<Vec<u8>>, AllocError>
-    requires { IsQuestion (question_body question.now) }
-    ensures { IfOk result (λ steps. ArePrintedSteps (question_body question.now) options lines.now named.now proof.now (map (λ s. s.items) steps.items)) }
+    ensures { IfOk result (λ steps. ArePrintedSteps question.now.body options lines.now named.now proof.now (map (λ s. s.items) steps.items)) }
 {
     if !options.steps {
         return Ok(Vec::new(alloc));
@@ -161,8 +165,7 @@ fn styled_texts(
     proof: PrintedProof,
     options: Options,
 ) -> Result<Option<Texts>, AllocError>
-    requires { IsQuestion (question_body question.now) }
-    ensures { IfOk result (λ o. IfSome o (λ t. (target : Form) → ArePrinted (question_body question.now) target proof.lines.items proof.named.items proof.text.items proof.whole.items proof.by.items → ArePrintedTexts (question_body question.now) options target (record { proof = t.proof.items; steps = map (λ s. s.items) t.steps.items }))) }
+    ensures { IfOk result (λ o. IfSome o (λ t. (target : Form) → ArePrinted question.now.body target proof.lines.items proof.named.items proof.text.items proof.whole.items proof.by.items → ArePrintedTexts question.now.body options target (record { proof = t.proof.items; steps = map (λ s. s.items) t.steps.items }))) }
 {
     let PrintedProof {
         text,
@@ -190,18 +193,15 @@ fn styled_texts(
 fn printed_texts(
     alloc: Global,
     question: &Question,
-    row: &Row,
-    certificate: &Certificate,
-    line: Option<&[u8]>,
+    proven: &Proven<'_>,
     options: Options,
 ) -> Result<Option<Texts>, AllocError>
-    requires { IsQuestion (question_body question.now) }
-    ensures { IfOk result (λ o. IfSome o (λ t. ArePrintedTexts (question_body question.now) options (value row.now) (record { proof = t.proof.items; steps = map (λ s. s.items) t.steps.items }))) }
+    ensures { IfOk result (λ o. IfSome o (λ t. ArePrintedTexts question.now.body options (value proven.now.row.now) (record { proof = t.proof.items; steps = map (λ s. s.items) t.steps.items }))) }
 {
     if is_plain(options.style) {
         return Ok(None);
     }
-    let Some(proof) = printed_form(alloc, question, row, certificate, line, options.short)? else {
+    let Some(proof) = printed_form(alloc, question, proven, options.short)? else {
         return Ok(None);
     };
     let texts = styled_texts(alloc, question, proof, options)?;
@@ -210,24 +210,15 @@ fn printed_texts(
 
 /// The proof of a row as an equation that is true of every map, or its weights.
 #[tactic(auto, unfolding(crate::specs::Tellings::IsProofText))]
-fn plain_proof(
-    alloc: Global,
-    question: &Question,
-    constraints: &[Constraint],
-    row: &Row,
-    certificate: &Certificate,
-    line: Option<&[u8]>,
-    options: Options,
-) -> Result<Vec<u8>, AllocError>
-    requires question { IsQuestion (question_body question.now) }
-    requires some { 1 ≤ variable_count (question_body question.now) }
-    requires origins { origins_of constraints.now ≡ question_origins (question_body question.now) }
-    requires there { All (λ w. w.0 < length (elementals (variable_count (question_body question.now))) + length constraints.now) certificate.now.weights.items }
-    ensures { IfOk result (λ t. IsProofText (question_body question.now) (form_with_proof row.now certificate.now) t.items) }
+fn plain_proof(alloc: Global, asked: &Asked<'_>, proven: &Proven<'_>) -> Result<Vec<u8>, AllocError>
+    requires origins { origins_of asked.now.constraints.now ≡ question_origins asked.now.question.now.body }
+    requires there { IsListed (variable_count asked.now.question.now.body) (length asked.now.constraints.now) proven.now.certificate.now }
+    ensures { IfOk result (λ t. IsProofText asked.now.question.now.body (proven_form proven.now) t.items) }
 {
-    match told_form(alloc, question, row, certificate, line, options.short)? {
+    let question = asked.question;
+    match told_form(alloc, question, proven, asked.options.short)? {
         Some(text) => Ok(text),
-        None => weights_text(alloc, question, constraints, certificate),
+        None => weights_text(alloc, question, asked.constraints, proven.certificate),
     }
 }
 
@@ -238,8 +229,7 @@ fn steps_of(
     options: Options,
     proof: &[u8],
 ) -> Result<Vec<Vec<u8>>, AllocError>
-    requires { IsQuestion (question_body question.now) }
-    ensures { IfOk result (λ steps. AreProofSteps (question_body question.now) options proof.now (map (λ s. s.items) steps.items)) }
+    ensures { IfOk result (λ steps. AreProofSteps question.now.body options proof.now (map (λ s. s.items) steps.items)) }
 {
     if !options.steps {
         return Ok(Vec::new(alloc));
@@ -251,62 +241,26 @@ fn steps_of(
 }
 
 /// The texts of the proof of a row as an equation that is true of every map, or its weights.
-fn plain_texts(
-    alloc: Global,
-    question: &Question,
-    constraints: &[Constraint],
-    row: &Row,
-    certificate: &Certificate,
-    line: Option<&[u8]>,
-    options: Options,
-) -> Result<Texts, AllocError>
-    requires question { IsQuestion (question_body question.now) }
-    requires some { 1 ≤ variable_count (question_body question.now) }
-    requires origins { origins_of constraints.now ≡ question_origins (question_body question.now) }
-    requires there { All (λ w. w.0 < length (elementals (variable_count (question_body question.now))) + length constraints.now) certificate.now.weights.items }
-    ensures { IfOk result (λ t. AreProofTexts (question_body question.now) options (form_with_proof row.now certificate.now) (record { proof = t.proof.items; steps = map (λ s. s.items) t.steps.items })) }
+fn plain_texts(alloc: Global, asked: &Asked<'_>, proven: &Proven<'_>) -> Result<Texts, AllocError>
+    requires origins { origins_of asked.now.constraints.now ≡ question_origins asked.now.question.now.body }
+    requires there { IsListed (variable_count asked.now.question.now.body) (length asked.now.constraints.now) proven.now.certificate.now }
+    ensures { IfOk result (λ t. AreProofTexts asked.now.question.now.body asked.now.options (proven_form proven.now) (record { proof = t.proof.items; steps = map (λ s. s.items) t.steps.items })) }
 {
-    let proof = plain_proof(
-        alloc,
-        question,
-        constraints,
-        row,
-        certificate,
-        line,
-        options,
-    )?;
-    let steps = steps_of(alloc, question, options, proof.as_slice())?;
+    let proof = plain_proof(alloc, asked, proven)?;
+    let steps = steps_of(alloc, asked.question, asked.options, proof.as_slice())?;
     Ok(Texts { proof, steps })
 }
 
 /// The texts of the proof of a row in the question's own terms, or of its weights.
 #[tactic(auto, unfolding(crate::specs::Tellings::AreProofTexts))]
-fn proof_texts(
-    alloc: Global,
-    question: &Question,
-    constraints: &[Constraint],
-    row: &Row,
-    certificate: &Certificate,
-    line: Option<&[u8]>,
-    options: Options,
-) -> Result<Texts, AllocError>
-    requires question { IsQuestion (question_body question.now) }
-    requires some { 1 ≤ variable_count (question_body question.now) }
-    requires origins { origins_of constraints.now ≡ question_origins (question_body question.now) }
-    requires there { All (λ w. w.0 < length (elementals (variable_count (question_body question.now))) + length constraints.now) certificate.now.weights.items }
-    ensures { IfOk result (λ t. AreProofTexts (question_body question.now) options (form_with_proof row.now certificate.now) (record { proof = t.proof.items; steps = map (λ s. s.items) t.steps.items })) }
+fn proof_texts(alloc: Global, asked: &Asked<'_>, proven: &Proven<'_>) -> Result<Texts, AllocError>
+    requires origins { origins_of asked.now.constraints.now ≡ question_origins asked.now.question.now.body }
+    requires there { IsListed (variable_count asked.now.question.now.body) (length asked.now.constraints.now) proven.now.certificate.now }
+    ensures { IfOk result (λ t. AreProofTexts asked.now.question.now.body asked.now.options (proven_form proven.now) (record { proof = t.proof.items; steps = map (λ s. s.items) t.steps.items })) }
 {
-    match printed_texts(alloc, question, row, certificate, line, options)? {
+    match printed_texts(alloc, asked.question, proven, asked.options)? {
         Some(texts) => Ok(texts),
-        None => plain_texts(
-            alloc,
-            question,
-            constraints,
-            row,
-            certificate,
-            line,
-            options,
-        ),
+        None => plain_texts(alloc, asked, proven),
     }
 }
 
@@ -330,65 +284,43 @@ fn write_steps(out: &mut Vec<u8>, steps: &[Vec<u8>]) -> Result<(), AllocError>
     Ok(())
 }
 
-/// Appends the lines of the proof of a row; with the terms of `line` on the left, where the row is that of one of its targets.
+/// Appends the lines of the proof of a row; with the terms of its line on the left, where the row is that of one of its targets.
 pub fn write_proof(
     alloc: Global,
     out: &mut Vec<u8>,
-    question: &Question,
-    options: Options,
-    constraints: &[Constraint],
-    row: &Row,
-    certificate: &Certificate,
-    line: Option<&[u8]>,
+    asked: &Asked<'_>,
+    proven: &Proven<'_>,
 ) -> Result<(), AllocError>
-    requires question { IsQuestion (question_body question.now) }
-    requires some { 1 ≤ variable_count (question_body question.now) }
-    requires origins { origins_of constraints.now ≡ question_origins (question_body question.now) }
-    requires there { All (λ w. w.0 < length (elementals (variable_count (question_body question.now))) + length constraints.now) certificate.now.weights.items }
-    ensures { OnOk result (AppendsProof (question_body question.now) options (form_with_proof row.now certificate.now) out.old.items out.new.items) }
+    requires origins { origins_of asked.now.constraints.now ≡ question_origins asked.now.question.now.body }
+    requires there { IsListed (variable_count asked.now.question.now.body) (length asked.now.constraints.now) proven.now.certificate.now }
+    ensures { OnOk result (AppendsProof asked.now.question.now.body asked.now.options (proven_form proven.now) out.old.items out.new.items) }
 {
-    let texts = proof_texts(
-        alloc,
-        question,
-        constraints,
-        row,
-        certificate,
-        line,
-        options,
-    )?;
+    let texts = proof_texts(alloc, asked, proven)?;
     write_indented(out, texts.proof.as_slice())?;
     write_steps(out, texts.steps.as_slice())
 }
 
 /// Appends the lines of each proof of a row, in order.
-pub fn write_proofs(
+pub fn write_proofs<'a>(
     alloc: Global,
     out: &mut Vec<u8>,
-    question: &Question,
-    options: Options,
-    constraints: &[Constraint],
-    rows: &[Row],
-    proofs: &[Certificate],
+    asked: &Asked<'_>,
+    rows: &'a [Row],
+    proofs: &'a [Certificate],
 ) -> Result<(), AllocError>
-    requires question { IsQuestion (question_body question.now) }
-    requires some { 1 ≤ variable_count (question_body question.now) }
-    requires origins { origins_of constraints.now ≡ question_origins (question_body question.now) }
-    requires there { AreListed (variable_count (question_body question.now)) (length constraints.now) proofs.now }
+    requires origins { origins_of asked.now.constraints.now ≡ question_origins asked.now.question.now.body }
+    requires there { AreListed (variable_count asked.now.question.now.body) (length asked.now.constraints.now) proofs.now }
     requires as_many { length rows.now ≡ length proofs.now }
-    ensures { OnOk result (AppendsProofs (question_body question.now) options rows.now (map certificate_view proofs.now) out.old.items out.new.items) }
+    ensures { OnOk result (AppendsProofs asked.now.question.now.body asked.now.options rows.now (map certificate_view proofs.now) out.old.items out.new.items) }
 {
     for (i, certificate) in proofs.iter().enumerate() {
         let row = &rows[i];
-        write_proof(
-            alloc,
-            out,
-            question,
-            options,
-            constraints,
+        let proven = Proven {
             row,
             certificate,
-            None,
-        )?;
+            line: None,
+        };
+        write_proof(alloc, out, asked, &proven)?;
     }
     Ok(())
 }
@@ -402,30 +334,25 @@ fn write_relation_proofs(
     constraints: &[Constraint],
     proofs: &[Certificate],
 ) -> Result<(), AllocError>
-    requires question { IsQuestion (question_body question.now) }
-    requires some { 1 ≤ variable_count (question_body question.now) }
-    requires origins { origins_of constraints.now ≡ question_origins (question_body question.now) }
-    requires there { AreListed (variable_count (question_body question.now)) (length constraints.now) proofs.now }
-    requires fits { HasQuestionShape (question_body question.now) (Yes (map certificate_view proofs.now)) }
-    ensures { OnOk result (AppendsDetails (question_body question.now) options (Yes (map certificate_view proofs.now)) out.old.items out.new.items) }
+    requires origins { origins_of constraints.now ≡ question_origins question.now.body }
+    requires there { AreListed (variable_count question.now.body) (length constraints.now) proofs.now }
+    requires fits { HasQuestionShape question.now.body (Yes (map certificate_view proofs.now)) }
+    ensures { OnOk result (AppendsDetails question.now.body options (Yes (map certificate_view proofs.now)) out.old.items out.new.items) }
 {
     let rows = relation_rows(alloc, question, proofs)?;
-    write_proofs(
-        alloc,
-        out,
+    let asked = Asked {
         question,
         options,
         constraints,
-        rows.as_slice(),
-        proofs,
-    )
+    };
+    write_proofs(alloc, out, &asked, rows.as_slice(), proofs)
 }
 
 /// A point as answers have it.
 fn values_of(alloc: Global, question: &Question, point: &Point) -> Result<Vec<u8>, AllocError>
-    requires there { length point.now < 2 ^ variable_count (question_body question.now) + length (problem_names (question_body question.now)).rates }
+    requires there { length point.now < 2 ^ variable_count question.now.body + length (problem_names question.now.body).rates }
     requires few { length point.now < 2 ^ 16 }
-    ensures { IfOk result (λ t. t.items ≡ codes "as point " ++ values_text (problem_names (question_body question.now)) point.now) }
+    ensures { IfOk result (λ t. t.items ≡ codes "as point " ++ values_text (problem_names question.now.body) point.now) }
 {
     let values = values_text(alloc, problem_names(question), point)?;
     let mut text = Vec::new(alloc);
@@ -437,10 +364,9 @@ fn values_of(alloc: Global, question: &Question, point: &Point) -> Result<Vec<u8
 /// A point by facts that determine it, or as answers have it.
 #[tactic(auto, unfolding(crate::specs::Tellings::IsPointText))]
 fn any_point(alloc: Global, question: &Question, point: &Point) -> Result<Vec<u8>, AllocError>
-    requires question { IsQuestion (question_body question.now) }
-    requires there { length point.now < 2 ^ variable_count (question_body question.now) + length (problem_names (question_body question.now)).rates }
+    requires there { length point.now < 2 ^ variable_count question.now.body + length (problem_names question.now.body).rates }
     requires few { length point.now < 2 ^ 16 }
-    ensures { IfOk result (λ t. IsPointText (problem_names (question_body question.now)) point.now t.items) }
+    ensures { IfOk result (λ t. IsPointText (problem_names question.now.body) point.now t.items) }
 {
     match told_point(alloc, question, point)? {
         Some(text) => Ok(text),
@@ -455,10 +381,9 @@ fn write_point(
     question: &Question,
     point: &Point,
 ) -> Result<(), AllocError>
-    requires question { IsQuestion (question_body question.now) }
-    requires there { length point.now < 2 ^ variable_count (question_body question.now) + length (problem_names (question_body question.now)).rates }
+    requires there { length point.now < 2 ^ variable_count question.now.body + length (problem_names question.now.body).rates }
     requires few { length point.now < 2 ^ 16 }
-    ensures { OnOk result (AppendsPoint (problem_names (question_body question.now)) point.now out.old.items out.new.items) }
+    ensures { OnOk result (AppendsPoint (problem_names question.now.body) point.now out.old.items out.new.items) }
 {
     let text = any_point(alloc, question, point)?;
     write_indented(out, text.as_slice())
@@ -474,12 +399,10 @@ pub fn write_details(
     constraints: &[Constraint],
     answer: &Answer,
 ) -> Result<(), AllocError>
-    requires question { IsQuestion (question_body question.now) }
-    requires some { 1 ≤ variable_count (question_body question.now) }
-    requires origins { origins_of constraints.now ≡ question_origins (question_body question.now) }
-    requires fits { HasQuestionShape (question_body question.now) (answer_view answer.now) }
-    requires printable { IsPrintable (question_body question.now) (length constraints.now) answer.now }
-    ensures { OnOk result (AppendsDetails (question_body question.now) options (answer_view answer.now) out.old.items out.new.items) }
+    requires origins { origins_of constraints.now ≡ question_origins question.now.body }
+    requires fits { HasQuestionShape question.now.body (answer_view answer.now) }
+    requires printable { IsPrintable question.now.body (length constraints.now) answer.now }
+    ensures { OnOk result (AppendsDetails question.now.body options (answer_view answer.now) out.old.items out.new.items) }
 {
     match answer {
         Answer::Yes(proofs) => write_relation_proofs(

@@ -1,7 +1,6 @@
 //! The first line of an answer.
 ghost use Rattle.std.specs.Prelude.{◌≡◌, ◌≤◌, ◌++◌, length, codes, decimal, IfOk};
 ghost use Rattle.it_space.specs.Answers.{answer_view};
-ghost use Rattle.it_question.specs.Questions.{question_body};
 ghost use Rattle.it_canon.specs.TrueLines.{variable_count};
 ghost use Rattle.it_print.specs.Lines.{IsPrintable};
 ghost use Rattle.it_report.specs.LineVerdicts.{numbered_line};
@@ -45,9 +44,8 @@ pub fn head_line(
     constraints: &[Constraint],
     answer: &Answer,
 ) -> Result<Vec<u8>, AllocError>
-    requires some { 1 ≤ variable_count (question_body question.now) }
-    requires printable { IsPrintable (question_body question.now) (length constraints.now) answer.now }
-    ensures { IfOk result (λ t. t.items ≡ head_line k (question_body question.now) (answer_view answer.now)) }
+    requires printable { IsPrintable question.now.body (length constraints.now) answer.now }
+    ensures { IfOk result (λ t. t.items ≡ head_line k question.now.body (answer_view answer.now)) }
 {
     match answer {
         Answer::Yes(_) => numbered_line(alloc, k, b"yes"),

@@ -2,7 +2,6 @@
 ghost use Rattle.it_tell.specs.Laws.{EachLineIsTold, Headline, ToldAnswersAreTrue, ToldCodesAreTrue};
 
 /// What a call that is done has written: what is told of each line of all that the source had.
-#[tactic(auto, using(crate::proofs::LawLemmas::headline))]
 pub fn headline()
     ensures { Headline }
 {}

@@ -1,13 +1,11 @@
 //! What is told of a line of a report.
 ghost use Rattle.std.specs.Prelude.{◌≡◌, length, IfOk};
 ghost use Rattle.it_space.specs.Answers.{answer_view};
-ghost use Rattle.it_question.specs.Limits.{IsQuestion};
-ghost use Rattle.it_question.specs.Questions.{question_body};
 ghost use Rattle.it_canon.specs.QuestionDemands.{question_demands};
 ghost use Rattle.it_certificate.specs.AnswerShapes.{HasQuestionShape};
 ghost use Rattle.it_print.specs.Lines.{IsPrintable};
 ghost use Rattle.it_certificate.specs.Bounds.{bounds_view};
-ghost use Rattle.it_certificate.specs.CodeReading.{HasCodedShape, reported_code_view};
+ghost use Rattle.it_certificate.specs.CodeReading.{HasCodedShape};
 ghost use Rattle.it_certificate.specs.Reports.{KeepsLimits};
 ghost use Rattle.it_report.specs.LineVerdicts.{numbered_line};
 ghost use Rattle.it_tell.specs.Tellings.{bounds_words};
@@ -19,19 +17,12 @@ use crate::factors::best_line;
 use crate::heads::{head_line, numbered_line};
 use crate::settings::Options;
 use it_canon::problem;
-use it_certificate::{ReportFault, Reported, ReportedBounds, ReportedCode, answer_from_json};
+use it_certificate::{Reported, ReportedBounds, ReportedCode, answer_from_json};
 use it_print::write_number;
 use it_question::types::Question;
-use it_report::judge;
+use it_report::{JudgedLine, judge_fault, judge_reported};
 use it_space::Answer;
 use std::alloc::{AllocError, Global};
-
-/// The lines about a line of a report, and whether they say `invalid`.
-#[derive(Debug, Drop)]
-pub struct ToldLine {
-    pub text: Vec<u8>,
-    pub invalid: bool,
-}
 
 /// The lines about an answer to question k.
 #[tactic(auto, unfolding(crate::specs::Steps::IsAnsweredText, crate::specs::Steps::AppendsDetails))]
@@ -42,10 +33,9 @@ fn answered_text(
     question: &Question,
     answer: &Answer,
 ) -> Result<Vec<u8>, AllocError>
-    requires question { IsQuestion (question_body question.now) }
-    requires fits { HasQuestionShape (question_body question.now) (answer_view answer.now) }
-    requires printable { IsPrintable (question_body question.now) (length (question_demands (question_body question.now))) answer.now }
-    ensures { IfOk result (λ t. IsAnsweredText options k (question_body question.now) (answer_view answer.now) t.items) }
+    requires fits { HasQuestionShape question.now.body (answer_view answer.now) }
+    requires printable { IsPrintable question.now.body (length (question_demands question.now.body)) answer.now }
+    ensures { IfOk result (λ t. IsAnsweredText options k question.now.body (answer_view answer.now) t.items) }
 {
     let problem = problem(alloc, question)?;
     let constraints = problem.constraints();
@@ -64,13 +54,12 @@ fn coded_text(
     answer: &Answer,
     code: &ReportedCode,
 ) -> Result<Vec<u8>, AllocError>
-    requires question { IsQuestion (question_body question.now) }
-    requires fits { HasCodedShape (question_body question.now) (answer_view answer.now) (reported_code_view code.now) }
-    requires printable { IsPrintable (question_body question.now) (length (question_demands (question_body question.now))) answer.now }
-    ensures { IfOk result (λ t. IsCodedText options k (question_body question.now) (answer_view answer.now) (reported_code_view code.now) t.items) }
+    requires fits { HasCodedShape question.now.body (answer_view answer.now) code.now }
+    requires printable { IsPrintable question.now.body (length (question_demands question.now.body)) answer.now }
+    ensures { IfOk result (λ t. IsCodedText options k question.now.body (answer_view answer.now) code.now t.items) }
 {
     let mut text = answered_text(alloc, options, k, question, answer)?;
-    let code_line = code_text(alloc, &question.names, code)?;
+    let code_line = code_text(alloc, question.names(), code)?;
     write_indented(&mut text, code_line.as_slice())?;
     Ok(text)
 }
@@ -122,31 +111,26 @@ fn reported_text(
     }
 }
 
-/// What is told of line `k` of a report; lines are counted from 1, and `line` comes without its end. It is read twice, first to
-/// be judged and then to be told.
+/// What is told of line `k` of a report; lines are counted from 1, and `line` comes without its end. A line that is judged invalid
+/// is told as mode `check` tells it.
 pub fn tell_line(
     alloc: Global,
     options: Options,
     k: usize,
     line: &[u8],
-) -> Result<ToldLine, AllocError>
+) -> Result<JudgedLine, AllocError>
     ensures { IfOk result (λ t. IsToldLine options k line.now t.text.items t.invalid) }
 {
-    let judged = judge(alloc, k, line)?;
-    if judged.invalid {
-        return Ok(ToldLine {
-            text: judged.text,
-            invalid: true,
-        });
-    }
     let reported = match answer_from_json(alloc, line) {
         Ok(reported) => reported,
-        Err(ReportFault::Memory) => return Err(AllocError),
-        Err(ReportFault::NotJson) => unreachable!(),
-        Err(ReportFault::Shape { .. }) => unreachable!(),
+        Err(fault) => return judge_fault(alloc, k, fault),
     };
+    let judged = judge_reported(alloc, k, &reported)?;
+    if judged.invalid {
+        return Ok(judged);
+    }
     let text = reported_text(alloc, options, k, &reported)?;
-    Ok(ToldLine {
+    Ok(JudgedLine {
         text,
         invalid: false,
     })

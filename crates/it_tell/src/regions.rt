@@ -2,8 +2,6 @@
 ghost use Rattle.std.specs.Prelude.{◌≡◌, ◌≤◌, ◌^◌, ◌++◌, length, map, codes, not, nat_lt, All, IfOk, IfSome, OnOk};
 ghost use Rattle.std.specs.List.{insert};
 ghost use Rattle.it_problems.specs.declared.problems.Kind.TheVariants.{Inequality};
-ghost use Rattle.it_question.specs.Limits.{IsQuestion};
-ghost use Rattle.it_question.specs.Questions.{question_body};
 ghost use Rattle.it_question.specs.ProblemLines.{problem_names};
 ghost use Rattle.it_canon.specs.TrueLines.{variable_count};
 ghost use Rattle.it_print.specs.Lines.{IsRowOver, row_text};
@@ -24,8 +22,8 @@ use std::alloc::{AllocError, Global};
 
 /// A row as reports have it.
 fn reported_row(alloc: Global, question: &Question, row: &Row) -> Result<Vec<u8>, AllocError>
-    requires { IsRowOver (problem_names (question_body question.now)) row.now }
-    ensures { IfOk result (λ t. t.items ≡ codes "as row " ++ row_text (problem_names (question_body question.now)) Inequality row.now) }
+    requires { IsRowOver (problem_names question.now.body) row.now }
+    ensures { IfOk result (λ t. t.items ≡ codes "as row " ++ row_text (problem_names question.now.body) Inequality row.now) }
 {
     let own = row_text(alloc, row, Kind::Inequality, problem_names(question))?;
     let mut out = Vec::new(alloc);
@@ -36,9 +34,8 @@ fn reported_row(alloc: Global, question: &Question, row: &Row) -> Result<Vec<u8>
 
 /// A row in the question's own terms, or as reports have it.
 fn plain_row(alloc: Global, question: &Question, row: &Row) -> Result<Vec<u8>, AllocError>
-    requires question { IsQuestion (question_body question.now) }
-    requires over { IsRowOver (problem_names (question_body question.now)) row.now }
-    ensures { IfOk result (λ t. IsPlainRow (question_body question.now) row.now t.items) }
+    requires over { IsRowOver (problem_names question.now.body) row.now }
+    ensures { IfOk result (λ t. IsPlainRow question.now.body row.now t.items) }
 {
     match told_row(alloc, question, row)? {
         Some(text) => Ok(text),
@@ -54,8 +51,7 @@ fn styled_row(
     style: Style,
     row: &Row,
 ) -> Result<Option<PrintedRow>, AllocError>
-    requires { IsQuestion (question_body question.now) }
-    ensures { IfOk result (λ o. IfSome o (λ t. IsStyledRow (question_body question.now) style row.now t.lines.items t.text.items)) }
+    ensures { IfOk result (λ o. IfSome o (λ t. IsStyledRow question.now.body style row.now t.lines.items t.text.items)) }
 {
     if is_plain(style) {
         return Ok(None);
@@ -74,9 +70,8 @@ fn any_row(
     style: Style,
     row: &Row,
 ) -> Result<PrintedRow, AllocError>
-    requires question { IsQuestion (question_body question.now) }
-    requires over { IsRowOver (problem_names (question_body question.now)) row.now }
-    ensures { IfOk result (λ t. IsRowText (question_body question.now) style row.now t.lines.items t.text.items) }
+    requires over { IsRowOver (problem_names question.now.body) row.now }
+    ensures { IfOk result (λ t. IsRowText question.now.body style row.now t.lines.items t.text.items) }
 {
     if let Some(printed) = styled_row(alloc, question, style, row)? {
         return Ok(printed);
@@ -93,8 +88,7 @@ fn styled_origin(
     style: Style,
     row: &Row,
 ) -> Result<Vec<(u32, i128)>, AllocError>
-    requires { IsQuestion (question_body question.now) }
-    ensures { IfOk result (λ ws. IsRowOrigin (question_body question.now) style row.now ws.items) }
+    ensures { IfOk result (λ ws. IsRowOrigin question.now.body style row.now ws.items) }
 {
     if is_plain(style) {
         return Ok(Vec::new(alloc));
@@ -121,9 +115,8 @@ fn marked_row(
     style: Style,
     row: &(Mark, Row),
 ) -> Result<Vec<u8>, AllocError>
-    requires question { IsQuestion (question_body question.now) }
-    requires over { IsRowOver (problem_names (question_body question.now)) row.now.1 }
-    ensures { IfOk result (λ t. IsMarkedRowText (question_body question.now) style row.now t.items) }
+    requires over { IsRowOver (problem_names question.now.body) row.now.1 }
+    ensures { IfOk result (λ t. IsMarkedRowText question.now.body style row.now t.items) }
 {
     let PrintedRow { mut text, lines } = any_row(alloc, question, style, &row.1)?;
     let weights = styled_origin(alloc, question, style, &row.1)?;
@@ -277,9 +270,8 @@ pub fn write_rows(
     options: Options,
     rows: &[(Mark, Row)],
 ) -> Result<(), AllocError>
-    requires question { IsQuestion (question_body question.now) }
-    requires over { All (λ row. IsRowOver (problem_names (question_body question.now)) row.1) rows.now }
-    ensures { OnOk result (AppendsEach indented_line (IsMarkedRowText (question_body question.now) options.style) (told_rows options.style (variable_count (question_body question.now)) rows.now) out.old.items out.new.items) }
+    requires over { All (λ row. IsRowOver (problem_names question.now.body) row.1) rows.now }
+    ensures { OnOk result (AppendsEach indented_line (IsMarkedRowText question.now.body options.style) (told_rows options.style (variable_count question.now.body) rows.now) out.old.items out.new.items) }
 {
     let space = problem_names(question).space();
     let told = told_rows(alloc, options.style, rows, space.variables)?;

@@ -3,7 +3,6 @@ pub mod JudgedTexts
 pub mod SumLemmas
 pub mod EquationLemmas
 pub mod SameProofs
-pub mod NameLemmas
 pub mod ToldProofs
 pub mod StepLemmas
 pub mod SaidLemmas
@@ -13,3 +12,4 @@ pub mod SignLemmas
 pub mod RowLemmas
 pub mod PieceLemmas
 pub mod OriginLemmas
+pub mod AtomLemmas

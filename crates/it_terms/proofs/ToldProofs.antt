@@ -20,7 +20,7 @@ use Rattle.it_syntax.specs.NamesViews.{NamesView}
 use Rattle.it_elemental.specs.Generators.{is_equation}
 use Rattle.it_demand.specs.Demands.{Demand, demand_of, demands, equation}
 use Rattle.it_demand.proofs.MetLemmas.{IsSatisfied, givens_satisfied, rows_satisfied}
-use Rattle.it_question.specs.Questions.{OwnLinesView}
+use Rattle.it_question.specs.OwnLines.{OwnLinesView}
 use Rattle.it_question.specs.LineDemands.{line_demands}
 use Rattle.it_question.specs.ProblemLines.{problem_names, problem_lines}
 use Rattle.it_canon.specs.TrueLines.{AreTrueAt, variable_count}

@@ -35,22 +35,22 @@ use Rattle.it_terms.specs.Sums.{IsExcess, IsPlus, constraint_value}
 use Rattle.it_terms.specs.FunctionProofs.{AreSameUnder, IsProofUnder, IsSaid, TellsProofUnder, by_comment, named_sides_text, sides_text}
 
 -- the row of sums to which all was added
-pub record IsRowOfAll (s : Space) (r : RelationView) (turned : Bool) (cs : List Constraint) (ws : List (ℕ × ℤ)) (row : Terms) : Type 0 where
+pub record IsRowOfAll (s : Space) (r : RelationView) (negated : Bool) (cs : List Constraint) (ws : List (ℕ × ℤ)) (row : Terms) : Type 0 where
   pub canonical : Ascends 0 row
-  pub excess : IsExcess s r turned cs ws row
+  pub excess : IsExcess s r negated cs ws row
 
-pub row_of_all : (s : Space) (r : RelationView) (turned : Bool) (cs : List Constraint) (ws : List (ℕ × ℤ)) (difference row : Terms)
+pub row_of_all : (s : Space) (r : RelationView) (negated : Bool) (cs : List Constraint) (ws : List (ℕ × ℤ)) (difference row : Terms)
     (places : ℕ) (zeros new : List ℤ) → places ≡ size_of s + 1
-    → IsRowOf s (λ p. signed_by turned (difference_at s.variables p r)) difference → zeros ≡ replicate places (pos 0)
+    → IsRowOf s (λ p. signed_by negated (difference_at s.variables p r)) difference → zeros ≡ replicate places (pos 0)
     → IsPlus zeros new (λ p. value difference p +ℤ combination ws (constraint_value cs p)) → length zeros ≡ places
-    → row ≡ terms_from 1 (drop 1 new) → IsRowOfAll s r turned cs ws row
-row_of_all s r turned cs ws difference row places zeros new count is none plus counted e = rw e (record {
+    → row ≡ terms_from 1 (drop 1 new) → IsRowOfAll s r negated cs ws row
+row_of_all s r negated cs ws difference row places zeros new count is none plus counted e = rw e (record {
   canonical = row_ascends new (plus.within (subst (All IsWithin) (sym none) (All-replicate IsWithin places (pos 0) (omega arith))));
   excess = record {
     coordinates = row_up_to new (size_of s) (plus.complete ∙ counted ∙ count);
     same = λ p z. sum_from_zero (value (terms_from 1 (drop 1 new)) p) (dense_form new p) (dense_form zeros p) (value difference p)
         (combination ws (constraint_value cs p))
-        (signed_by turned (difference_at s.variables p r))
+        (signed_by negated (difference_at s.variables p r))
         (row-value new (terms_from 1 (drop 1 new)) p refl z) (plus.sum p) (ap (λ (xs : List ℤ). dense_form xs p) none ∙ zeros-total 0 places p) (is.same p z);
   };
 })

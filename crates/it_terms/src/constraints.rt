@@ -1,6 +1,6 @@
 //! Multiples of relations and of a question's constraints, in the terms of their lines. They are judged by the equation in
 //! which they stand.
-use crate::finding::turned;
+use crate::finding::negated;
 use crate::untold::Untold;
 use it_fraction::lcm;
 use it_problems::Origin;
@@ -65,8 +65,8 @@ pub fn put_relation(out: &mut Vec<Term>, relation: &Relation, times: i128) -> Re
     let left = relation.left.terms.as_slice();
     let right = relation.right.terms.as_slice();
     let multiple = with_denominators(with_denominators(1, left)?, right)?;
-    let signed = turned(times, relation.sign == Sign::AtMost)?;
-    let opposite = turned(signed, true)?;
+    let signed = negated(times, relation.sign == Sign::AtMost)?;
+    let opposite = negated(signed, true)?;
     if signed < 0 {
         put_side(out, right, multiple, opposite)?;
         put_side(out, left, multiple, signed)
@@ -120,7 +120,7 @@ fn put_independence(
         put_atom(out, Atom::Entropy { of: *member, given }, times)?;
     }
     let of = union_of(members);
-    put_atom(out, Atom::Entropy { of, given }, turned(times, true)?)
+    put_atom(out, Atom::Entropy { of, given }, negated(times, true)?)
 }
 
 /// Appends `times` times the form that part `part` of `given` demands to be at least 0, or to be 0; parts are counted from 1.
@@ -156,16 +156,16 @@ pub fn item_of<'a, T>(own: &'a [T], more: &'a [T], number: u16) -> Result<&'a T,
 
 /// The `given` lines of the first region of a question, if it has one.
 fn region_givens(question: &Question) -> &[Given] {
-    match &question.verb {
-        Verb::Contain { first, .. } => first.lines.givens.as_slice(),
+    match question.verb() {
+        Verb::Contain { first, .. } => first.lines().givens(),
         _ => &[],
     }
 }
 
 /// The `row` lines of the first region of a question, if it has one.
 fn region_rows(question: &Question) -> &[Relation] {
-    match &question.verb {
-        Verb::Contain { first, .. } => first.lines.rows.as_slice(),
+    match question.verb() {
+        Verb::Contain { first, .. } => first.lines().rows(),
         _ => &[],
     }
 }
@@ -180,7 +180,7 @@ pub fn put_constraint(
 ) -> Result<(), Untold> {
     match origin {
         Origin::Given { line, part, .. } => {
-            let own = question.lines.givens.as_slice();
+            let own = question.lines().givens();
             put_given(
                 out,
                 item_of(own, region_givens(question), line)?,
@@ -189,7 +189,7 @@ pub fn put_constraint(
             )
         }
         Origin::Rate { line } => {
-            let own = question.lines.rows.as_slice();
+            let own = question.lines().rows();
             put_relation(out, item_of(own, region_rows(question), line)?, times)
         }
     }

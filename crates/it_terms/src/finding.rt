@@ -190,7 +190,7 @@ pub fn common_multiple(alloc: Global, weights: &[(usize, Fraction)]) -> Result<i
 }
 
 /// `number`, negated if `negative`; `NotFound` on overflow.
-pub fn turned(number: i128, negative: bool) -> Result<i128, Untold> {
+pub fn negated(number: i128, negative: bool) -> Result<i128, Untold> {
     let signed = if negative {
         0i128.checked_sub(number)
     } else {
@@ -215,7 +215,7 @@ fn weight_term(
         return Err(Untold::NotFound);
     }
     let number = signed_product(weight.1.num(), scale / weight.1.den())?;
-    let times = turned(number, column % 2 == 1)?;
+    let times = negated(number, column % 2 == 1)?;
     term_of(times, measures[places[column / 2]].atom)
 }
 
@@ -250,7 +250,7 @@ fn is_multiple(terms: &[(u32, i128)], times: i128, others: &[(u32, i128)]) -> bo
 fn multiple_of(terms: &[(u32, i128)], others: &[(u32, i128)]) -> Result<i128, Untold> {
     match (terms, others) {
         ([term, ..], [other, ..]) => {
-            let times = turned(term.1, other.1 < 0)?;
+            let times = negated(term.1, other.1 < 0)?;
             if is_multiple(terms, times, others) {
                 Ok(times)
             } else {

@@ -7,6 +7,13 @@ use it_fraction::sum;
 use it_syntax::types::{Atom, Term};
 use std::alloc::{AllocError, Global};
 
+/// How terms over closed sets are written: as the first of the question's own measures that they are, else with few names.
+#[derive(Drop)]
+pub struct Notation<'a> {
+    pub closures: &'a Closures,
+    pub measures: &'a [Measure],
+}
+
 /// `times` copies of a term over closed sets.
 #[derive(Clone, Copy)]
 struct Summand {
@@ -164,18 +171,22 @@ fn in_order(
 /// `terms`, which have a plus and are over sets, as terms over closed sets: joined, in order, and with few names.
 pub fn folded_terms(
     alloc: Global,
-    closures: &Closures,
-    measures: &[Measure],
+    notation: &Notation<'_>,
     terms: &[Term],
 ) -> Result<Vec<Term>, Untold> {
     let mut summands = Vec::new(alloc);
     for term in terms {
-        if let Some(closed) = closures.fold(&term.atom) {
+        if let Some(closed) = notation.closures.fold(&term.atom) {
             add(&mut summands, term.number, closed)?;
         }
     }
-    let summands = joined(alloc, closures, summands)?;
-    Ok(in_order(alloc, closures, measures, summands.as_slice())?)
+    let summands = joined(alloc, notation.closures, summands)?;
+    Ok(in_order(
+        alloc,
+        notation.closures,
+        notation.measures,
+        summands.as_slice(),
+    )?)
 }
 
 /// The sum of the coefficients of `terms` at coordinates whose place over closed sets is `place`.

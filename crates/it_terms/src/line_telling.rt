@@ -6,8 +6,6 @@ ghost use Rattle.it_space.specs.Spaces.{IsSpace};
 ghost use Rattle.it_space.specs.Rows.{value};
 ghost use Rattle.it_syntax.specs.Givens.{IsRelationOf};
 ghost use Rattle.it_syntax.specs.Meaning.{relation_view};
-ghost use Rattle.it_question.specs.Limits.{IsQuestion};
-ghost use Rattle.it_question.specs.Questions.{question_body};
 ghost use Rattle.it_question.specs.ProblemLines.{problem_names};
 ghost use Rattle.it_terms.specs.Signs.{AreLeastTogether};
 ghost use Rattle.it_terms.specs.Tells.{SaysForms, TellsForms};
@@ -16,10 +14,9 @@ use crate::judging::is_same;
 use crate::measures::measures;
 use crate::reading::relation_text;
 use crate::substituting::substituted;
-use crate::telling::names_of;
 use crate::untold::Untold;
 use crate::writing::sums_text;
-use it_canon::target_rows;
+use it_canon::{problem_names, target_rows};
 use it_problems::Origin;
 use it_question::types::Question;
 use it_space::{Row, Space, VarSet, normal};
@@ -91,7 +88,7 @@ fn line_text(
     requires { 1 ≤ length names.now.variables }
 {
     let relation = substituted(alloc, question, parts, origin)?;
-    let measures = measures(alloc, question.source.as_slice(), names)?;
+    let measures = measures(alloc, question.source(), names)?;
     Ok(sums_text(
         alloc,
         measures.as_slice(),
@@ -112,10 +109,9 @@ pub fn told_line(
     origin: Origin,
     rows: &[Row],
 ) -> Result<Option<Vec<u8>>, AllocError>
-    requires { IsQuestion (question_body question.now) }
-    ensures { IfOk result (λ o. IfSome o (λ text. TellsForms (problem_names (question_body question.now)) (map value rows.now) text.items)) }
+    ensures { IfOk result (λ o. IfSome o (λ text. TellsForms (problem_names question.now.body) (map value rows.now) text.items)) }
 {
-    let names = names_of(question);
+    let names = problem_names(question);
     let text = match line_text(alloc, question, names, parts, origin) {
         Ok(text) => text,
         Err(Untold::Memory) => return Err(AllocError),

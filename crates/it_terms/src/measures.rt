@@ -1,11 +1,15 @@
 //! The entropies and mutual informations that a question's lines have, each as its author spelled it.
-ghost use Rattle.std.specs.Prelude.{◌<◌, ◌≤◌, length};
+ghost use Rattle.std.specs.Prelude.{◌≤◌, IfOk, length};
+ghost use Rattle.it_space.specs.Spaces.{IsSpace};
+ghost use Rattle.it_syntax.specs.Meaning.{IsAtomOf};
 
-use crate::reading::relation_text;
-use it_canon::canon;
-use it_space::Row;
-use it_syntax::Names;
-use it_syntax::types::{Atom, Relation};
+use crate::equations::side_row;
+use crate::reading::LONGEST_TEXT;
+use crate::substituting::once;
+use it_space::{Row, Space};
+use it_syntax::rest::{Piece, Rest, Stop};
+use it_syntax::types::{Atom, Code, Token, TokenKind};
+use it_syntax::{Names, entropy, line_tokens, mutual_information};
 use std::alloc::{AllocError, Global};
 
 /// An entropy or a mutual information, its spelling without blanks, and its row.
@@ -25,87 +29,79 @@ impl Drop for Measure {
     }
 }
 
-/// Put after a measure to read it by itself.
-const AT_LEAST_ZERO: &[u8] = b" >= 0";
-
-/// Whether a byte may stand in a word.
-fn is_word_byte(byte: u8) -> bool {
-    byte.is_ascii_alphanumeric() || byte == b'_'
-}
-
-/// Whether a byte is a blank.
-fn is_blank(byte: u8) -> bool {
-    byte == b' ' || byte == b'\t'
-}
-
-/// The index of the first byte from `from` on that is no blank; the length of `text` if there is none.
-fn after_blanks(text: &[u8], from: usize) -> usize {
-    for at in from..text.len() {
-        if !is_blank(text[at]) {
-            return at;
-        }
-    }
-    text.len()
-}
-
-/// Whether `byte` stands at `at`.
-fn stands(text: &[u8], at: usize, byte: u8) -> bool {
-    at < text.len() && text[at] == byte
-}
-
-/// Whether an entropy or a mutual information begins at `at`: with `H` or `I` and no byte of a word before it.
-fn begins_measure(text: &[u8], at: usize) -> bool
-    requires { at < length text.now }
+/// The entropy or the mutual information that begins with `word`; what it has after that is at the front of `rest`.
+#[tactic(auto, using(crate::proofs::AtomLemmas::entropy_limited, crate::proofs::AtomLemmas::mutual_information_limited))]
+fn atom(word: &[u8], rest: &mut Rest<'_>, names: &Names) -> Result<Atom, Stop>
+    ensures { IfOk result (IsAtomOf (length names.now.variables) (length names.now.rates)) }
 {
-    if text[at] != b'H' && text[at] != b'I' {
-        return false;
+    match word {
+        b"H" => entropy(rest, names),
+        b"I" => mutual_information(rest, names),
+        _ => Err(Stop::Fault(Code::Word)),
     }
-    let is_first = at == 0 || !is_word_byte(text[at - 1]);
-    is_first && stands(text, after_blanks(text, at + 1), b'(')
 }
 
-/// The bytes from `from` up to the next right parenthesis, without blanks.
-fn spelling_at(alloc: Global, text: &[u8], from: usize) -> Result<Vec<u8>, AllocError> {
+/// The bytes of the first token of `rest`, none where no token is left.
+fn first_text(rest: Rest<'_>) -> &[u8] {
+    match rest.tokens {
+        [first, ..] => &rest.line[first.start as usize..first.end as usize],
+        [] => b"",
+    }
+}
+
+/// The text of the tokens of `rest` but the last `left`, without blanks.
+fn spelling(alloc: Global, rest: Rest<'_>, left: usize) -> Result<Vec<u8>, AllocError> {
     let mut spelling = Vec::new(alloc);
-    for at in from..text.len() {
-        if !is_blank(text[at]) {
-            spelling.push(text[at])?;
-        }
-        if text[at] == b')' {
-            return Ok(spelling);
-        }
+    let mut unread = rest;
+    for _ in left..rest.tokens.len() {
+        spelling.extend_from_slice(first_text(unread))?;
+        unread = unread.front().1;
     }
     Ok(spelling)
 }
 
-/// The first atom of a relation's left side.
-fn first_atom(relation: &Relation) -> Atom {
-    match relation.left.terms.as_slice() {
-        [term, ..] => term.atom,
-        [] => Atom::Nothing,
-    }
+/// The row of `atom`.
+fn atom_row(alloc: Global, atom: Atom, space: Space) -> Result<Row, AllocError>
+    requires space { IsSpace space }
+    requires within { IsAtomOf space.variables space.rates atom }
+{
+    side_row(alloc, &[once(atom)], 1, space)
 }
 
-/// The measure of this spelling, None where it isn't read as one under these names.
+/// The measure that `atom` is, with this spelling.
 fn measure_of(
     alloc: Global,
+    atom: &Atom,
     spelling: Vec<u8>,
-    names: &Names,
-) -> Result<Option<Measure>, AllocError>
-    requires { 1 ≤ length names.now.variables }
+    space: Space,
+) -> Result<Measure, AllocError>
+    requires space { IsSpace space }
+    requires within { IsAtomOf space.variables space.rates atom.now }
 {
-    let mut text = Vec::new(alloc);
-    text.extend_from_slice(spelling.as_slice())?;
-    text.extend_from_slice(AT_LEAST_ZERO)?;
-    let Some(relation) = relation_text(alloc, text.as_slice(), names)? else {
-        return Ok(None);
-    };
-    let row = canon(alloc, &relation, names.space())?;
-    Ok(Some(Measure {
-        atom: first_atom(&relation),
+    let row = atom_row(alloc, *atom, space)?;
+    Ok(Measure {
+        atom: *atom,
         spelling,
         row,
-    }))
+    })
+}
+
+/// The measure at the front of `rest`, None where none is read there under these names.
+fn measure_at(alloc: Global, rest: Rest<'_>, names: &Names) -> Result<Option<Measure>, AllocError>
+    requires { 1 ≤ length names.now.variables }
+{
+    let (Piece::Word(word), mut after) = rest.front() else {
+        return Ok(None);
+    };
+    match atom(word, &mut after, names) {
+        Ok(atom) => {
+            let spelling = spelling(alloc, rest, after.tokens.len())?;
+            let measure = measure_of(alloc, &atom, spelling, names.space())?;
+            Ok(Some(measure))
+        }
+        Err(Stop::Fault(_)) => Ok(None),
+        Err(Stop::Memory) => Err(AllocError),
+    }
 }
 
 /// The spelling that the question's author gave an atom, if any.
@@ -128,6 +124,37 @@ fn put_new(measures: &mut Vec<Measure>, found: Option<Measure>) -> Result<(), Al
     Ok(())
 }
 
+/// Whether the token number `at` stands right after a number, as in `2H(X)`. Such a measure isn't taken.
+fn is_joined(tokens: &[Token], at: usize) -> bool {
+    match tokens.split_at(at.min(tokens.len())) {
+        ([.., number], [word, ..]) => {
+            matches!(number.kind, TokenKind::Number(_)) && number.end == word.start
+        }
+        _ => false,
+    }
+}
+
+/// Appends the measures of the tokens of `rest` that are read under `names`, in order, unless they are there already.
+fn put_read(
+    alloc: Global,
+    measures: &mut Vec<Measure>,
+    rest: Rest<'_>,
+    names: &Names,
+) -> Result<(), AllocError>
+    requires { 1 ≤ length names.now.variables }
+{
+    let tokens = rest.tokens;
+    let mut unread = rest;
+    for at in 0..tokens.len() {
+        if !is_joined(tokens, at) {
+            let measure = measure_at(alloc, unread, names)?;
+            put_new(measures, measure)?;
+        }
+        unread = unread.front().1;
+    }
+    Ok(())
+}
+
 /// Appends the measures of `line` that are read under `names`, in the line's order, unless they are there already.
 fn put_measures(
     alloc: Global,
@@ -137,14 +164,16 @@ fn put_measures(
 ) -> Result<(), AllocError>
     requires { 1 ≤ length names.now.variables }
 {
-    for at in 0..line.len() {
-        if begins_measure(line, at) {
-            let spelling = spelling_at(alloc, line, at)?;
-            let found = measure_of(alloc, spelling, names)?;
-            put_new(measures, found)?;
-        }
+    if line.len() > LONGEST_TEXT {
+        return Ok(());
     }
-    Ok(())
+    let found = line_tokens(alloc, line)?;
+    let rest = Rest {
+        line,
+        tokens: found.tokens.as_slice(),
+        misspelling: found.misspelling,
+    };
+    put_read(alloc, measures, rest, names)
 }
 
 /// The measures of a question's lines that are read under these names, each once, in order.

@@ -3,35 +3,33 @@ ghost use Rattle.std.specs.Prelude.{◌≡◌, ◌≤◌, IfOk, IfSome, [], fals
 ghost use Rattle.it_space.specs.Rows.{IsOver, value};
 ghost use Rattle.it_space.specs.Spaces.{size_of};
 ghost use Rattle.it_demand.specs.QuestionSpaces.{space_of};
-ghost use Rattle.it_question.specs.Limits.{IsQuestion};
-ghost use Rattle.it_question.specs.Questions.{question_body};
 ghost use Rattle.it_question.specs.ProblemLines.{problem_names};
 ghost use Rattle.it_terms.specs.FunctionProofs.{ArePrinted};
 ghost use Rattle.it_terms.specs.Proposals.{ArePrintedFrom};
 
 use crate::closed::{Closures, closures_of};
 use crate::constraints::put_side;
-use crate::folding::{folded_terms, vanishes};
+use crate::folding::{Notation, folded_terms, vanishes};
 use crate::joining::joined_terms;
 use crate::measures::measures;
 use crate::names::by_comment;
 use crate::proof_judging::Split;
+use crate::proven::Proven;
 use crate::proving::{
     Asked, Summands, goal_of, least_closed_summands, least_summands, put_weighted, sum_of_numbers,
     summed_up,
 };
-use crate::telling::names_of;
 use crate::under::{functions_of, is_nothing_under};
 use crate::under_judging::{Sides, judged_under, sides_excess};
 use crate::untold::Untold;
 use crate::writing::terms_text;
-use it_canon::problem;
+use it_canon::{problem, problem_names};
 use it_closure::Dependences;
 use it_elemental::count;
 use it_fraction::signed_product;
 use it_problems::Problem;
 use it_question::types::Question;
-use it_space::{Certificate, Row};
+use it_space::Row;
 use it_syntax::types::Term;
 use std::alloc::{AllocError, Global};
 
@@ -79,9 +77,13 @@ fn folded(
     closures: &Closures,
     summands: &Summands,
 ) -> Result<Summands, Untold> {
+    let notation = Notation {
+        closures,
+        measures: asked.measures,
+    };
     let mut folded = Summands {
         scale: summands.scale,
-        shannon: folded_terms(alloc, closures, asked.measures, summands.shannon.as_slice())?,
+        shannon: folded_terms(alloc, &notation, summands.shannon.as_slice())?,
         rest: Vec::new(alloc),
         weights: Vec::new(alloc),
     };
@@ -323,32 +325,36 @@ fn printed_by(
     }))
 }
 
-/// The proof of `target` from the constraints of `problem`, by a certificate.
+/// The proof of a row from the constraints of `problem`, by its certificate.
 fn any_printed(
     alloc: Global,
     question: &Question,
     problem: &Problem,
-    target: &Row,
-    certificate: &Certificate,
-    line: Option<&[u8]>,
+    proven: &Proven<'_>,
     short: bool,
 ) -> Result<Option<PrintedProof>, Untold>
-    requires question { IsQuestion (question_body question.now) }
-    requires space { problem.now.space ≡ space_of (problem_names (question_body question.now)) }
-    ensures { IfOk result (λ o. IfSome o (λ t. ArePrintedFrom (problem_names (question_body question.now)) (value target.now) problem.now.constraints t.lines.items t.named.items t.text.items t.whole.items t.by.items)) }
+    requires space { problem.now.space ≡ space_of (problem_names question.now.body) }
+    ensures { IfOk result (λ o. IfSome o (λ t. ArePrintedFrom (problem_names question.now.body) (value proven.now.row.now) problem.now.constraints t.lines.items t.named.items t.text.items t.whole.items t.by.items)) }
 {
-    let names = names_of(question);
-    let measures = measures(alloc, question.source.as_slice(), names)?;
-    let goal = goal_of(alloc, question, measures.as_slice(), names, target, line)?;
+    let names = problem_names(question);
+    let measures = measures(alloc, question.source(), names)?;
+    let goal = goal_of(
+        alloc,
+        question,
+        measures.as_slice(),
+        names,
+        proven.row,
+        proven.line,
+    )?;
     let asked = Asked {
         question,
         measures: measures.as_slice(),
         names,
-        target,
+        target: proven.row,
         goal: &goal,
         constraints: problem.constraints(),
     };
-    let summands = summed_up(alloc, &asked, certificate)?;
+    let summands = summed_up(alloc, &asked, proven.certificate)?;
     let dependences = Dependences::read(alloc, problem)?;
     let closures = closures_of(alloc, &dependences, names.space().variables)?;
     let folded = if short {
@@ -360,23 +366,20 @@ fn any_printed(
     printed_by(alloc, &asked, problem, &dependences, &summands)
 }
 
-/// The proof of `target` from the lines of a question, by a certificate, as papers print it; None where none was found. Over
+/// The proof of a row from the lines of a question, by its certificate, as papers print it; None where none was found. Over
 /// sets that are closed under the functions that the question's `given` lines say, terms that these make 0 are left out, and
 /// others are joined by the chain rules; constraints stand behind them by the names of their lines. The left side is that of
 /// `told_form`. With `short`, a proof with the least sum of terms is looked for as well, which may take long.
 pub fn printed_form(
     alloc: Global,
     question: &Question,
-    target: &Row,
-    certificate: &Certificate,
-    line: Option<&[u8]>,
+    proven: &Proven<'_>,
     short: bool,
 ) -> Result<Option<PrintedProof>, AllocError>
-    requires { IsQuestion (question_body question.now) }
-    ensures { IfOk result (λ o. IfSome o (λ t. ArePrinted (question_body question.now) (value target.now) t.lines.items t.named.items t.text.items t.whole.items t.by.items)) }
+    ensures { IfOk result (λ o. IfSome o (λ t. ArePrinted question.now.body (value proven.now.row.now) t.lines.items t.named.items t.text.items t.whole.items t.by.items)) }
 {
     let posed = problem(alloc, question)?;
-    match any_printed(alloc, question, &posed, target, certificate, line, short) {
+    match any_printed(alloc, question, &posed, proven, short) {
         Ok(proof) => Ok(proof),
         Err(Untold::NotFound) => Ok(None),
         Err(Untold::Memory) => Err(AllocError),

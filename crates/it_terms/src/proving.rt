@@ -2,8 +2,6 @@
 ghost use Rattle.std.specs.Prelude.{◌≤◌, ◌<◌, IfOk, IfSome, length};
 ghost use Rattle.it_space.specs.Rows.{value};
 ghost use Rattle.it_polymatroid.specs.Elementals.{elementals};
-ghost use Rattle.it_question.specs.Limits.{IsQuestion};
-ghost use Rattle.it_question.specs.Questions.{question_body};
 ghost use Rattle.it_terms.specs.Proposals.{MayProve};
 ghost use Rattle.it_terms.specs.Proofs.{TellsForm};
 ghost use Rattle.it_space.specs.Spaces.{most_variables};
@@ -16,17 +14,17 @@ use crate::joining::{add_term, joined_terms};
 use crate::judging::is_same;
 use crate::measures::{Measure, measures};
 use crate::proof_judging::{Proposal, Split, tells_proof};
+use crate::proven::Proven;
 use crate::reading::relation_text;
-use crate::shortest::{LeastSum, shortest, shortest_closed};
-use crate::telling::names_of;
+use crate::shortest::{LeastSum, Multiple, shortest, shortest_closed};
 use crate::untold::Untold;
 use crate::writing::sums_text;
-use it_canon::{problem, target_rows};
+use it_canon::{problem, problem_names, target_rows};
 use it_elemental::{Elemental, count, parts};
 use it_fraction::signed_product;
 use it_problems::Constraint;
 use it_question::types::{Question, Verb};
-use it_space::{Certificate, Row, Space, VarSet};
+use it_space::{Certificate, Row, VarSet};
 use it_syntax::Names;
 use it_syntax::types::{Atom, Relation, Sign, Term};
 use std::alloc::{AllocError, Global};
@@ -244,12 +242,15 @@ pub fn sum_of_numbers(terms: &[Term]) -> i128 {
     sum
 }
 
-/// The number of copies of the target's row in `scale` copies of the goal.
-fn times_of_goal(goal: &Goal, scale: i128) -> Result<i128, Untold> {
-    if goal.factor <= 0 {
+/// `scale` copies of the goal, as a multiple of the target's row.
+fn multiple_of_goal<'a>(asked: &Asked<'a>, scale: i128) -> Result<Multiple<'a>, Untold> {
+    if asked.goal.factor <= 0 {
         return Err(Untold::NotFound);
     }
-    Ok(signed_product(scale, goal.factor)?)
+    Ok(Multiple {
+        target: asked.target,
+        scale: signed_product(scale, asked.goal.factor)?,
+    })
 }
 
 /// The summands of a proof with the least sum of terms.
@@ -273,9 +274,9 @@ pub fn least_summands(
     scale: i128,
     most: i128,
 ) -> Result<Summands, Untold> {
-    let often = times_of_goal(asked.goal, scale)?;
+    let multiple = multiple_of_goal(asked, scale)?;
     let space = asked.names.space();
-    let least = shortest(alloc, space, asked.constraints, asked.target, often, most)?;
+    let least = shortest(alloc, space, asked.constraints, &multiple, most)?;
     summands_of(alloc, asked, &least)
 }
 
@@ -287,16 +288,9 @@ pub fn least_closed_summands(
     scale: i128,
     most: i128,
 ) -> Result<Summands, Untold> {
-    let often = times_of_goal(asked.goal, scale)?;
-    let least = shortest_closed(
-        alloc,
-        closures,
-        asked.names.space(),
-        asked.constraints,
-        asked.target,
-        often,
-        most,
-    )?;
+    let multiple = multiple_of_goal(asked, scale)?;
+    let space = asked.names.space();
+    let least = shortest_closed(alloc, closures, space, asked.constraints, &multiple, most)?;
     summands_of(alloc, asked, &least)
 }
 
@@ -371,11 +365,10 @@ pub fn goal_of(
     row: &Row,
     line: Option<&[u8]>,
 ) -> Result<Goal, Untold>
-    requires question { IsQuestion (question_body question.now) }
     requires some { 1 ≤ length names.now.variables }
 {
-    if let Verb::Prove(relation) = &question.verb {
-        let targets = target_rows(alloc, relation, question.names.space())?;
+    if let Verb::Prove(relation) = question.verb() {
+        let targets = target_rows(alloc, relation, question.space())?;
         if let Some(place) = place_of(targets.as_slice(), row) {
             return relation_goal(alloc, relation, place);
         }
@@ -393,27 +386,31 @@ fn any_proof(
     alloc: Global,
     question: &Question,
     names: &Names,
-    target: &Row,
     constraints: &[Constraint],
-    certificate: &Certificate,
-    line: Option<&[u8]>,
+    proven: &Proven<'_>,
     short: bool,
 ) -> Result<Option<Vec<u8>>, Untold>
-    requires question { IsQuestion (question_body question.now) }
     requires some { 1 ≤ length names.now.variables }
-    ensures { IfOk result (MayProve names.now target.now constraints.now) }
+    ensures { IfOk result (MayProve names.now proven.now.row.now constraints.now) }
 {
-    let measures = measures(alloc, question.source.as_slice(), names)?;
-    let goal = goal_of(alloc, question, measures.as_slice(), names, target, line)?;
+    let measures = measures(alloc, question.source(), names)?;
+    let goal = goal_of(
+        alloc,
+        question,
+        measures.as_slice(),
+        names,
+        proven.row,
+        proven.line,
+    )?;
     let asked = Asked {
         question,
         measures: measures.as_slice(),
         names,
-        target,
+        target: proven.row,
         goal: &goal,
         constraints,
     };
-    let summands = summed_up(alloc, &asked, certificate)?;
+    let summands = summed_up(alloc, &asked, proven.certificate)?;
     if short {
         match least_proof(alloc, &asked, &summands) {
             Ok(None) | Err(Untold::NotFound) => {}
@@ -423,34 +420,22 @@ fn any_proof(
     proof_by(alloc, &asked, &summands)
 }
 
-/// The text of the proof of `target` from the lines of a question, by a certificate: an equation between a multiple of the
-/// target and a sum of terms over sets and of multiples of the question's constraints; None where none was found. On its left
-/// are the terms of the question's relation or of `line`, where the target is one of theirs. With `short`, one with the least
+/// The text of the proof of a row from the lines of a question, by its certificate: an equation between a multiple of the
+/// row and a sum of terms over sets and of multiples of the question's constraints; None where none was found. On its left
+/// are the terms of the question's relation or of the row's line, where the row is that of one of their targets. With `short`, one with the least
 /// sum of terms over sets is looked for first, which may take long.
 pub fn told_form(
     alloc: Global,
     question: &Question,
-    target: &Row,
-    certificate: &Certificate,
-    line: Option<&[u8]>,
+    proven: &Proven<'_>,
     short: bool,
 ) -> Result<Option<Vec<u8>>, AllocError>
-    requires { IsQuestion (question_body question.now) }
-    ensures { IfOk result (λ o. IfSome o (λ text. TellsForm (question_body question.now) (value target.now) text.items)) }
+    ensures { IfOk result (λ o. IfSome o (λ text. TellsForm question.now.body (value proven.now.row.now) text.items)) }
 {
-    let names = names_of(question);
+    let names = problem_names(question);
     let posed = problem(alloc, question)?;
     let constraints = posed.constraints();
-    match any_proof(
-        alloc,
-        question,
-        names,
-        target,
-        constraints,
-        certificate,
-        line,
-        short,
-    ) {
+    match any_proof(alloc, question, names, constraints, proven, short) {
         Ok(text) => Ok(text),
         Err(Untold::NotFound) => Ok(None),
         Err(Untold::Memory) => Err(AllocError),

@@ -9,7 +9,7 @@ use it_syntax::{Names, relation, tokens};
 use std::alloc::{AllocError, Global};
 
 /// The longest text that is read, in bytes.
-const LONGEST: usize = 1048576;
+pub const LONGEST_TEXT: usize = 1048576;
 
 /// The relation that `text` is, None where it isn't read as one.
 pub fn relation_text(
@@ -20,7 +20,7 @@ pub fn relation_text(
     ensures is { IfOk result (λ o. IfSome o (λ r. IsRelationText names.now text.now (relation_view r))) }
     ensures limits { IfOk result (λ o. IfSome o (λ r. IsRelationOf (length names.now.variables) (length names.now.rates) (relation_view r))) }
 {
-    if text.len() > LONGEST {
+    if text.len() > LONGEST_TEXT {
         return Ok(None);
     }
     let line = match tokens(alloc, text) {

@@ -1,8 +1,6 @@
 //! Where rows come from, by the numbers of the question's constraints.
 ghost use Rattle.std.specs.Prelude.{◌≡◌, ◌≤◌, IfOk, length, map};
 ghost use Rattle.it_polymatroid.specs.Elementals.{elementals};
-ghost use Rattle.it_question.specs.Limits.{IsQuestion};
-ghost use Rattle.it_question.specs.Questions.{question_body};
 ghost use Rattle.it_canon.specs.QuestionDemands.{question_origins};
 ghost use Rattle.it_rates.specs.Asked.{under_all_lines};
 ghost use Rattle.it_terms.specs.RowOrigins.{ComesFrom, row_comment};
@@ -45,8 +43,7 @@ pub fn row_origin(
     question: &Question,
     row: &Row,
 ) -> Result<Vec<(u32, i128)>, AllocError>
-    requires { IsQuestion (question_body question.now) }
-    ensures { IfOk result (λ ws. ComesFrom (question_body question.now) row.now ws.items) }
+    ensures { IfOk result (λ ws. ComesFrom question.now.body row.now ws.items) }
 {
     let posed = problem_of_lines(alloc, question)?;
     let space = posed.space();
@@ -67,8 +64,7 @@ pub fn row_comment(
     weights: &[(u32, i128)],
     lines: &[u32],
 ) -> Result<Vec<u8>, AllocError>
-    requires { IsQuestion (question_body question.now) }
-    ensures { IfOk result (λ t. t.items ≡ row_comment (question_origins (under_all_lines (question_body question.now))) weights.now lines.now) }
+    ensures { IfOk result (λ t. t.items ≡ row_comment (question_origins (under_all_lines question.now.body)) weights.now lines.now) }
 {
     let posed = problem_of_lines(alloc, question)?;
     let comment = origin_comment(alloc, posed.constraints(), weights, lines)?;

@@ -1,8 +1,6 @@
 //! Rows as papers print them: in few terms that are equal to them where the question's functions hold.
 ghost use Rattle.std.specs.Prelude.{◌≡◌, ◌≤◌, IfOk, IfSome, length};
 ghost use Rattle.it_demand.specs.QuestionSpaces.{space_of};
-ghost use Rattle.it_question.specs.Limits.{IsQuestion};
-ghost use Rattle.it_question.specs.Questions.{question_body};
 ghost use Rattle.it_question.specs.ProblemLines.{problem_names};
 ghost use Rattle.it_terms.specs.RowsUnder.{IsPrintedRow};
 ghost use Rattle.it_terms.specs.Signs.{IsPrintedRowFrom};
@@ -10,13 +8,14 @@ ghost use Rattle.it_space.specs.Spaces.{most_variables};
 
 use crate::closed::{ClosedTerm, Closures, closures_of};
 use crate::finding::own_sum;
+use crate::folding::Notation;
 use crate::measures::{Measure, measures};
 use crate::row_judging::{are_given_equations, is_given_equation, tells_under};
 use crate::row_search::{Length, closed_sum, closed_terms, length_of};
-use crate::telling::{names_of, written};
+use crate::telling::written;
 use crate::under::functions_of;
 use crate::untold::Untold;
-use it_canon::problem;
+use it_canon::{problem, problem_names};
 use it_closure::Dependences;
 use it_elemental::count;
 use it_problems::{Constraint, Problem};
@@ -94,19 +93,15 @@ fn shorter_text(
     requires { 1 ≤ length names.now.variables }
 {
     let space = names.space();
-    let measures = measures(alloc, question.source.as_slice(), names)?;
+    let measures = measures(alloc, question.source(), names)?;
     let measures = measures.as_slice();
     let closures = closures_of(alloc, functions, space.variables)?;
     let terms = few_terms(alloc, &closures, space.variables)?;
-    let found = closed_sum(
-        alloc,
-        functions,
-        &closures,
-        terms.as_slice(),
+    let notation = Notation {
+        closures: &closures,
         measures,
-        row,
-        space,
-    )?;
+    };
+    let found = closed_sum(alloc, functions, &notation, terms.as_slice(), row, space)?;
     let length = length_of(measures, found.terms.as_slice());
     if let Some(own) = own_length(alloc, measures, names, row)? {
         if !length.is_less(&own) {
@@ -184,11 +179,10 @@ fn any_printed(
     problem: &Problem,
     row: &Row,
 ) -> Result<Option<PrintedRow>, Untold>
-    requires question { IsQuestion (question_body question.now) }
-    requires space { problem.now.space ≡ space_of (problem_names (question_body question.now)) }
-    ensures { IfOk result (λ o. IfSome o (λ t. IsPrintedRowFrom (problem_names (question_body question.now)) row.now problem.now.constraints t.lines.items t.text.items)) }
+    requires space { problem.now.space ≡ space_of (problem_names question.now.body) }
+    ensures { IfOk result (λ o. IfSome o (λ t. IsPrintedRowFrom (problem_names question.now.body) row.now problem.now.constraints t.lines.items t.text.items)) }
 {
-    let names = names_of(question);
+    let names = problem_names(question);
     let lines = given_functions(alloc, problem)?;
     let lines = lines.as_slice();
     if lines.is_empty() {
@@ -210,8 +204,7 @@ pub fn printed_row(
     question: &Question,
     row: &Row,
 ) -> Result<Option<PrintedRow>, AllocError>
-    requires { IsQuestion (question_body question.now) }
-    ensures { IfOk result (λ o. IfSome o (λ t. IsPrintedRow (question_body question.now) row.now t.lines.items t.text.items)) }
+    ensures { IfOk result (λ o. IfSome o (λ t. IsPrintedRow question.now.body row.now t.lines.items t.text.items)) }
 {
     let posed = problem(alloc, question)?;
     match any_printed(alloc, question, &posed, row) {

@@ -4,8 +4,8 @@ ghost use Rattle.std.specs.Prelude.{◌≤◌};
 ghost use Rattle.it_space.specs.Spaces.{most_variables};
 
 use crate::closed::{ClosedTerm, Closures, size};
-use crate::finding::{Found, own_sum, term_of, turned};
-use crate::folding::atom_of;
+use crate::finding::{Found, negated, own_sum, term_of};
+use crate::folding::{Notation, atom_of};
 use crate::measures::{Measure, own_spelling};
 use crate::row_judging::closed_row;
 use crate::untold::Untold;
@@ -113,7 +113,7 @@ impl Part {
 
     /// Adds `times` times `term`.
     fn add(&mut self, closures: &Closures, term: &ClosedTerm, times: i128) -> Result<(), Untold> {
-        let opposite = turned(times, true)?;
+        let opposite = negated(times, true)?;
         self.add_at(place_of(closures, term.first), times)?;
         self.add_at(place_of(closures, term.given), opposite)?;
         if term.first != term.second {
@@ -280,7 +280,7 @@ pub fn closed_terms(
 fn least_number(terms: &[(u32, i128)]) -> Result<i128, Untold> {
     let mut least = i128::MAX;
     for term in terms {
-        least = least.min(turned(term.1, term.1 < 0)?);
+        least = least.min(negated(term.1, term.1 < 0)?);
     }
     Ok(least)
 }
@@ -297,7 +297,7 @@ fn pair_with(
     let mut rest = Part {
         terms: Vec::from_slice(alloc, part.terms.as_slice())?,
     };
-    rest.add(closures, first, turned(times, true)?)?;
+    rest.add(closures, first, negated(times, true)?)?;
     let Some((more, second)) = single(closures, rest.terms.as_slice()) else {
         return Ok(None);
     };
@@ -336,7 +336,7 @@ fn pair_sum(
     part: &Part,
 ) -> Result<Option<Vec<Term>>, Untold> {
     let times = least_number(part.terms.as_slice())?;
-    let opposite = turned(times, true)?;
+    let opposite = negated(times, true)?;
     let mut best = None;
     for first in terms {
         let plus = pair_with(alloc, closures, measures, part, first, times)?;
@@ -378,32 +378,31 @@ fn closed_measures(
 pub fn closed_sum(
     alloc: Global,
     functions: &Dependences,
-    closures: &Closures,
+    notation: &Notation<'_>,
     terms: &[ClosedTerm],
-    measures: &[Measure],
     row: &Row,
     space: Space,
 ) -> Result<Found, Untold>
     requires { space.variables ≤ most_variables }
 {
-    let part = part_of(alloc, closures, row, space)?;
+    let part = part_of(alloc, notation.closures, row, space)?;
     if part.terms.is_empty() {
         return Ok(Found {
             scale: 1,
             terms: Vec::new(alloc),
         });
     }
-    if let Some((times, term)) = single(closures, part.terms.as_slice()) {
-        let only = written(closures, measures, times, &term)?;
+    if let Some((times, term)) = single(notation.closures, part.terms.as_slice()) {
+        let only = written(notation.closures, notation.measures, times, &term)?;
         return Ok(Found {
             scale: 1,
             terms: Vec::from_slice(alloc, &[only])?,
         });
     }
-    if let Some(terms) = pair_sum(alloc, closures, measures, terms, &part)? {
+    if let Some(terms) = pair_sum(alloc, notation.closures, notation.measures, terms, &part)? {
         return Ok(Found { scale: 1, terms });
     }
-    let closed = closed_measures(alloc, functions, measures)?;
+    let closed = closed_measures(alloc, functions, notation.measures)?;
     let row = closed_or_not(alloc, functions, row)?;
     own_sum(alloc, closed.as_slice(), &row, space)
 }

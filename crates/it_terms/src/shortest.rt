@@ -5,7 +5,7 @@ ghost use Rattle.it_space.specs.Spaces.{IsSpace, most_variables};
 ghost use Rattle.it_demand.specs.Coefficients.{largest};
 
 use crate::closed::{ClosedTerm, Closures};
-use crate::finding::{common_multiple, term_of, turned, weights_of};
+use crate::finding::{common_multiple, negated, term_of, weights_of};
 use crate::folding::vanishes;
 use crate::untold::Untold;
 use it_columns::opposite_row;
@@ -43,6 +43,13 @@ impl Drop for LeastSum {
             weights: _,
         } = self;
     }
+}
+
+/// `scale` times the row `target`.
+#[derive(Drop)]
+pub struct Multiple<'a> {
+    pub target: &'a Row,
+    pub scale: i128,
 }
 
 /// Columns over `coordinates`: those of terms over sets, then those of constraints by their indexes, negated where the flag is
@@ -341,18 +348,17 @@ fn closed_columns(
     Ok(columns)
 }
 
-/// Weights of the columns that add up to `scale` times `target`, where the sum of the terms over sets is at most `bound`.
+/// Weights of the columns that add up to `multiple`, where the sum of the terms over sets is at most `bound`.
 fn weights_within(
     alloc: Global,
     space: Space,
     columns: &Columns,
-    target: &Row,
-    scale: i128,
+    multiple: &Multiple<'_>,
     bound: i128,
 ) -> Result<Vec<(usize, Fraction)>, Untold>
     requires { IsSpace space }
 {
-    let row = row_with(alloc, space, target.terms(), scale, bound)?;
+    let row = row_with(alloc, space, multiple.target.terms(), multiple.scale, bound)?;
     weights_of(
         alloc,
         columns.coordinates.as_slice(),
@@ -366,13 +372,12 @@ fn least_weights(
     alloc: Global,
     space: Space,
     columns: &Columns,
-    target: &Row,
-    scale: i128,
+    multiple: &Multiple<'_>,
     most: i128,
 ) -> Result<Vec<(usize, Fraction)>, Untold>
     requires { IsSpace space }
 {
-    let mut best = weights_within(alloc, space, columns, target, scale, most)?;
+    let mut best = weights_within(alloc, space, columns, multiple, most)?;
     let mut low: u64 = 0;
     let mut high = u64::try_from(most)?;
     for _ in 0..64 {
@@ -380,7 +385,7 @@ fn least_weights(
             return Ok(best);
         }
         let middle = low + (high - low) / 2;
-        match weights_within(alloc, space, columns, target, scale, middle as i128) {
+        match weights_within(alloc, space, columns, multiple, middle as i128) {
             Ok(weights) => {
                 best = weights;
                 high = middle;
@@ -405,7 +410,7 @@ fn put_times(
         found.terms.push(term)?;
     } else if column - terms < columns.constraints.len() {
         let (number, negative) = columns.constraints[column - terms];
-        let weight = turned(times, negative)?;
+        let weight = negated(times, negative)?;
         found.weights.push((number, weight))?;
     }
     Ok(())
@@ -432,20 +437,19 @@ fn sum_by_weights(
     Ok(sum)
 }
 
-/// Terms over sets with a plus and weights of constraints that add up to a multiple of `target`, with the least sum of terms.
-/// `NotFound` where none are found whose sum is at most `most` for `scale` times the target.
+/// Terms over sets with a plus and weights of constraints that add up to some times `multiple`, with the least sum of terms.
+/// `NotFound` where none are found whose sum is at most `most` for `multiple` itself.
 pub fn shortest(
     alloc: Global,
     space: Space,
     constraints: &[Constraint],
-    target: &Row,
-    scale: i128,
+    multiple: &Multiple<'_>,
     most: i128,
 ) -> Result<LeastSum, Untold> {
     let wider = wider_space(space, MOST_VARIABLES)?;
     let columns = all_columns(alloc, wider, constraints)?;
-    let weights = least_weights(alloc, wider, &columns, target, scale, most)?;
-    sum_by_weights(alloc, &columns, weights.as_slice(), scale)
+    let weights = least_weights(alloc, wider, &columns, multiple, most)?;
+    sum_by_weights(alloc, &columns, weights.as_slice(), multiple.scale)
 }
 
 /// Like `shortest`, with terms over closed sets, where these are few enough: they add up to the target where the functions
@@ -455,13 +459,16 @@ pub fn shortest_closed(
     closures: &Closures,
     space: Space,
     constraints: &[Constraint],
-    target: &Row,
-    scale: i128,
+    multiple: &Multiple<'_>,
     most: i128,
 ) -> Result<LeastSum, Untold> {
     let wider = wider_space(space, MOST_CLOSED_VARIABLES)?;
     let columns = closed_columns(alloc, closures, wider, constraints)?;
-    let target = closed_row(alloc, closures, wider, target.terms(), 1, 0)?;
-    let weights = least_weights(alloc, wider, &columns, &target, scale, most)?;
-    sum_by_weights(alloc, &columns, weights.as_slice(), scale)
+    let target = closed_row(alloc, closures, wider, multiple.target.terms(), 1, 0)?;
+    let closed = Multiple {
+        target: &target,
+        scale: multiple.scale,
+    };
+    let weights = least_weights(alloc, wider, &columns, &closed, most)?;
+    sum_by_weights(alloc, &columns, weights.as_slice(), closed.scale)
 }

@@ -2,8 +2,6 @@
 ghost use Rattle.std.specs.Prelude.{◌≡◌, ◌≤◌, ◌++◌, ◌∷◌, [], length, map, IfOk, IfSome};
 ghost use Rattle.std.specs.Bool.{OnTrue};
 ghost use Rattle.it_syntax.specs.Meaning.{relation_view};
-ghost use Rattle.it_question.specs.Limits.{IsQuestion};
-ghost use Rattle.it_question.specs.Questions.{question_body};
 ghost use Rattle.it_question.specs.ProblemLines.{problem_names};
 ghost use Rattle.it_terms.specs.ProofSteps.{AreStepTexts, TellsSteps, AreEquationSteps};
 ghost use Rattle.it_space.specs.Spaces.{most_variables};
@@ -13,10 +11,9 @@ use crate::equations::equation;
 use crate::finding::{Found, joint_sum, own_sum};
 use crate::measures::{Measure, measures};
 use crate::reading::relation_text;
-use crate::telling::names_of;
 use crate::untold::Untold;
 use crate::writing::sums_text;
-use it_canon::canon;
+use it_canon::{canon, problem_names};
 use it_question::types::Question;
 use it_space::{Row, Space};
 use it_syntax::Names;
@@ -25,9 +22,9 @@ use std::alloc::{AllocError, Global};
 
 /// The line of a step, and the sum after it.
 #[derive(Drop)]
-struct Step {
-    text: Vec<u8>,
-    sum: Vec<Term>,
+pub struct Step {
+    pub text: Vec<u8>,
+    pub sum: Vec<Term>,
 }
 
 /// Whether two terms are equal.
@@ -105,19 +102,18 @@ fn short_sum(
     row_terms(alloc, &row, &found, space)
 }
 
-/// The text of a step with `left` on its left side; on its right side is `total` in the last step, else a short form of the
-/// left side.
+/// The text of a step with `left` on its left side; on its right side is `total`, which the last step alone has, else a short
+/// form of the left side.
 fn step_text(
     alloc: Global,
     measures: &[Measure],
     names: &Names,
     left: &[Term],
-    total: &[Term],
-    is_last: bool,
+    total: Option<&[Term]>,
 ) -> Result<Vec<u8>, Untold>
     requires { 1 ≤ length names.now.variables }
 {
-    if is_last {
+    if let Some(total) = total {
         return Ok(sums_text(alloc, measures, names, left, Sign::Equal, total)?);
     }
     let right = short_sum(alloc, measures, names, left)?;
@@ -155,14 +151,13 @@ fn next_step(
     names: &Names,
     sum: &[Term],
     term: &Term,
-    total: &[Term],
-    is_last: bool,
+    total: Option<&[Term]>,
 ) -> Result<Option<Step>, AllocError>
     requires { 1 ≤ length names.now.variables }
     ensures { IfOk result (λ o. IfSome o (λ s. AreStepTexts names.now sum.now (term.now ∷ []) s.sum.items (s.text.items ∷ []))) }
 {
     let left = with_term(alloc, sum, term)?;
-    match step_text(alloc, measures, names, left.as_slice(), total, is_last) {
+    match step_text(alloc, measures, names, left.as_slice(), total) {
         Ok(text) => judged(alloc, names, text, sum, term),
         Err(Untold::NotFound) => Ok(None),
         Err(Untold::Memory) => Err(AllocError),
@@ -184,8 +179,8 @@ fn step_texts(
     let mut lines = Vec::new(alloc);
     let mut sum = Vec::from_slice(alloc, first)?;
     for (i, term) in terms.iter().enumerate() {
-        let is_last = i + 1 == terms.len();
-        match next_step(alloc, measures, names, sum.as_slice(), term, total, is_last)? {
+        let last = (i + 1 == terms.len()).then_some(total);
+        match next_step(alloc, measures, names, sum.as_slice(), term, last)? {
             Some(step) => {
                 lines.push(step.text)?;
                 sum = step.sum;
@@ -232,13 +227,12 @@ pub fn told_steps(
     question: &Question,
     proof: &[u8],
 ) -> Result<Option<Vec<Vec<u8>>>, AllocError>
-    requires { IsQuestion (question_body question.now) }
-    ensures { IfOk result (λ o. IfSome o (λ lines. TellsSteps (problem_names (question_body question.now)) proof.now (map (λ line. line.items) lines.items))) }
+    ensures { IfOk result (λ o. IfSome o (λ lines. TellsSteps (problem_names question.now.body) proof.now (map (λ line. line.items) lines.items))) }
 {
-    let names = names_of(question);
+    let names = problem_names(question);
     let Some(equation) = equation(alloc, proof, names)? else {
         return Ok(None);
     };
-    let measures = measures(alloc, question.source.as_slice(), names)?;
+    let measures = measures(alloc, question.source(), names)?;
     equation_steps(alloc, measures.as_slice(), names, &equation)
 }

@@ -4,8 +4,6 @@ ghost use Rattle.std.specs.Bool.{OnTrue};
 ghost use Rattle.it_demand.specs.QuestionSpaces.{space_of};
 ghost use Rattle.it_elemental.specs.Generators.{forms_of, of_constraint};
 ghost use Rattle.it_print.specs.Lines.{origins_of};
-ghost use Rattle.it_question.specs.Limits.{IsQuestion};
-ghost use Rattle.it_question.specs.Questions.{question_body};
 ghost use Rattle.it_question.specs.ProblemLines.{problem_names};
 ghost use Rattle.it_syntax.specs.Givens.{IsRelationOf};
 ghost use Rattle.it_syntax.specs.Meaning.{relation_view};
@@ -14,32 +12,25 @@ ghost use Rattle.it_terms.specs.StepsUnder.{ArePieceSteps, IsEquationUnder, Tell
 ghost use Rattle.it_terms.specs.Sums.{AreReadUnder};
 ghost use Rattle.it_terms.specs.Tells.{IsRelationText};
 
-use crate::closed::{Closures, closures_of};
-use crate::measures::{Measure, measures};
+use crate::closed::closures_of;
+use crate::folding::Notation;
+use crate::measures::measures;
 use crate::names::with_names;
 use crate::pieces::{Piece, first_sum, piece_weights, right_pieces, with_piece};
-use crate::steps::are_same_terms;
+use crate::steps::{Step, are_same_terms};
 use crate::sums::are_allowed;
 use crate::tallies::Tally;
-use crate::telling::names_of;
 use crate::under::{excess, functions_of, is_nothing_under};
 use crate::under_judging::{is_whole_equation, named_text, sides_relation, sides_text};
 use crate::untold::Untold;
 use crate::writing::terms_text;
-use it_canon::problem;
+use it_canon::{problem, problem_names};
 use it_closure::Dependences;
 use it_problems::{Constraint, Problem};
 use it_question::types::Question;
 use it_syntax::Names;
 use it_syntax::types::{Atom, Relation, Term};
 use std::alloc::{AllocError, Global};
-
-/// The line of a step, and the sum after it.
-#[derive(Drop)]
-struct Step {
-    text: Vec<u8>,
-    sum: Vec<Term>,
-}
 
 /// The sides of an equation as texts, without names of constraints.
 #[derive(Drop)]
@@ -55,8 +46,7 @@ struct Under<'a> {
     problem: &'a Problem,
     functions: &'a Dependences,
     lines: &'a [u32],
-    measures: &'a [Measure],
-    closures: &'a Closures,
+    notation: &'a Notation<'a>,
 }
 
 /// A side as it is read without names: `0` if it is empty.
@@ -153,14 +143,18 @@ fn judged(
 /// Adds a piece to a sum over closed sets.
 fn add_piece(tally: &mut Tally, under: &Under<'_>, piece: &Piece) -> Result<(), Untold> {
     match piece {
-        Piece::Summand(term) => tally.add_term(under.closures, under.names.space(), term),
+        Piece::Summand(term) => tally.add_term(under.notation.closures, under.names.space(), term),
         Piece::Named((line, times)) => {
             let constraints = under.problem.constraints();
             let index = *line as usize;
             if index >= constraints.len() {
                 return Err(Untold::NotFound);
             }
-            tally.add_terms(under.closures, constraints[index].row.terms(), *times)
+            tally.add_terms(
+                under.notation.closures,
+                constraints[index].row.terms(),
+                *times,
+            )
         }
     }
 }
@@ -184,7 +178,12 @@ fn left_text(
         Piece::Named(_) if is_zero(sum) => Ok(Vec::new(alloc)),
         _ => {
             let terms = with_piece(alloc, sum, piece)?;
-            terms_text(alloc, under.measures, under.names, terms.as_slice())
+            terms_text(
+                alloc,
+                under.notation.measures,
+                under.names,
+                terms.as_slice(),
+            )
         }
     }
 }
@@ -205,8 +204,13 @@ fn step_sides(
         Some(total) => Vec::from_slice(alloc, total)?,
         None => {
             let space = under.names.space();
-            let terms = tally.terms(alloc, under.closures, under.measures, space)?;
-            let text = terms_text(alloc, under.measures, under.names, terms.as_slice())?;
+            let terms = tally.terms(alloc, under.notation, space)?;
+            let text = terms_text(
+                alloc,
+                under.notation.measures,
+                under.names,
+                terms.as_slice(),
+            )?;
             or_zero(alloc, text.as_slice())?
         }
     };
@@ -346,23 +350,25 @@ fn steps_from(
     lines: &[u32],
     named: &[(u32, i128)],
 ) -> Result<Option<Vec<Vec<u8>>>, AllocError>
-    requires question { IsQuestion (question_body question.now) }
-    requires space { problem.now.space ≡ space_of (problem_names (question_body question.now)) }
-    ensures { IfOk result (λ o. IfSome o (λ steps. TellsPieceSteps (problem_names (question_body question.now)) (origins_of problem.now.constraints) (forms_of (map of_constraint problem.now.constraints)) lines.now named.now proof.now (map (λ step. step.items) steps.items))) }
+    requires space { problem.now.space ≡ space_of (problem_names question.now.body) }
+    ensures { IfOk result (λ o. IfSome o (λ steps. TellsPieceSteps (problem_names question.now.body) (origins_of problem.now.constraints) (forms_of (map of_constraint problem.now.constraints)) lines.now named.now proof.now (map (λ step. step.items) steps.items))) }
 {
-    let names = names_of(question);
+    let names = problem_names(question);
     let Some(functions) = functions_of(alloc, problem, lines)? else {
         return Ok(None);
     };
-    let measures = measures(alloc, question.source.as_slice(), names)?;
+    let measures = measures(alloc, question.source(), names)?;
     let closures = closures_of(alloc, &functions, names.space().variables)?;
+    let notation = Notation {
+        closures: &closures,
+        measures: measures.as_slice(),
+    };
     let under = Under {
         names,
         problem,
         functions: &functions,
         lines,
-        measures: measures.as_slice(),
-        closures: &closures,
+        notation: &notation,
     };
     told_pieces(alloc, &under, proof, named)
 }
@@ -378,8 +384,7 @@ pub fn printed_steps(
     lines: &[u32],
     named: &[(u32, i128)],
 ) -> Result<Option<Vec<Vec<u8>>>, AllocError>
-    requires { IsQuestion (question_body question.now) }
-    ensures { IfOk result (λ o. IfSome o (λ steps. TellsStepsUnder (question_body question.now) lines.now named.now proof.now (map (λ step. step.items) steps.items))) }
+    ensures { IfOk result (λ o. IfSome o (λ steps. TellsStepsUnder question.now.body lines.now named.now proof.now (map (λ step. step.items) steps.items))) }
 {
     let posed = problem(alloc, question)?;
     let steps = steps_from(alloc, question, &posed, proof, lines, named)?;

@@ -1,5 +1,7 @@
 //! The lines of a containment's second region with sets substituted for its auxiliary variables. They are judged by their
 //! texts, so no clause says it here.
+ghost use Rattle.std.specs.Prelude.{◌≡◌, false};
+
 use crate::constraints::{item_of, link, union_of};
 use crate::untold::Untold;
 use it_problems::Origin;
@@ -27,7 +29,9 @@ fn with_atom(term: &Term, atom: Atom) -> Term {
 }
 
 /// `atom` as a term: once, with a plus.
-fn once(atom: Atom) -> Term {
+pub fn once(atom: Atom) -> Term
+    ensures { result ≡ record { negative = false; number = 1; denominator = 1; atom = atom } }
+{
     Term {
         negative: false,
         number: 1,
@@ -161,11 +165,11 @@ impl Substitution<'_> {
     fn demanded(&self, alloc: Global, region: &Region, origin: Origin) -> Result<Relation, Untold> {
         match origin {
             Origin::Given { line, part, .. } => {
-                let given = item_of(region.lines.givens.as_slice(), &[], line)?;
+                let given = item_of(region.lines().givens(), &[], line)?;
                 self.given(alloc, given, part)
             }
             Origin::Rate { line } => {
-                let relation = item_of(region.lines.rows.as_slice(), &[], line)?;
+                let relation = item_of(region.lines().rows(), &[], line)?;
                 Ok(self.relation(alloc, relation)?)
             }
         }
@@ -180,11 +184,11 @@ pub fn substituted(
     parts: &[VarSet],
     origin: Origin,
 ) -> Result<Relation, Untold> {
-    let Verb::Contain { second, .. } = &question.verb else {
+    let Verb::Contain { second, .. } = question.verb() else {
         return Err(Untold::NotFound);
     };
     let substitution = Substitution {
-        common: question.names.space().variables,
+        common: question.space().variables,
         parts,
     };
     substitution.demanded(alloc, second, origin)

@@ -4,8 +4,7 @@ ghost use Rattle.it_space.specs.Spaces.{most_variables};
 
 use crate::closed::{ClosedTerm, Closures};
 use crate::finding::term_of;
-use crate::folding::atom_of;
-use crate::measures::Measure;
+use crate::folding::{Notation, atom_of};
 use crate::shortest::atom_terms;
 use crate::untold::Untold;
 use it_fraction::{signed_product, sum};
@@ -107,12 +106,11 @@ impl Tally {
     fn put_sets(
         &self,
         terms: &mut Vec<Term>,
-        closures: &Closures,
-        measures: &[Measure],
+        notation: &Notation<'_>,
         negative: bool,
     ) -> Result<(), Untold> {
-        let given = closures.close(VarSet::empty());
-        for set in closures.sets() {
+        let given = notation.closures.close(VarSet::empty());
+        for set in notation.closures.sets() {
             let number = self.number(set.number() as u32);
             if number != 0 && (number < 0) == negative {
                 let term = ClosedTerm {
@@ -120,7 +118,7 @@ impl Tally {
                     second: *set,
                     given,
                 };
-                terms.push(term_of(number, atom_of(closures, measures, &term))?)?;
+                terms.push(term_of(number, atom_of(notation.closures, notation.measures, &term))?)?;
             }
         }
         Ok(())
@@ -130,16 +128,15 @@ impl Tally {
     pub fn terms(
         &self,
         alloc: Global,
-        closures: &Closures,
-        measures: &[Measure],
+        notation: &Notation<'_>,
         space: Space,
     ) -> Result<Vec<Term>, Untold>
         requires { space.variables ≤ most_variables }
     {
         let mut terms = Vec::new(alloc);
         self.put_rates(&mut terms, space)?;
-        self.put_sets(&mut terms, closures, measures, false)?;
-        self.put_sets(&mut terms, closures, measures, true)?;
+        self.put_sets(&mut terms, notation, false)?;
+        self.put_sets(&mut terms, notation, true)?;
         Ok(terms)
     }
 }

@@ -1,7 +1,5 @@
 //! The line of a row, judged before it is returned.
 ghost use Rattle.std.specs.Prelude.{◌≡◌, ◌≤◌, IfOk, IfSome, length};
-ghost use Rattle.it_question.specs.Limits.{IsQuestion};
-ghost use Rattle.it_question.specs.Questions.{question_body};
 ghost use Rattle.it_question.specs.ProblemLines.{problem_names};
 ghost use Rattle.it_terms.specs.Tells.{TellsRow};
 
@@ -16,16 +14,6 @@ use it_question::types::Question;
 use it_space::Row;
 use it_syntax::Names;
 use std::alloc::{AllocError, Global};
-
-/// The names of a question's problem, of which some are variables.
-#[tactic(auto, using(crate::proofs::NameLemmas::some_variables))]
-pub fn names_of(question: &Question) -> &Names
-    requires { IsQuestion (question_body question.now) }
-    ensures names { result.now ≡ problem_names (question_body question.now) }
-    ensures some { 1 ≤ length result.now.variables }
-{
-    problem_names(question)
-}
 
 /// The text of `row` with `sum` for its part over sets.
 pub fn written(
@@ -99,10 +87,9 @@ pub fn told_row(
     question: &Question,
     row: &Row,
 ) -> Result<Option<Vec<u8>>, AllocError>
-    requires { IsQuestion (question_body question.now) }
-    ensures { IfOk result (λ o. IfSome o (λ text. TellsRow (problem_names (question_body question.now)) row.now text.items)) }
+    ensures { IfOk result (λ o. IfSome o (λ text. TellsRow (problem_names question.now.body) row.now text.items)) }
 {
-    let names = names_of(question);
-    let measures = measures(alloc, question.source.as_slice(), names)?;
+    let names = problem_names(question);
+    let measures = measures(alloc, question.source(), names)?;
     row_text(alloc, measures.as_slice(), names, row)
 }

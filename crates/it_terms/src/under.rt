@@ -19,21 +19,21 @@ use it_space::{Row, RowFault, Space, Sums};
 use it_syntax::types::Relation;
 use std::alloc::{AllocError, Global};
 
-/// The row of the left side of `relation` less its right side, negated if `turned`, plus the constraints with `weights`; None
+/// The row of the left side of `relation` less its right side, negated if `negated`, plus the constraints with `weights`; None
 /// where one of its numbers is too large.
 pub fn excess(
     alloc: Global,
     relation: &Relation,
-    turned: bool,
+    negated: bool,
     space: Space,
     constraints: &[Constraint],
     weights: &[(u32, i128)],
 ) -> Result<Option<Row>, AllocError>
     requires space { IsSpace space }
     requires within { IsRelationOf space.variables space.rates (relation_view relation.now) }
-    ensures { IfOk result (λ o. IfSome o (IsExcess space (relation_view relation.now) turned constraints.now weights.now)) }
+    ensures { IfOk result (λ o. IfSome o (IsExcess space (relation_view relation.now) negated constraints.now weights.now)) }
 {
-    let difference = difference(alloc, relation, turned, space)?;
+    let difference = difference(alloc, relation, negated, space)?;
     let places = space.size() as usize + 1;
     let mut sums = Sums::zeros(alloc, places)?;
     match add_both(&mut sums, places, difference.terms(), constraints, weights) {

@@ -8,7 +8,8 @@ ghost use Rattle.it_print.specs.Lines.{origins_of};
 ghost use Rattle.it_syntax.specs.Givens.{IsRelationOf};
 ghost use Rattle.it_syntax.specs.declared.types.Sign.TheVariants.{Equal};
 ghost use Rattle.it_syntax.specs.Meaning.{common_denominator, relation_view};
-ghost use Rattle.it_terms.specs.FunctionProofs.{IsProofUnder, IsSaid, TellsProofUnder, named_sides_text, sides_text};
+ghost use Rattle.it_terms.specs.FunctionProofs.{TellsProofUnder, named_sides_text, sides_text};
+ghost use Rattle.it_terms.specs.Sums.{AreSaid, IsProofBy};
 ghost use Rattle.it_terms.specs.Tells.{IsRelationText};
 
 use crate::names::with_names;
@@ -32,6 +33,14 @@ pub struct Sides {
     pub right: Vec<u8>,
     pub split: Split,
     pub named: Vec<(u32, i128)>,
+}
+
+/// The functions that constraints of a problem say, with the numbers of these constraints.
+#[derive(Drop)]
+struct SaidFunctions<'a> {
+    problem: &'a Problem,
+    lines: &'a [u32],
+    functions: &'a Dependences,
 }
 
 /// Two sides with `=` between them, the right one as `0` if it is empty.
@@ -76,20 +85,18 @@ pub fn is_whole_equation(relation: &Relation) -> bool
 fn is_proof_under(
     alloc: Global,
     relation: &Relation,
-    problem: &Problem,
-    functions: &Dependences,
-    lines: &[u32],
+    said: &SaidFunctions<'_>,
     target: &Row,
     sides: &Sides,
 ) -> Result<bool, AllocError>
-    requires within { IsRelationOf problem.now.space.variables problem.now.space.rates (relation_view relation.now) }
-    requires space { functions.now.space ≡ problem.now.space }
-    requires there { All (λ l. l < (forms_of (map of_constraint problem.now.constraints)).count) lines.now }
-    requires said { All (IsSaid problem.now.space.variables (forms_of (map of_constraint problem.now.constraints)) lines.now) functions.now.list }
-    ensures { IfOk result (λ b. OnTrue b (IsProofUnder problem.now.space.variables lines.now (relation_view relation.now) sides.now.named.items (value target.now) (forms_of (map of_constraint problem.now.constraints)))) }
+    requires within { IsRelationOf said.now.problem.now.space.variables said.now.problem.now.space.rates (relation_view relation.now) }
+    requires space { said.now.functions.now.space ≡ said.now.problem.now.space }
+    requires there { All (λ l. l < (forms_of (map of_constraint said.now.problem.now.constraints)).count) said.now.lines.now }
+    requires said { AreSaid said.now.problem.now said.now.lines.now said.now.functions.now.list }
+    ensures { IfOk result (λ b. OnTrue b (IsProofBy said.now.problem.now said.now.lines.now (relation_view relation.now) sides.now.named.items target.now)) }
 {
-    let space = problem.space();
-    let constraints = problem.constraints();
+    let space = said.problem.space();
+    let constraints = said.problem.constraints();
     let named = sides.named.as_slice();
     if !is_whole_equation(relation) || !are_allowed(constraints, named) {
         return Ok(false);
@@ -101,7 +108,7 @@ fn is_proof_under(
     let Some(row) = excess(alloc, relation, true, space, constraints, named)? else {
         return Ok(false);
     };
-    let is_nothing = is_nothing_under(alloc, functions, &row)?;
+    let is_nothing = is_nothing_under(alloc, said.functions, &row)?;
     Ok(is_nothing)
 }
 
@@ -142,7 +149,12 @@ pub fn judged_under(
     let Some(functions) = functions_of(alloc, problem, lines)? else {
         return Ok(None);
     };
-    if !is_proof_under(alloc, &relation, problem, &functions, lines, target, sides)? {
+    let said = SaidFunctions {
+        problem,
+        lines,
+        functions: &functions,
+    };
+    if !is_proof_under(alloc, &relation, &said, target, sides)? {
         return Ok(None);
     }
     let named = sides.named.as_slice();

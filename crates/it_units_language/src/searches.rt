@@ -224,7 +224,7 @@ fn pair_of_regions(alloc: Global) -> Option<Pair>
         return None;
     }
     let question = &asked.as_slice()[0];
-    if !is_containment(&question.verb) {
+    if !is_containment(question.verb()) {
         return None;
     }
     match pair(alloc, question) {

@@ -1,7 +1,7 @@
 //! Tests: entropies of linear codes.
 
 ghost use Rattle.std.specs.Prelude.{◌≡◌, length, IfOk};
-ghost use Rattle.it_codes.specs.Codes.{IsCode, code_view};
+ghost use Rattle.it_codes.specs.Codes.{variables_of};
 
 use it_codes::{Field, LinearCode, Variable, entropies_of, first_other};
 use it_space::{Point, Space};
@@ -16,8 +16,7 @@ fn variable(alloc: Global, first: u8, second: u8) -> Result<Variable, AllocError
 
 /// The code of two symbols a and b with the variables a, b, a + b, a + 2 b.
 fn code(alloc: Global, field: Field) -> Result<LinearCode, AllocError>
-    ensures code { IfOk result (λ c. IsCode (code_view c)) }
-    ensures four { IfOk result (λ c. length c.variables.items ≡ 4) }
+    ensures { IfOk result (λ c. variables_of c ≡ 4) }
 {
     let variables = vec![in alloc;
         variable(alloc, 1, 0)?,

@@ -14,16 +14,16 @@ use Prim.Native.Nat.{◌∣◌}
 use native.Mathlib.Nat.{pos_of_dvd_of_pos}
 
 -- shared divides the first k numbers and the denominator
-pub record DividesUpTo (shared bottom : ℕ) (numbers : List ℤ) (k : ℕ) : Type 0 where
+pub record DividesUpTo (shared denominator : ℕ) (numbers : List ℤ) (k : ℕ) : Type 0 where
   pub some : 0 < shared
-  pub bottom_is : shared ∣ bottom
+  pub denominator_is : shared ∣ denominator
   pub numbers_are : (j : ℕ) → j < k → shared ∣ unsigned_abs (number_at numbers j)
 
-pub divides_more : (numbers : List ℤ) (bottom shared next : ℕ) (z : ℤ) (k : ℕ) → next ≡ gcd (unsigned_abs z) shared → z ≡ number_at numbers k
-    → DividesUpTo shared bottom numbers k → DividesUpTo next bottom numbers (k + 1)
-divides_more numbers bottom shared next z k e f d = subst (λ (n : ℕ). DividesUpTo n bottom numbers (k + 1)) (sym e) record {
+pub divides_more : (numbers : List ℤ) (denominator shared next : ℕ) (z : ℤ) (k : ℕ) → next ≡ gcd (unsigned_abs z) shared → z ≡ number_at numbers k
+    → DividesUpTo shared denominator numbers k → DividesUpTo next denominator numbers (k + 1)
+divides_more numbers denominator shared next z k e f d = subst (λ (n : ℕ). DividesUpTo n denominator numbers (k + 1)) (sym e) record {
   some = pos_of_dvd_of_pos (gcd_is (unsigned_abs z) shared).1 d.some;
-  bottom_is = dvd_trans (gcd (unsigned_abs z) shared) (gcd_is (unsigned_abs z) shared).1 d.bottom_is;
+  denominator_is = dvd_trans (gcd (unsigned_abs z) shared) (gcd_is (unsigned_abs z) shared).1 d.denominator_is;
   numbers_are = λ j l. by_cases j l (cases_eq j k);
 }
   where

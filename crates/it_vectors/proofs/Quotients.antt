@@ -68,11 +68,11 @@ part_more row from j earlier shared next z e f d = subst (IsSharedPart row from 
 }
 
 -- a part after those before it
-pub parts_join : (row : List ℤ) (bottom from to earlier shared : ℕ) → DividesUpTo earlier bottom row from
-    → IsSharedPart row from to earlier shared → DividesUpTo shared bottom row to
-parts_join row bottom from to earlier shared d p = record {
+pub parts_join : (row : List ℤ) (denominator from to earlier shared : ℕ) → DividesUpTo earlier denominator row from
+    → IsSharedPart row from to earlier shared → DividesUpTo shared denominator row to
+parts_join row denominator from to earlier shared d p = record {
   some = p.some;
-  bottom_is = dvd_trans shared p.of_earlier d.bottom_is;
+  denominator_is = dvd_trans shared p.of_earlier d.denominator_is;
   numbers_are = λ j l. by_cases j l (cases_lt j from);
 }
   where

@@ -1,6 +1,7 @@
 -- How large the numbers of a list are.
-use Rattle.std.specs.Prelude.{ℕ, ◌<◌, ◌≤◌, ◌^◌, ℤ, unsigned_abs, List, length}
+use Rattle.std.specs.Prelude.{ℕ, ◌<◌, ◌≤◌, ℤ, unsigned_abs, List, length}
 use Rattle.it_space.specs.Sums.{number_at}
+use Rattle.it_number.specs.Limit.{signed_limit}
 
 -- each number is at most most in absolute value
 abbrev pub AreAtMost : List ℤ → ℕ → Type 0
@@ -8,7 +9,7 @@ AreAtMost numbers most = (k : ℕ) → k < length numbers → unsigned_abs (numb
 
 -- at most 2 ^ 63 - 1 in absolute value
 abbrev pub IsShort : ℤ → Type 0
-IsShort z = unsigned_abs z < 2 ^ 63
+IsShort z = unsigned_abs z < signed_limit
 
 -- all numbers are below 2 ^ 63 in absolute value
 abbrev pub AreShort : List ℤ → Type 0

@@ -4,6 +4,7 @@ ghost use Rattle.std.specs.Prelude.{◌≡◌, pos, ◌+◌, ◌*◌, ◌<◌, �
 ghost use Rattle.std.specs.Option.{IfNone, IfSome};
 ghost use Rattle.it_number.specs.Division.{int_quotient};
 ghost use Rattle.it_number.specs.Gcd.{gcd};
+ghost use Rattle.it_number.specs.Limit.{signed_limit};
 
 /// Whether `z` is 0. The contract states each case by itself, for callers that branch on it.
 pub fn is_zero(z: i64) -> bool
@@ -17,7 +18,7 @@ pub fn is_zero(z: i64) -> bool
 /// The product of `a` and `b`; `None` unless it is below 2^63, so that it fits a signed number too.
 #[inline]
 pub fn short_product(a: u64, b: u64) -> Option<u64>
-    ensures { SomeIff result (a * b < 2 ^ 63) (a * b) }
+    ensures { SomeIff result (a * b < signed_limit) (a * b) }
 {
     let product = a.checked_mul(b)?;
     if product < 1 << 63 {
@@ -30,7 +31,7 @@ pub fn short_product(a: u64, b: u64) -> Option<u64>
 /// `sum` plus `factor` times `x`.
 #[inline]
 pub fn plus_product(sum: i64, factor: i64, x: i64) -> i64
-    requires { unsigned_abs sum + unsigned_abs (factor *ℤ x) < 2 ^ 63 }
+    requires { unsigned_abs sum + unsigned_abs (factor *ℤ x) < signed_limit }
     ensures { result ≡ sum +ℤ factor *ℤ x }
 {
     sum + factor * x
@@ -39,7 +40,7 @@ pub fn plus_product(sum: i64, factor: i64, x: i64) -> i64
 /// (a + b) - (c + d).
 #[inline]
 pub fn difference_of_sums(a: i64, b: i64, c: i64, d: i64) -> i64
-    requires { unsigned_abs a + unsigned_abs b + (unsigned_abs c + unsigned_abs d) < 2 ^ 63 }
+    requires { unsigned_abs a + unsigned_abs b + (unsigned_abs c + unsigned_abs d) < signed_limit }
     ensures { result ≡ (a +ℤ b) +ℤ neg_ℤ (c +ℤ d) }
 {
     (a + b) - (c + d)
@@ -66,7 +67,7 @@ fn difference(x: i128, y: i128) -> i128
 /// `z` in 64 bits; `None` if it is above `limit` in absolute value.
 #[inline]
 pub fn narrow(z: i128, limit: u64) -> Option<i64>
-    requires { limit < 2 ^ 63 }
+    requires { limit < signed_limit }
     ensures { SomeIff result (unsigned_abs z ≤ limit) z }
 {
     if z.unsigned_abs() <= u128::from(limit) {
@@ -80,11 +81,11 @@ pub fn narrow(z: i128, limit: u64) -> Option<i64>
 #[inline]
 #[tactic(auto, using(crate::proofs::Bounds::half_product))]
 pub fn narrow_difference(x: i64, a: i64, y: i64, b: i64, limit: u64) -> Option<i64>
-    requires x { unsigned_abs x < 2 ^ 63 }
-    requires a { unsigned_abs a < 2 ^ 63 }
-    requires y { unsigned_abs y < 2 ^ 63 }
-    requires b { unsigned_abs b < 2 ^ 63 }
-    requires limit { limit < 2 ^ 63 }
+    requires x { unsigned_abs x < signed_limit }
+    requires a { unsigned_abs a < signed_limit }
+    requires y { unsigned_abs y < signed_limit }
+    requires b { unsigned_abs b < signed_limit }
+    requires limit { limit < signed_limit }
     ensures { SomeIff result (unsigned_abs (x *ℤ a +ℤ neg_ℤ (y *ℤ b)) ≤ limit) (x *ℤ a +ℤ neg_ℤ (y *ℤ b)) }
 {
     narrow(difference(product(x, a), product(y, b)), limit)
@@ -111,7 +112,7 @@ pub fn common_divisor(a: u64, b: u64) -> u64
 
 /// The quotient z / k, rounded towards 0.
 pub fn quotient(z: i64, k: u64) -> i64
-    requires z { unsigned_abs z < 2 ^ 63 }
+    requires z { unsigned_abs z < signed_limit }
     requires some { 0 < k }
     ensures { result ≡ int_quotient z k }
 {
@@ -127,7 +128,7 @@ pub fn quotient(z: i64, k: u64) -> i64
 #[inline]
 pub fn lowest_terms(pivot: i64, entry: i64) -> (i64, i64)
     requires pivot { pos 1 ≤ℤ pivot }
-    requires entry { unsigned_abs entry < 2 ^ 63 }
+    requires entry { unsigned_abs entry < signed_limit }
     ensures pivot { result.0 ≡ int_quotient pivot (gcd (unsigned_abs pivot) (unsigned_abs entry)) }
     ensures entry { result.1 ≡ int_quotient entry (gcd (unsigned_abs pivot) (unsigned_abs entry)) }
 {
@@ -145,7 +146,7 @@ pub fn lowest_terms(pivot: i64, entry: i64) -> (i64, i64)
 /// The sum of `a` and `b`; `None` unless it is below 2^63, so that it fits a signed number too.
 #[inline]
 pub fn short_sum(a: u64, b: u64) -> Option<u64>
-    ensures { SomeIff result (a + b < 2 ^ 63) (a + b) }
+    ensures { SomeIff result (a + b < signed_limit) (a + b) }
 {
     let sum = a.checked_add(b)?;
     if sum < 1 << 63 { Some(sum) } else { None }

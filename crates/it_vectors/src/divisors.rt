@@ -1,9 +1,10 @@
 //! Divisors with a reciprocal, which gives most quotients without a division.
-ghost use Rattle.std.specs.Prelude.{◌≡◌, ◌*◌, ◌/◌, ◌<◌, ◌^◌, unsigned_abs};
+ghost use Rattle.std.specs.Prelude.{◌≡◌, ◌*◌, ◌/◌, ◌<◌, unsigned_abs};
 ghost use Rattle.std.specs.Bool.{OnTrue};
 ghost use Rattle.std.specs.Option.{IfSome};
 ghost use Rattle.it_number.specs.Division.{int_quotient};
 ghost use Rattle.it_number.specs.Gcd.{gcd};
+ghost use Rattle.it_number.specs.Limit.{signed_limit};
 
 use crate::arithmetic::common_divisor;
 
@@ -65,7 +66,7 @@ impl Divisor {
     /// The quotient of `z` by the divisor, rounded towards 0.
     #[inline]
     pub fn quotient(&self, z: i64) -> i64
-        requires z { unsigned_abs z < 2 ^ 63 }
+        requires z { unsigned_abs z < signed_limit }
         requires some { 0 < self.now.value }
         ensures { result ≡ int_quotient z self.now.value }
     {

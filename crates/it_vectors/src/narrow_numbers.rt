@@ -5,20 +5,60 @@ ghost use Rattle.std.specs.Prelude.{◌≡◌, ◌++◌, ◌∷◌, [], ℕ, ◌
 ghost use Prim.Native.Nat.{◌∣◌};
 ghost use Rattle.std.specs.Bool.{OnFalse, OnTrue};
 ghost use Rattle.std.specs.Option.{IfNone, IfSome};
-ghost use Rattle.it_vectors.specs.Quotients.{IsSharedPart, likely_quotient_of};
+ghost use Rattle.it_vectors.specs.Quotients.{IsExact, IsSharedPart, IsTold, likely_quotient_of};
 ghost use Rattle.it_vectors.specs.Places.{IsNextPlace};
 ghost use Rattle.it_vectors.specs.Combinations.{IsBound, IsCombined};
 ghost use Rattle.it_vectors.specs.Divisors.{DividesAll};
-ghost use Rattle.it_vectors.specs.Stretches.{AreStretches};
+ghost use Rattle.it_vectors.specs.Stretches.{AreStretches, stretch_length};
 ghost use Rattle.it_vectors.specs.StretchesUpTo.{AreStretchesUpTo};
 ghost use Rattle.it_space.specs.Sums.{number_at};
 ghost use Rattle.it_vectors.specs.Sizes.{AreAtMost};
 
 use crate::arithmetic::sum_within;
 use crate::divisors::Divisor;
+use std::marker::Model;
 
 /// The largest signed number of 32 bits, 2^31 - 1.
 const LARGEST_NARROW: u32 = i32::MAX as u32;
+
+/// A row whose multiples are subtracted from other rows.
+#[derive(Drop)]
+pub struct Subtrahend<'a> {
+    numbers: &'a [i32],
+    // where the stretches begin outside of which the row is 0, if that is known
+    starts: Option<&'a [usize]>,
+    // a bound on the absolute values of the numbers
+    most: u64,
+}
+
+impl<'a> Model for Subtrahend<'a> {
+    ghost use Rattle.std.specs.Prelude.{List, ℤ};
+    ghost use Rattle.std.specs.Option.{IfSome};
+    ghost use Rattle.it_vectors.specs.Sizes.{AreAtMost};
+    ghost use Rattle.it_vectors.specs.Stretches.{AreStretches};
+
+    ghost Value = { List ℤ };
+
+    ghost view = { λ r. r.numbers.now };
+
+    ghost invariant = { λ r. (AreAtMost r.numbers.now r.most) × (IfSome r.starts (λ starts. AreStretches r.numbers.now starts.now)) };
+}
+
+impl<'a> Subtrahend<'a> {
+    /// The row of `numbers`, which are at most `most` in absolute value; the stretches where it isn't 0 begin at `starts`.
+    #[inline]
+    pub fn new(numbers: &'a [i32], starts: Option<&'a [usize]>, most: u64) -> Subtrahend<'a>
+        requires most { AreAtMost numbers.now most }
+        requires stretches { IfSome starts (λ starts. AreStretches numbers.now starts.now) }
+        ensures { result ≡ numbers.now }
+    {
+        Subtrahend {
+            numbers,
+            starts,
+            most,
+        }
+    }
+}
 
 /// The number of `row` at place `k`.
 #[inline]
@@ -107,8 +147,8 @@ fn is_null(row: &[i32], k: usize) -> bool
 /// Whether the numbers of the stretch that begins at place `from` are all 0. The loop has no early exit, so that it is vectorized.
 #[inline]
 fn is_null_stretch(row: &[i32], from: usize) -> bool
-    requires { from + 8 ≤ length row.now }
-    ensures { OnTrue result ((k : ℕ) → from ≤ k → k < from + 8 → number_at row.now k ≡ pos 0) }
+    requires { from + stretch_length ≤ length row.now }
+    ensures { OnTrue result ((k : ℕ) → from ≤ k → k < from + stretch_length → number_at row.now k ≡ pos 0) }
 {
     let mut all = true;
     for k in from..from + STRETCH {
@@ -141,9 +181,9 @@ fn note_place(starts: &mut Vec<usize>, k: usize) -> bool
 /// Appends place `k` to `starts`, unless `row` is 0 in the stretch that begins there; `false` if allocation fails.
 #[inline]
 fn note_stretch(row: &[i32], k: usize, starts: &mut Vec<usize>) -> bool
-    requires stretch { k + 8 ≤ length row.now }
+    requires stretch { k + stretch_length ≤ length row.now }
     requires noted { AreStretchesUpTo row.now starts.old.items k }
-    ensures { OnTrue result (AreStretchesUpTo row.now starts.new.items (k + 8)) }
+    ensures { OnTrue result (AreStretchesUpTo row.now starts.new.items (k + stretch_length)) }
 {
     is_null_stretch(row, k) || note_place(starts, k)
 }
@@ -198,10 +238,10 @@ fn subtract_part(row: &mut [i32], by: &[i32], from: usize, to: usize, b: i32)
 /// rules overflow out.
 #[inline(always)]
 fn stretch_less_product(row: &[i32], by: &[i32], from: usize, b: i32) -> [i32; STRETCH]
-    requires row { from + 8 ≤ length row.now }
-    requires by { from + 8 ≤ length by.now }
-    requires bound { (k : ℕ) → from ≤ k → k < from + 8 → unsigned_abs (number_at row.now k) + unsigned_abs (number_at by.now k *ℤ b) < 2 ^ 31 }
-    ensures { (k : ℕ) → k < 8 → number_at result k ≡ number_at row.now (from + k) +ℤ neg_ℤ (number_at by.now (from + k) *ℤ b) }
+    requires row { from + stretch_length ≤ length row.now }
+    requires by { from + stretch_length ≤ length by.now }
+    requires bound { (k : ℕ) → from ≤ k → k < from + stretch_length → unsigned_abs (number_at row.now k) + unsigned_abs (number_at by.now k *ℤ b) < 2 ^ 31 }
+    ensures { (k : ℕ) → k < stretch_length → number_at result k ≡ number_at row.now (from + k) +ℤ neg_ℤ (number_at by.now (from + k) *ℤ b) }
 {
     let mut numbers = [0; STRETCH];
     for k in 0..STRETCH {
@@ -213,11 +253,11 @@ fn stretch_less_product(row: &[i32], by: &[i32], from: usize, b: i32) -> [i32; S
 /// Overwrites the stretch of `row` that begins at place `from` with `numbers`.
 #[inline(always)]
 fn write_stretch(row: &mut [i32], from: usize, numbers: &[i32; STRETCH])
-    requires { from + 8 ≤ length row.old }
+    requires { from + stretch_length ≤ length row.old }
     ensures length { length row.new ≡ length row.old }
     ensures before { (k : ℕ) → k < from → number_at row.new k ≡ number_at row.old k }
-    ensures stretch { (k : ℕ) → k < 8 → number_at row.new (from + k) ≡ number_at numbers.now k }
-    ensures after { (k : ℕ) → from + 8 ≤ k → number_at row.new k ≡ number_at row.old k }
+    ensures stretch { (k : ℕ) → k < stretch_length → number_at row.new (from + k) ≡ number_at numbers.now k }
+    ensures after { (k : ℕ) → from + stretch_length ≤ k → number_at row.new k ≡ number_at row.old k }
 {
     for k in 0..STRETCH {
         row[from + k] = numbers[k];
@@ -229,12 +269,12 @@ fn write_stretch(row: &mut [i32], from: usize, numbers: &[i32; STRETCH])
 #[inline(always)]
 fn subtract_stretch(row: &mut [i32], by: &[i32], from: usize, b: i32)
     requires even { length row.old ≡ length by.now }
-    requires stretch { from + 8 ≤ length by.now }
-    requires bound { (k : ℕ) → from ≤ k → k < from + 8 → unsigned_abs (number_at row.old k) + unsigned_abs (number_at by.now k *ℤ b) < 2 ^ 31 }
+    requires stretch { from + stretch_length ≤ length by.now }
+    requires bound { (k : ℕ) → from ≤ k → k < from + stretch_length → unsigned_abs (number_at row.old k) + unsigned_abs (number_at by.now k *ℤ b) < 2 ^ 31 }
     ensures length { length row.new ≡ length row.old }
     ensures before { (k : ℕ) → k < from → number_at row.new k ≡ number_at row.old k }
-    ensures part { (k : ℕ) → from ≤ k → k < from + 8 → number_at row.new k ≡ number_at row.old k +ℤ neg_ℤ (number_at by.now k *ℤ b) }
-    ensures after { (k : ℕ) → from + 8 ≤ k → number_at row.new k ≡ number_at row.old k }
+    ensures part { (k : ℕ) → from ≤ k → k < from + stretch_length → number_at row.new k ≡ number_at row.old k +ℤ neg_ℤ (number_at by.now k *ℤ b) }
+    ensures after { (k : ℕ) → from + stretch_length ≤ k → number_at row.new k ≡ number_at row.old k }
 {
     let numbers = stretch_less_product(row, by, from, b);
     write_stretch(row, from, &numbers);
@@ -257,34 +297,33 @@ fn subtract_stretches(row: &mut [i32], by: &[i32], starts: &[usize], b: i32)
 }
 
 /// Subtracts `b` times the numbers of `by` from those of `row`, without overflow checks: by the stretches that begin at `starts` if
-/// they are `noted`, else at all places.
+/// these are known, else at all places.
 #[inline]
-fn subtract_noted(row: &mut [i32], by: &[i32], starts: &[usize], noted: bool, b: i32)
+fn subtract_noted(row: &mut [i32], by: &[i32], starts: Option<&[usize]>, b: i32)
     requires even { length row.old ≡ length by.now }
     requires bound { (k : ℕ) → k < length by.now → unsigned_abs (number_at row.old k) + unsigned_abs (number_at by.now k *ℤ b) < 2 ^ 31 }
-    requires stretches { OnTrue noted (AreStretches by.now starts.now) }
+    requires stretches { IfSome starts (λ starts. AreStretches by.now starts.now) }
     ensures length { length row.new ≡ length row.old }
     ensures entries { (k : ℕ) → k < length by.now → number_at row.new k ≡ number_at row.old k +ℤ neg_ℤ (number_at by.now k *ℤ b) }
 {
-    if noted {
-        subtract_stretches(row, by, starts, b);
-    } else {
-        subtract_part(row, by, 0, row.len(), b);
+    match starts {
+        Some(starts) => subtract_stretches(row, by, starts, b),
+        None => subtract_part(row, by, 0, row.len(), b),
     }
 }
 
 /// Like `combine`, without overflow checks: the bound rules overflow out.
-fn combine_plain(row: &mut [i32], by: &[i32], starts: &[usize], noted: bool, a: i32, b: i32)
+fn combine_plain(row: &mut [i32], by: &[i32], starts: Option<&[usize]>, a: i32, b: i32)
     requires even { length row.old ≡ length by.now }
     requires bound { (k : ℕ) → k < length by.now → unsigned_abs (number_at row.old k *ℤ a) + unsigned_abs (number_at by.now k *ℤ b) < 2 ^ 31 }
-    requires stretches { OnTrue noted (AreStretches by.now starts.now) }
+    requires stretches { IfSome starts (λ starts. AreStretches by.now starts.now) }
     ensures length { length row.new ≡ length row.old }
     ensures entries { (k : ℕ) → k < length by.now → number_at row.new k ≡ number_at row.old k *ℤ a +ℤ neg_ℤ (number_at by.now k *ℤ b) }
 {
     if a != 1 {
         multiply_and_subtract(row, by, a, b);
     } else {
-        subtract_noted(row, by, starts, noted, b);
+        subtract_noted(row, by, starts, b);
     }
 }
 
@@ -311,24 +350,18 @@ fn narrow_factor(z: i64) -> Option<i32>
     }
 }
 
-/// Multiplies the numbers of `row` by `a` and subtracts `b` times those of `by`; returns a bound on the results. `most` and
-/// `most_by` are bounds on the numbers of the two rows, and if `noted`, the stretches where `by` isn't 0 begin at `starts`. `None`
-/// if the bounds don't show that all results stay within `limit`: then `row` is unchanged.
+/// Multiplies the numbers of `row` by `a` and subtracts `b` times those of `by`; returns a bound on the results. `most` is a bound on
+/// the numbers of `row`. `None` if the bounds don't show that all results stay within `limit`: then `row` is unchanged.
 pub fn combine(
     row: &mut [i32],
-    by: &[i32],
-    starts: &[usize],
-    noted: bool,
+    by: &Subtrahend<'_>,
     a: i64,
     b: i64,
     most: u64,
-    most_by: u64,
     limit: u64,
 ) -> Option<u64>
     requires even { length row.old ≡ length by.now }
-    requires stretches { OnTrue noted (AreStretches by.now starts.now) }
     requires most { AreAtMost row.old most }
-    requires most_by { AreAtMost by.now most_by }
     requires limit { limit < 2 ^ 31 }
     ensures combined { IfSome result (λ m. IsCombined (length by.now) limit row.old by.now a b row.new) }
     ensures most { IfSome result (λ m. AreAtMost row.new m) }
@@ -340,32 +373,27 @@ pub fn combine(
         row,
         most,
         u64::from(x.unsigned_abs()),
-        most_by,
+        by.most,
         u64::from(y.unsigned_abs()),
         limit,
     )?;
-    combine_plain(row, by, starts, noted, x, y);
+    combine_plain(row, by.numbers, by.starts, x, y);
     Some(sum)
 }
 
-/// Like `combine`, for the usual case that `a` is 1 and that `most` and `most_by` show that all results stay within `limit`. Else
+/// Like `combine`, for the usual case that `a` is 1 and that the bounds on both rows show that all results stay within `limit`. Else
 /// `None`, and `row` is unchanged.
 #[inline]
 pub fn subtract_multiple(
     row: &mut [i32],
-    by: &[i32],
-    starts: &[usize],
-    noted: bool,
+    by: &Subtrahend<'_>,
     a: i64,
     b: i64,
     most: u64,
-    most_by: u64,
     limit: u64,
 ) -> Option<u64>
     requires even { length row.old ≡ length by.now }
-    requires stretches { OnTrue noted (AreStretches by.now starts.now) }
     requires most { AreAtMost row.old most }
-    requires most_by { AreAtMost by.now most_by }
     requires limit { limit < 2 ^ 31 }
     ensures one { IfSome result (λ m. a ≡ pos 1) }
     ensures combined { IfSome result (λ m. IsCombined (length by.now) limit row.old by.now (pos 1) b row.new) }
@@ -376,8 +404,8 @@ pub fn subtract_multiple(
         return None;
     }
     let y = narrow_factor(b)?;
-    let sum = sum_within(most, 1, most_by, u64::from(y.unsigned_abs()), limit)?;
-    subtract_noted(row, by, starts, noted, y);
+    let sum = sum_within(most, 1, by.most, u64::from(y.unsigned_abs()), limit)?;
+    subtract_noted(row, by.numbers, by.starts, y);
     Some(sum)
 }
 
@@ -440,25 +468,48 @@ fn is_told(z: i32, k: i32, shift: u32, inverse: i32, most: u32) -> bool
     small & same
 }
 
-/// Whether the likely quotients by `k` of the numbers at the places from `from` up to `to`, `to` excluded, are their quotients.
-fn are_told(
-    row: &[i32],
-    from: usize,
-    to: usize,
-    k: i32,
+/// A number above 0 by which numbers in 32 bits are divided without a division.
+#[derive(Drop)]
+struct ExactDivisor {
+    value: i32,
+    // how often 2 divides it
     shift: u32,
+    // the inverse modulo 2^32 of what is left without these factors 2; no proof depends on it
     inverse: i32,
+    // the largest quotient of a number in 32 bits
     most: u32,
-) -> bool
+}
+
+impl ExactDivisor {
+    /// The divisor `value`.
+    fn new(value: i32) -> Option<ExactDivisor>
+        requires { pos 1 ≤ℤ value }
+        ensures value { IfSome result (λ by. by.value ≡ value) }
+        ensures exact { IfSome result (λ by. IsExact by) }
+    {
+        let shift = value.trailing_zeros();
+        if shift >= 32 {
+            return None;
+        }
+        Some(ExactDivisor {
+            value,
+            shift,
+            inverse: inverse_of(value >> shift),
+            most: LARGEST_NARROW / value.unsigned_abs(),
+        })
+    }
+}
+
+/// Whether the likely quotients of the numbers at the places from `from` up to `to`, `to` excluded, are their quotients.
+fn are_told(row: &[i32], from: usize, to: usize, by: &ExactDivisor) -> bool
     requires from { from ≤ to }
     requires to { to ≤ length row.now }
-    requires shift { shift < 32 }
-    requires most { most * unsigned_abs k < 2 ^ 31 }
-    ensures { OnTrue result ((j : ℕ) → from ≤ j → j < to → likely_quotient_of shift inverse (number_at row.now j) *ℤ k ≡ number_at row.now j) }
+    requires exact { IsExact by.now }
+    ensures { OnTrue result ((j : ℕ) → from ≤ j → j < to → IsTold by.now (number_at row.now j)) }
 {
     let mut all = true;
     for j in from..to {
-        all &= is_told(read(row, j), k, shift, inverse, most);
+        all &= is_told(read(row, j), by.value, by.shift, by.inverse, by.most);
     }
     all
 }
@@ -471,12 +522,10 @@ fn divides_at_once(row: &[i32], from: usize, to: usize, k: i32) -> bool
     requires some { pos 1 ≤ℤ k }
     ensures { OnTrue result ((j : ℕ) → from ≤ j → j < to → unsigned_abs k ∣ unsigned_abs (number_at row.now j)) }
 {
-    let shift = k.trailing_zeros();
-    if shift >= 32 {
-        return false;
+    match ExactDivisor::new(k) {
+        Some(by) => are_told(row, from, to, &by),
+        None => false,
     }
-    let most = LARGEST_NARROW / k.unsigned_abs();
-    are_told(row, from, to, k, shift, inverse_of(k >> shift), most)
 }
 
 /// The greatest common divisor of `earlier` and the numbers at the places from `from` up to `to`, `to` excluded.
@@ -525,13 +574,13 @@ fn end_of_part(from: usize, length: usize) -> usize
     }
 }
 
-/// The greatest common divisor of the numbers of `row` and the denominator `bottom`.
-pub fn divisor(row: &[i32], bottom: u64) -> Divisor
-    requires { 0 < bottom }
+/// The greatest common divisor of the numbers of `row` and the denominator `denominator`.
+pub fn divisor(row: &[i32], denominator: u64) -> Divisor
+    requires { 0 < denominator }
     ensures numbers { DividesAll result.value row.now }
-    ensures bottom { result.value ∣ bottom }
+    ensures denominator { result.value ∣ denominator }
 {
-    let mut shared = Divisor::new(bottom);
+    let mut shared = Divisor::new(denominator);
     let mut from = 0;
     while from < row.len() {
         if shared.is_one() {
@@ -544,17 +593,15 @@ pub fn divisor(row: &[i32], bottom: u64) -> Divisor
     shared
 }
 
-/// Whether the likely quotients by `k` of all numbers of `row` are their quotients. The test ends after the first part where one
-/// isn't.
-fn are_all_told(row: &[i32], k: i32, shift: u32, inverse: i32, most: u32) -> bool
-    requires shift { shift < 32 }
-    requires most { most * unsigned_abs k < 2 ^ 31 }
-    ensures { OnTrue result ((j : ℕ) → j < length row.now → likely_quotient_of shift inverse (number_at row.now j) *ℤ k ≡ number_at row.now j) }
+/// Whether the likely quotients of all numbers of `row` are their quotients. The test ends after the first part where one isn't.
+fn are_all_told(row: &[i32], by: &ExactDivisor) -> bool
+    requires exact { IsExact by.now }
+    ensures { OnTrue result ((j : ℕ) → j < length row.now → IsTold by.now (number_at row.now j)) }
 {
     let mut from = 0;
     while from < row.len() {
         let to = end_of_part(from, row.len());
-        if !are_told(row, from, to, k, shift, inverse, most) {
+        if !are_told(row, from, to, by) {
             return false;
         }
         from = to;
@@ -562,13 +609,16 @@ fn are_all_told(row: &[i32], k: i32, shift: u32, inverse: i32, most: u32) -> boo
     true
 }
 
-/// Replaces the numbers by their likely quotients, which are their quotients by `k`.
-fn divide_as_told(row: &mut [i32], k: i32, shift: u32, inverse: i32)
-    requires shift { shift < 32 }
-    requires told { (j : ℕ) → j < length row.old → likely_quotient_of shift inverse (number_at row.old j) *ℤ k ≡ number_at row.old j }
+/// Replaces the numbers by their likely quotients, which are their quotients.
+fn divide_as_told(row: &mut [i32], by: &ExactDivisor)
+    requires exact { IsExact by.now }
+    requires told { (j : ℕ) → j < length row.old → IsTold by.now (number_at row.old j) }
     ensures length { length row.new ≡ length row.old }
-    ensures entries { (j : ℕ) → j < length row.old → number_at row.new j *ℤ k ≡ number_at row.old j }
+    ensures entries { (j : ℕ) → j < length row.old → number_at row.new j *ℤ by.now.value ≡ number_at row.old j }
 {
+    // read before the loop, so that it is vectorized
+    let shift = by.shift;
+    let inverse = by.inverse;
     for j in 0..row.len() {
         row[j] = likely_quotient(read(row, j), shift, inverse);
     }
@@ -582,16 +632,13 @@ pub fn divide_at_once(row: &mut [i32], k: i32) -> bool
     ensures entries { OnTrue result ((j : ℕ) → j < length row.old → number_at row.new j *ℤ k ≡ number_at row.old j) }
     ensures kept { OnFalse result (row.new ≡ row.old) }
 {
-    let shift = k.trailing_zeros();
-    if shift >= 32 {
+    let Some(by) = ExactDivisor::new(k) else {
+        return false;
+    };
+    if !are_all_told(row, &by) {
         return false;
     }
-    let inverse = inverse_of(k >> shift);
-    let most = LARGEST_NARROW / k.unsigned_abs();
-    if !are_all_told(row, k, shift, inverse, most) {
-        return false;
-    }
-    divide_as_told(row, k, shift, inverse);
+    divide_as_told(row, &by);
     true
 }
 

@@ -1,6 +1,6 @@
 //! A step's operations on the numbers of a row in 64 bits.
 //! The loops go by index, since their invariants are about the numbers at the first k places.
-ghost use Rattle.std.specs.Prelude.{◌≡◌, ℕ, ◌+◌, ◌*◌, ◌<◌, ◌≤◌, ◌^◌, ◌+ℤ◌, ◌*ℤ◌, neg_ℤ, pos, length, unsigned_abs, SomeIff};
+ghost use Rattle.std.specs.Prelude.{◌≡◌, ℕ, ◌+◌, ◌*◌, ◌<◌, ◌≤◌, ◌+ℤ◌, ◌*ℤ◌, neg_ℤ, pos, length, unsigned_abs, SomeIff};
 ghost use Prim.Native.Nat.{◌∣◌};
 ghost use Rattle.std.specs.Bool.{OnTrue};
 ghost use Rattle.std.specs.Option.{IfNone, IfSome};
@@ -9,9 +9,49 @@ ghost use Rattle.it_vectors.specs.Places.{AreNextPlaces, IsNextPlace};
 ghost use Rattle.it_vectors.specs.Combinations.{combined_number, IsBound, IsCombined};
 ghost use Rattle.it_vectors.specs.Divisors.{DividesAll};
 ghost use Rattle.it_space.specs.Sums.{number_at};
+ghost use Rattle.it_number.specs.Limit.{signed_limit};
 
 use crate::arithmetic::{narrow_difference, sum_within};
 use crate::divisors::Divisor;
+use std::marker::Model;
+
+/// A row whose multiples are subtracted from other rows.
+#[derive(Drop)]
+pub struct Subtrahend<'a> {
+    numbers: &'a [i64],
+    // the next places where the row isn't 0
+    next: &'a [usize],
+    // a bound on the absolute values of the numbers
+    most: u64,
+}
+
+impl<'a> Model for Subtrahend<'a> {
+    ghost use Rattle.std.specs.Prelude.{List, ℤ};
+    ghost use Rattle.it_vectors.specs.Sizes.{AreAtMost};
+    ghost use Rattle.it_vectors.specs.Places.{AreNextPlaces};
+
+    ghost Value = { List ℤ };
+
+    ghost view = { λ r. r.numbers.now };
+
+    ghost invariant = { λ r. (AreAtMost r.numbers.now r.most) × (AreNextPlaces r.numbers.now r.next.now) };
+}
+
+impl<'a> Subtrahend<'a> {
+    /// The row of `numbers`, which are at most `most` in absolute value; `next` has the next places where it isn't 0.
+    #[inline]
+    pub fn new(numbers: &'a [i64], next: &'a [usize], most: u64) -> Subtrahend<'a>
+        requires most { AreAtMost numbers.now most }
+        requires places { AreNextPlaces numbers.now next.now }
+        ensures { result ≡ numbers.now }
+    {
+        Subtrahend {
+            numbers,
+            next,
+            most,
+        }
+    }
+}
 
 /// The number at place `k` of `row`.
 #[inline]
@@ -29,9 +69,9 @@ fn next_number(row: &[i64], by: &[i64], k: usize, a: i64, b: i64, limit: u64) ->
     requires k_by { k < length by.now }
     requires row { AreShort row.now }
     requires by { AreShort by.now }
-    requires a { unsigned_abs a < 2 ^ 63 }
-    requires b { unsigned_abs b < 2 ^ 63 }
-    requires limit { limit < 2 ^ 63 }
+    requires a { unsigned_abs a < signed_limit }
+    requires b { unsigned_abs b < signed_limit }
+    requires limit { limit < signed_limit }
     ensures { SomeIff result (unsigned_abs (combined_number row.now by.now a b k) ≤ limit) (combined_number row.now by.now a b k) }
 {
     narrow_difference(read(row, k), a, read(by, k), b, limit)
@@ -43,9 +83,9 @@ fn combine_tested(row: &mut [i64], by: &[i64], a: i64, b: i64, limit: u64) -> bo
     requires even { length row.old ≡ length by.now }
     requires row { AreShort row.old }
     requires by { AreShort by.now }
-    requires a { unsigned_abs a < 2 ^ 63 }
-    requires b { unsigned_abs b < 2 ^ 63 }
-    requires limit { limit < 2 ^ 63 }
+    requires a { unsigned_abs a < signed_limit }
+    requires b { unsigned_abs b < signed_limit }
+    requires limit { limit < signed_limit }
     ensures { OnTrue result (IsCombined (length by.now) limit row.old by.now a b row.new) }
 {
     for k in 0..row.len() {
@@ -86,7 +126,7 @@ fn bound(row: &[i64], most: u64, a: u64, y: u64, b: u64, limit: u64) -> Option<u
 /// The product of `x` and `a`, without overflow checks: it is below 2^63 in absolute value.
 #[inline]
 fn times(x: i64, a: i64) -> i64
-    requires { unsigned_abs (x *ℤ a) < 2 ^ 63 }
+    requires { unsigned_abs (x *ℤ a) < signed_limit }
     ensures { result ≡ x *ℤ a }
 {
     x * a
@@ -95,7 +135,7 @@ fn times(x: i64, a: i64) -> i64
 /// x - y, without overflow checks: it is below 2^63 in absolute value.
 #[inline]
 fn minus(x: i64, y: i64) -> i64
-    requires { unsigned_abs x + unsigned_abs y < 2 ^ 63 }
+    requires { unsigned_abs x + unsigned_abs y < signed_limit }
     ensures { result ≡ x +ℤ neg_ℤ y }
 {
     x - y
@@ -104,7 +144,7 @@ fn minus(x: i64, y: i64) -> i64
 /// x a - y b, without overflow checks: the bound rules overflow out.
 #[inline]
 pub fn plain_difference(x: i64, a: i64, y: i64, b: i64) -> i64
-    requires { unsigned_abs (x *ℤ a) + unsigned_abs (y *ℤ b) < 2 ^ 63 }
+    requires { unsigned_abs (x *ℤ a) + unsigned_abs (y *ℤ b) < signed_limit }
     ensures { result ≡ x *ℤ a +ℤ neg_ℤ (y *ℤ b) }
 {
     minus(times(x, a), times(y, b))
@@ -115,7 +155,7 @@ pub fn plain_difference(x: i64, a: i64, y: i64, b: i64) -> i64
 fn plain_number(row: &[i64], by: &[i64], k: usize, a: i64, b: i64) -> i64
     requires k_row { k < length row.now }
     requires k_by { k < length by.now }
-    requires bound { unsigned_abs (number_at row.now k *ℤ a) + unsigned_abs (number_at by.now k *ℤ b) < 2 ^ 63 }
+    requires bound { unsigned_abs (number_at row.now k *ℤ a) + unsigned_abs (number_at by.now k *ℤ b) < signed_limit }
     ensures { result ≡ number_at row.now k *ℤ a +ℤ neg_ℤ (number_at by.now k *ℤ b) }
 {
     plain_difference(read(row, k), a, read(by, k), b)
@@ -126,7 +166,7 @@ fn plain_number(row: &[i64], by: &[i64], k: usize, a: i64, b: i64) -> i64
 fn less_product(row: &[i64], by: &[i64], k: usize, b: i64) -> i64
     requires k_row { k < length row.now }
     requires k_by { k < length by.now }
-    requires bound { unsigned_abs (number_at row.now k) + unsigned_abs (number_at by.now k *ℤ b) < 2 ^ 63 }
+    requires bound { unsigned_abs (number_at row.now k) + unsigned_abs (number_at by.now k *ℤ b) < signed_limit }
     ensures { result ≡ number_at row.now k +ℤ neg_ℤ (number_at by.now k *ℤ b) }
 {
     minus(read(row, k), times(read(by, k), b))
@@ -159,7 +199,7 @@ pub fn note_places(row: &[i64], next: &mut [usize])
 /// Like `combine`, without overflow checks: the bound rules overflow out.
 fn multiply_and_subtract(row: &mut [i64], by: &[i64], a: i64, b: i64)
     requires even { length row.old ≡ length by.now }
-    requires bound { (k : ℕ) → k < length by.now → unsigned_abs (number_at row.old k *ℤ a) + unsigned_abs (number_at by.now k *ℤ b) < 2 ^ 63 }
+    requires bound { (k : ℕ) → k < length by.now → unsigned_abs (number_at row.old k *ℤ a) + unsigned_abs (number_at by.now k *ℤ b) < signed_limit }
     ensures length { length row.new ≡ length row.old }
     ensures entries { (k : ℕ) → k < length by.now → number_at row.new k ≡ number_at row.old k *ℤ a +ℤ neg_ℤ (number_at by.now k *ℤ b) }
 {
@@ -171,7 +211,7 @@ fn multiply_and_subtract(row: &mut [i64], by: &[i64], a: i64, b: i64)
 /// Like `combine` with factor 1, without overflow checks: the bound rules overflow out. Only places where `by` isn't 0 change.
 fn subtract_times(row: &mut [i64], by: &[i64], next: &[usize], b: i64)
     requires even { length row.old ≡ length by.now }
-    requires bound { (k : ℕ) → k < length by.now → unsigned_abs (number_at row.old k) + unsigned_abs (number_at by.now k *ℤ b) < 2 ^ 63 }
+    requires bound { (k : ℕ) → k < length by.now → unsigned_abs (number_at row.old k) + unsigned_abs (number_at by.now k *ℤ b) < signed_limit }
     requires places { AreNextPlaces by.now next.now }
     ensures length { length row.new ≡ length row.old }
     ensures entries { (k : ℕ) → k < length by.now → number_at row.new k ≡ number_at row.old k +ℤ neg_ℤ (number_at by.now k *ℤ b) }
@@ -186,7 +226,7 @@ fn subtract_times(row: &mut [i64], by: &[i64], next: &[usize], b: i64)
 /// Like `combine`, without overflow checks: the bound rules overflow out.
 fn combine_plain(row: &mut [i64], by: &[i64], next: &[usize], a: i64, b: i64)
     requires even { length row.old ≡ length by.now }
-    requires bound { (k : ℕ) → k < length by.now → unsigned_abs (number_at row.old k *ℤ a) + unsigned_abs (number_at by.now k *ℤ b) < 2 ^ 63 }
+    requires bound { (k : ℕ) → k < length by.now → unsigned_abs (number_at row.old k *ℤ a) + unsigned_abs (number_at by.now k *ℤ b) < signed_limit }
     requires places { AreNextPlaces by.now next.now }
     ensures length { length row.new ≡ length row.old }
     ensures entries { (k : ℕ) → k < length by.now → number_at row.new k ≡ number_at row.old k *ℤ a +ℤ neg_ℤ (number_at by.now k *ℤ b) }
@@ -198,28 +238,23 @@ fn combine_plain(row: &mut [i64], by: &[i64], next: &[usize], a: i64, b: i64)
     }
 }
 
-/// Multiplies the numbers of `row` by `a` and subtracts `b` times those of `by`; returns a bound on the results. `most` and
-/// `most_by` are bounds on the numbers of the two rows, and `next` has the next places where `by` isn't 0. `None` if a result
-/// would be above `limit` in absolute value: then nothing is known of the row.
+/// Multiplies the numbers of `row` by `a` and subtracts `b` times those of `by`; returns a bound on the results. `most` is a bound on
+/// the numbers of `row`. `None` if a result would be above `limit` in absolute value: then nothing is known of the row.
 pub fn combine(
     row: &mut [i64],
-    by: &[i64],
-    next: &[usize],
+    by: &Subtrahend<'_>,
     a: i64,
     b: i64,
     most: u64,
-    most_by: u64,
     limit: u64,
 ) -> Option<u64>
     requires even { length row.old ≡ length by.now }
     requires row { AreShort row.old }
     requires by { AreShort by.now }
-    requires places { AreNextPlaces by.now next.now }
     requires most { AreAtMost row.old most }
-    requires most_by { AreAtMost by.now most_by }
-    requires a { unsigned_abs a < 2 ^ 63 }
-    requires b { unsigned_abs b < 2 ^ 63 }
-    requires limit { limit < 2 ^ 63 }
+    requires a { unsigned_abs a < signed_limit }
+    requires b { unsigned_abs b < signed_limit }
+    requires limit { limit < signed_limit }
     ensures combined { IfSome result (λ m. IsCombined (length by.now) limit row.old by.now a b row.new) }
     ensures most { IfSome result (λ m. AreAtMost row.new m) }
 {
@@ -227,16 +262,16 @@ pub fn combine(
         row,
         most,
         a.unsigned_abs(),
-        most_by,
+        by.most,
         b.unsigned_abs(),
         limit,
     ) {
         Some(sum) => {
-            combine_plain(row, by, next, a, b);
+            combine_plain(row, by.numbers, by.next, a, b);
             Some(sum)
         }
         None => {
-            if combine_tested(row, by, a, b, limit) {
+            if combine_tested(row, by.numbers, a, b, limit) {
                 Some(limit)
             } else {
                 None
@@ -245,13 +280,13 @@ pub fn combine(
     }
 }
 
-/// The greatest common divisor of the numbers of `row` and the denominator `bottom`.
-pub fn divisor(row: &[i64], bottom: u64) -> Divisor
-    requires { 0 < bottom }
+/// The greatest common divisor of the numbers of `row` and the denominator `denominator`.
+pub fn divisor(row: &[i64], denominator: u64) -> Divisor
+    requires { 0 < denominator }
     ensures numbers { DividesAll result.value row.now }
-    ensures bottom { result.value ∣ bottom }
+    ensures denominator { result.value ∣ denominator }
 {
-    let mut shared = Divisor::new(bottom);
+    let mut shared = Divisor::new(denominator);
     for k in 0..row.len() {
         if shared.is_one() {
             return shared;

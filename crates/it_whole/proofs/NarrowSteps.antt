@@ -6,16 +6,15 @@ use Rattle.it_number.proofs.Divisors.{quotient_some}
 use Rattle.it_rational.specs.Rational.{Rational}
 use Rattle.it_vectors.specs.Combinations.{IsCombined}
 use Rattle.it_vectors.specs.Sizes.{AreAtMost}
-use Rattle.it_whole.specs.Combinations.{IsCombinedAndShortened}
 use Rattle.it_whole.specs.WholeRows.{IsUsable, IsRow, WholeRowView}
-use Rattle.it_whole.specs.Updates.{IsWholeRowReduced}
+use Rattle.it_whole.specs.Updates.{IsShortened, IsWholeRowReduced}
 use Rattle.it_whole.proofs.RowSteps.{less_row}
 use Rattle.it_whole.proofs.Usable.{factor_some, shortened_less}
 
 -- a row within a limit is within a greater one
-row_within : (width limit more : ℕ) (f : ℕ → Rational) (row : List ℤ) (bottom : ℕ) → limit ≤ more → IsRow width limit f row bottom
-    → IsRow width more f row bottom
-row_within width limit more f row bottom h r = record {
+row_within : (width limit more : ℕ) (f : ℕ → Rational) (row : List ℤ) (denominator : ℕ) → limit ≤ more → IsRow width limit f row denominator
+    → IsRow width more f row denominator
+row_within width limit more f row denominator h r = record {
   length_is = r.length_is;
   some = r.some;
   low = r.low;
@@ -28,8 +27,8 @@ row_within width limit more f row bottom h r = record {
 reduced_within : (width limit more : ℕ) (old own new : WholeRowView) (z p : ℤ) → limit ≤ more → AreAtMost new.numbers limit
     → IsWholeRowReduced width more old own z p new → IsWholeRowReduced width limit old own z p new
 reduced_within width limit more old own new z p h small less = λ f g x w rf rg ex ew.
-    let r = less f g x w (row_within width limit more f old.numbers old.bottom h rf)
-    (row_within width limit more g own.numbers own.bottom h rg) ex ew in record {
+    let r = less f g x w (row_within width limit more f old.numbers old.denominator h rf)
+    (row_within width limit more g own.numbers own.denominator h rg) ex ew in record {
       length_is = r.length_is;
       some = r.some;
       low = r.low;
@@ -40,7 +39,7 @@ reduced_within width limit more old own new z p h small less = λ f g x w rf rg 
 module _ (width limit : ℕ) (old own new : WholeRowView) (z p a b : ℤ) (above : pos 1 ≤ℤ p)
     (a_is : a ≡ int_quotient p (gcd (unsigned_abs p) (unsigned_abs z))) where
   pub combined_usable : IsUsable width limit old → IsCombined width limit old.numbers own.numbers a b new.numbers
-      → new.bottom ≡ old.bottom * unsigned_abs a → IsUsable width limit new
+      → new.denominator ≡ old.denominator * unsigned_abs a → IsUsable width limit new
   combined_usable u c e = record {
     length_is = c.length_is;
     some = subst (λ (k : ℕ). 0 < k) (sym e) (mul-pos u.some (factor_some p z a above a_is));
@@ -48,9 +47,9 @@ module _ (width limit : ℕ) (old own new : WholeRowView) (z p a b : ℤ) (above
   }
 
   -- where the factor of the row is 1 the denominator stays
-  module _ (one : a ≡ pos 1) (c : IsCombined width limit old.numbers own.numbers (pos 1) b new.numbers) (e : new.bottom ≡ old.bottom) where
-    times_factor : old.bottom ≡ old.bottom * unsigned_abs a
-    times_factor = subst (λ (a : ℤ). old.bottom ≡ old.bottom * unsigned_abs a) (sym one) (omega arith)
+  module _ (one : a ≡ pos 1) (c : IsCombined width limit old.numbers own.numbers (pos 1) b new.numbers) (e : new.denominator ≡ old.denominator) where
+    times_factor : old.denominator ≡ old.denominator * unsigned_abs a
+    times_factor = subst (λ (a : ℤ). old.denominator ≡ old.denominator * unsigned_abs a) (sym one) (omega arith)
 
     with_factor : IsCombined width limit old.numbers own.numbers a b new.numbers
     with_factor = subst (λ (a : ℤ). IsCombined width limit old.numbers own.numbers a b new.numbers) (sym one) c
@@ -62,19 +61,20 @@ module _ (width limit : ℕ) (old own new : WholeRowView) (z p a b : ℤ) (above
     pub multiple_usable : IsUsable width limit old → IsUsable width limit new
     multiple_usable u = combined_usable u with_factor (e ∙ times_factor)
 
-  module _ (bottom : ℕ) (short : limit < 2 ^ 31) (bottom_is : bottom ≡ old.bottom * unsigned_abs a)
-      (c : IsCombinedAndShortened width old.numbers own.numbers a b bottom new) (small : AreAtMost new.numbers limit) where
-    pub shortened_reduced : b ≡ int_quotient z (gcd (unsigned_abs p) (unsigned_abs z)) → old.bottom * unsigned_abs a < 2 ^ 63
+  module _ (denominator : ℕ) (short : limit < 2 ^ 31) (denominator_is : denominator ≡ old.denominator * unsigned_abs a) (numbers : List ℤ)
+      (c : IsCombined width 9223372036854775807 old.numbers own.numbers a b numbers)
+      (s : IsShortened record { numbers = numbers; denominator = denominator } new) (small : AreAtMost new.numbers limit) where
+    pub shortened_reduced : b ≡ int_quotient z (gcd (unsigned_abs p) (unsigned_abs z)) → old.denominator * unsigned_abs a < 2 ^ 63
         → IsWholeRowReduced width limit old own z p new
     shortened_reduced b_is low = reduced_within width limit 9223372036854775807 old own new z p (omega (arith, short)) small
-        (shortened_less width 9223372036854775807 old own record { numbers = c.numbers; bottom = bottom } new z p
-        (less_row width 9223372036854775807 old own record { numbers = c.numbers; bottom = bottom } z p a b above a_is b_is c.combined
-        bottom_is low) c.shortened)
+        (shortened_less width 9223372036854775807 old own record { numbers = numbers; denominator = denominator } new z p
+        (less_row width 9223372036854775807 old own record { numbers = numbers; denominator = denominator } z p a b above a_is b_is c
+        denominator_is low) s)
 
     pub room_usable : IsUsable width limit old → IsUsable width limit new
     room_usable u = record {
-      length_is = c.shortened.length_is ∙ c.combined.length_is;
-      some = quotient_some new.bottom c.shortened.shared bottom c.shortened.bottom_is
-          (subst (λ (k : ℕ). 0 < k) (sym bottom_is) (mul-pos u.some (factor_some p z a above a_is)));
-      small = λ k l. small k (omega (arith, l, c.shortened.length_is, c.combined.length_is));
+      length_is = s.length_is ∙ c.length_is;
+      some = quotient_some new.denominator s.shared denominator s.denominator_is
+          (subst (λ (k : ℕ). 0 < k) (sym denominator_is) (mul-pos u.some (factor_some p z a above a_is)));
+      small = λ k l. small k (omega (arith, l, s.length_is, c.length_is));
     }

@@ -81,14 +81,14 @@ row_stays width limit f g row d x w e r = record {
 
 -- the same row over a smaller denominator
 pub row_shortened : (width limit : ℕ) (f : ℕ → Rational) (old new : WholeRowView) → IsShortened old new
-    → IsRow width limit f old.numbers old.bottom → IsRow width limit f new.numbers new.bottom
+    → IsRow width limit f old.numbers old.denominator → IsRow width limit f new.numbers new.denominator
 row_shortened width limit f old new s r = let h = s.shared in record {
   length_is = s.length_is ∙ r.length_is;
-  some = quotient_some new.bottom s.shared old.bottom s.bottom_is r.some;
-  low = quotient_below new.bottom h old.bottom s.some s.bottom_is r.low;
-  named = λ k l. reduced_name (f k) (number_at new.numbers k) new.bottom h s.some
-      (subst (λ (d : ℕ). IsRatio (f k) (number_at new.numbers k *ℤ pos h) d) (sym s.bottom_is)
-      (subst (λ (z : ℤ). IsRatio (f k) z old.bottom) (sym (s.entries k (omega (arith, l, r.length_is)))) (r.named k l)));
+  some = quotient_some new.denominator s.shared old.denominator s.denominator_is r.some;
+  low = quotient_below new.denominator h old.denominator s.some s.denominator_is r.low;
+  named = λ k l. reduced_name (f k) (number_at new.numbers k) new.denominator h s.some
+      (subst (λ (d : ℕ). IsRatio (f k) (number_at new.numbers k *ℤ pos h) d) (sym s.denominator_is)
+      (subst (λ (z : ℤ). IsRatio (f k) z old.denominator) (sym (s.entries k (omega (arith, l, r.length_is)))) (r.named k l)));
   small = λ k l. quotient_at_most (unsigned_abs (number_at new.numbers k)) h (unsigned_abs (number_at old.numbers k)) limit s.some
       (sym (unsigned_abs-mul (number_at new.numbers k) (pos h)) ∙ ap unsigned_abs (s.entries k (omega (arith, l, r.length_is)))) (r.small k l);
 }
@@ -99,17 +99,19 @@ row_shortened width limit f old new s r = let h = s.shared in record {
 -- the row less as much of the leaving row as makes its entry 0, from the factors left after their common divisor
 pub less_row : (width limit : ℕ) (old own new : WholeRowView) (z p a b : ℤ) → pos 1 ≤ℤ p
     → a ≡ int_quotient p (gcd (unsigned_abs p) (unsigned_abs z)) → b ≡ int_quotient z (gcd (unsigned_abs p) (unsigned_abs z))
-    → IsCombined width limit old.numbers own.numbers a b new.numbers → new.bottom ≡ old.bottom * unsigned_abs a → old.bottom * unsigned_abs a < 2 ^ 63
+    → IsCombined width limit old.numbers own.numbers a b new.numbers → new.denominator ≡ old.denominator * unsigned_abs a
+    → old.denominator * unsigned_abs a < 2 ^ 63
     → IsWholeRowReduced width limit old own z p new
 less_row width limit old own new z (negsuc p) a b hp ea eb c d l = absurd (omega (arith, ints))
 less_row width limit old own new z (pos p) a b hp ea eb c d l = λ f g x w rf rg ex ew.
     subst (λ (k : ℕ). IsRow width limit (λ k. Q.plus (f k) (Q.minus (Q.times (g k) (Q.times x (Q.inverse w))))) new.numbers k)
-    (sym (d ∙ ap (λ a. old.bottom * unsigned_abs a) ea))
-    (row_stepped width limit f g old.numbers own.numbers new.numbers old.bottom own.bottom x w z b p (p / gcd p (unsigned_abs z))
+    (sym (d ∙ ap (λ a. old.denominator * unsigned_abs a) ea))
+    (row_stepped width limit f g old.numbers own.numbers new.numbers old.denominator own.denominator x w z b p (p / gcd p (unsigned_abs z))
     (gcd p (unsigned_abs z)) rf rg ex ew some_gcd
     (quotient_some (p / gcd p (unsigned_abs z)) (gcd p (unsigned_abs z)) p product_is_whole entry_some) product_is_whole
     (ap (λ b. b *ℤ pos (gcd p (unsigned_abs z))) eb ∙ over_back z (gcd p (unsigned_abs z)) divisor_is_greatest.1)
-    (subst (λ (a : ℤ). IsCombined width limit old.numbers own.numbers a b new.numbers) ea c) (subst (λ (a : ℤ). old.bottom * unsigned_abs a < 2 ^ 63) ea l))
+    (subst (λ (a : ℤ). IsCombined width limit old.numbers own.numbers a b new.numbers) ea c)
+    (subst (λ (a : ℤ). old.denominator * unsigned_abs a < 2 ^ 63) ea l))
   where
     entry_some : 0 < p
     entry_some = omega (arith, ints, hp)
@@ -125,8 +127,15 @@ less_row width limit old own new z (pos p) a b hp ea eb c d l = λ f g x w rf rg
 
 -- and where the entry is 0 already
 pub kept_row : (width limit : ℕ) (old own : WholeRowView) (p : ℤ) → IsWholeRowReduced width limit old own (pos 0) p old
-kept_row width limit old own p = λ f g x w rf rg ex ew. row_stays width limit f g old.numbers old.bottom x w (null_named x old.bottom rf.some ex) rf
+kept_row width limit old own p = λ f g x w rf rg ex ew. row_stays width limit f g old.numbers old.denominator x w (null_named x old.denominator rf.some ex) rf
 
 -- a row is itself over the same denominator
 pub same_shortened : (row : WholeRowView) → IsShortened row row
-same_shortened row = record { shared = 1; some = omega arith; length_is = refl; entries = λ k l. times_one (number_at row.numbers k); bottom_is = omega arith }
+same_shortened row = record {
+  shared = 1;
+  some = omega arith;
+  length_is = refl;
+  entries = λ k l. times_one
+      (number_at row.numbers k);
+  denominator_is = omega arith;
+}

@@ -13,7 +13,7 @@ use native.Mathlib.Nat.{div-mul_cancel}
 pub shortened_usable : (width limit : ℕ) (old new : WholeRowView) → IsShortened old new → IsUsable width limit old → IsUsable width limit new
 shortened_usable width limit old new s u = record {
   length_is = s.length_is ∙ u.length_is;
-  some = quotient_some new.bottom s.shared old.bottom s.bottom_is u.some;
+  some = quotient_some new.denominator s.shared old.denominator s.denominator_is u.some;
   small = λ k l. quotient_at_most (unsigned_abs (number_at new.numbers k)) s.shared (unsigned_abs (number_at old.numbers k)) limit s.some
       (sym (unsigned_abs-mul (number_at new.numbers k) (pos s.shared)) ∙ ap unsigned_abs (s.entries k (omega (arith, l, u.length_is)))) (u.small k l);
 }
@@ -21,7 +21,7 @@ shortened_usable width limit old new s u = record {
 -- a usable row over its entry is usable, over a denominator that is no larger than the entry
 pub quotient_usable : (width limit : ℕ) (old : WholeRowView) (p : ℤ) (new : WholeRowView) → IsUsable width limit old → pos 1 ≤ℤ p
     → IsQuotient old p new → IsUsable width limit new
-quotient_usable width limit old p new u h q = shortened_usable width limit record { numbers = old.numbers; bottom = unsigned_abs p } new q
+quotient_usable width limit old p new u h q = shortened_usable width limit record { numbers = old.numbers; denominator = unsigned_abs p } new q
     record { length_is = u.length_is; some = size_above_zero p h; small = u.small }
   where
     size_above_zero : (z : ℤ) → pos 1 ≤ℤ z → 0 < unsigned_abs z

@@ -1,11 +1,14 @@
 //! The columns of the start.
-ghost use Rattle.std.specs.Prelude.{◌≡◌, ◌+◌, ◌<◌, ◌^◌, ◌++◌, ◌∷◌, [], length, pos, slice_index_or, OnOk, SomeIff};
+ghost use Rattle.std.specs.Prelude.{◌≡◌, ◌+◌, ◌<◌, ◌++◌, ◌∷◌, [], length, pos, slice_index_or, IfErr, OnOk, SomeIff};
 ghost use Rattle.std.specs.Bool.{OnTrue};
-ghost use Rattle.it_whole.specs.ColumnTerms.{multiple_of_term, multiple_of_terms, IsSubmodular, Suits};
+ghost use Rattle.it_whole.specs.ColumnTerms.{multiple_of_term, multiple_of_terms, IsSubmodular, MultipleFits, MultiplesFit, Suits};
+ghost use Rattle.it_whole.specs.declared.giving_up.GaveUp.TheVariants.{TooLarge};
 ghost use Rattle.it_space.specs.Rows.{value, row_mass};
 ghost use Rattle.it_whole.specs.Combinations.{IsPriced};
 ghost use Rattle.it_space.specs.Sums.{number_at};
+ghost use Rattle.it_number.specs.Limit.{signed_limit};
 
+use crate::giving_up::GaveUp;
 use crate::narrow_rows::NarrowRow;
 use crate::rows::{AnyRow, WholeRow};
 use crate::wide_rows::WideRow;
@@ -70,30 +73,33 @@ impl Column {
         self.submodular = false;
     }
 
-    /// Appends `factor` times entry `i` of `other`; `false` if the product overflows or allocation fails.
+    /// Appends `factor` times entry `i` of `other`.
     #[inline]
-    fn push_multiple(&mut self, other: &Column, i: usize, factor: i64) -> bool
+    fn push_multiple(&mut self, other: &Column, i: usize, factor: i64) -> Result<(), GaveUp>
         requires { i < length other.now }
-        ensures { OnTrue result (self.new ≡ self.old ++ multiple_of_term factor (slice_index_or other.now i (0, pos 0)) ∷ []) }
+        ensures value { OnOk result (self.new ≡ self.old ++ multiple_of_term factor (slice_index_or other.now i (0, pos 0)) ∷ []) }
+        ensures fits { OnOk result (MultipleFits factor (slice_index_or other.now i (0, pos 0))) }
+        ensures large { IfErr result (λ e. e ≡ TooLarge → ¬ (MultipleFits factor (slice_index_or other.now i (0, pos 0)))) }
     {
         let Some(number) = other.factor(i).checked_mul(factor) else {
-            return false;
+            return Err(GaveUp::TooLarge);
         };
         // not tested: a sum of multiples of columns is seldom such a column
         self.submodular = false;
-        self.terms.push((other.place(i), number)).is_ok()
+        self.terms.push((other.place(i), number))?;
+        Ok(())
     }
 
-    /// Appends `factor` times each entry of `other`; `false` if a product overflows or allocation fails.
-    pub fn add_multiple(&mut self, other: &Column, factor: i64) -> bool
-        ensures { OnTrue result (self.new ≡ self.old ++ multiple_of_terms factor other.now) }
+    /// Appends `factor` times each entry of `other`. Where it gives up, it may have appended some.
+    pub fn add_multiple(&mut self, other: &Column, factor: i64) -> Result<(), GaveUp>
+        ensures value { OnOk result (self.new ≡ self.old ++ multiple_of_terms factor other.now) }
+        ensures fits { OnOk result (MultiplesFit factor other.now) }
+        ensures large { IfErr result (λ e. e ≡ TooLarge → ¬ (MultiplesFit factor other.now)) }
     {
         for i in 0..other.size() {
-            if !self.push_multiple(other, i, factor) {
-                return false;
-            }
+            self.push_multiple(other, i, factor)?;
         }
-        true
+        Ok(())
     }
 
     /// The number of entries.
@@ -123,7 +129,7 @@ impl Column {
 
     /// The sum of the absolute values of the entries; `None` unless it is below 2^63.
     pub fn weight(&self) -> Option<u64>
-        ensures { SomeIff result (row_mass self.now < 2 ^ 63) (row_mass self.now) }
+        ensures { SomeIff result (row_mass self.now < signed_limit) (row_mass self.now) }
     {
         let mut sum: u64 = 0;
         for i in 0..self.size() {

@@ -6,10 +6,12 @@
 #![tactic(auto)]
 
 mod columns;
+mod giving_up;
 mod narrow_rows;
 mod room;
 mod rows;
 mod wide_rows;
 
 pub use columns::Column;
-pub use rows::WholeRow;
+pub use giving_up::GaveUp;
+pub use rows::{Leaving, WholeRow};

@@ -3,15 +3,16 @@ ghost use Rattle.std.specs.Prelude.{◌≡◌, ◌+◌, ◌*◌, ◌<◌, ◌^�
 ghost use Rattle.std.specs.Bool.{OnFalse, OnTrue};
 ghost use Rattle.std.specs.Option.{IfSome};
 ghost use Rattle.it_space.specs.Sums.{number_at};
-ghost use Rattle.it_vectors.specs.Sizes.{AreAtMost};
+ghost use Rattle.it_vectors.specs.Sizes.{AreAtMost, AreShort};
 ghost use Rattle.it_vectors.specs.Combinations.{IsCombined};
+ghost use Rattle.it_vectors.specs.Stretches.{AreStretches};
 ghost use Rattle.it_whole.specs.WholeRows.{IsUsable};
 ghost use Rattle.it_whole.specs.Updates.{IsWholeRowReduced, IsQuotient, IsShortened, IsUpdated};
-ghost use Rattle.it_whole.specs.Combinations.{IsCombinedAndShortened};
+ghost use Rattle.it_number.specs.Limit.{signed_limit};
 
-use crate::room::combine_in_room;
+use crate::room::{combine_to, shorten_to};
 use it_vectors::narrow_numbers::{
-    STRETCH, combine, divide, divide_at_once, divisor, greatest_size, narrow_number,
+    STRETCH, Subtrahend, combine, divide, divide_at_once, divisor, greatest_size, narrow_number,
     note_stretches, read, subtract_multiple,
 };
 use it_vectors::{lowest_terms, short_product};
@@ -22,7 +23,7 @@ use std::marker::Model;
 #[derive(Drop)]
 pub struct NarrowRow {
     numbers: Vec<i32>,
-    bottom: u64,
+    denominator: u64,
     // a bound on the absolute values of the numbers; kept so that a step mostly needs no pass over them
     most: u64,
     // where the stretches begin outside of which the row is 0, and whether that is known: it is for a leaving row and a shortened one
@@ -38,21 +39,21 @@ impl Model for NarrowRow {
 
     ghost Value = { WholeRowView };
 
-    ghost view = { λ r. record { numbers = r.numbers.items; bottom = r.bottom } };
+    ghost view = { λ r. record { numbers = r.numbers.items; denominator = r.denominator } };
 
     ghost invariant = { λ r. (AreAtMost r.numbers.items r.most) × (OnTrue r.noted (AreStretches r.numbers.items r.starts.items)) };
 }
 
 impl NarrowRow {
-    /// The row of `numbers` over the denominator `bottom`; `None` if a number is above `limit` in absolute value.
+    /// The row of `numbers` over the denominator `denominator`; `None` if a number is above `limit` in absolute value.
     pub fn from_numbers(
         alloc: Global,
         numbers: &[i64],
-        bottom: u64,
+        denominator: u64,
         limit: u64,
     ) -> Result<Option<NarrowRow>, AllocError>
         requires limit { limit < 2 ^ 31 }
-        ensures row { IfOk result (λ o. IfSome o (λ row. row ≡ record { numbers = numbers.now; bottom = bottom })) }
+        ensures row { IfOk result (λ o. IfSome o (λ row. row ≡ record { numbers = numbers.now; denominator = denominator })) }
         ensures small { IfOk result (λ o. IfSome o (λ row. AreAtMost numbers.now limit)) }
     {
         let mut short = Vec::with_capacity(alloc, numbers.len())?;
@@ -67,7 +68,7 @@ impl NarrowRow {
         let starts = Vec::with_capacity(alloc, numbers.len() / STRETCH + 1)?;
         Ok(Some(NarrowRow {
             numbers: short,
-            bottom,
+            denominator,
             most,
             starts,
             noted: false,
@@ -84,10 +85,10 @@ impl NarrowRow {
     }
 
     /// The denominator.
-    pub fn bottom(&self) -> u64
-        ensures { result ≡ self.now.bottom }
+    pub fn denominator(&self) -> u64
+        ensures { result ≡ self.now.denominator }
     {
-        self.bottom
+        self.denominator
     }
 
     /// A bound on the absolute values of the numbers.
@@ -126,18 +127,18 @@ impl NarrowRow {
 
     /// Puts the row over the denominator 1, if the denominator is found to divide all numbers; else `false`, and the row is unchanged.
     fn divide_out(&mut self) -> bool
-        requires some { 0 < self.old.bottom }
+        requires some { 0 < self.old.denominator }
         ensures shortened { OnTrue result (IsShortened self.old self.new) }
         ensures kept { OnFalse result (self.new ≡ self.old) }
     {
-        if self.bottom >= 1 << 31 {
+        if self.denominator >= 1 << 31 {
             return false;
         }
         self.noted = false;
-        if !divide_at_once(self.numbers.as_mut_slice(), self.bottom as i32) {
+        if !divide_at_once(self.numbers.as_mut_slice(), self.denominator as i32) {
             return false;
         }
-        self.bottom = 1;
+        self.denominator = 1;
         self.most = greatest_size(self.numbers.as_slice());
         true
     }
@@ -145,54 +146,65 @@ impl NarrowRow {
     /// Puts the row over its least denominator.
     #[inline(never)]
     fn put_in_lowest_terms(&mut self)
-        requires some { 0 < self.old.bottom }
+        requires some { 0 < self.old.denominator }
         ensures { IsShortened self.old self.new }
     {
-        if self.bottom == 1 || self.divide_out() {
+        if self.denominator == 1 || self.divide_out() {
             return;
         }
-        let shared = divisor(self.numbers.as_slice(), self.bottom);
+        let shared = divisor(self.numbers.as_slice(), self.denominator);
         if shared.is_one() {
             return;
         }
         self.noted = false;
         divide(self.numbers.as_mut_slice(), &shared);
-        self.bottom = shared.size_quotient(self.bottom);
+        self.denominator = shared.size_quotient(self.denominator);
         self.most = greatest_size(self.numbers.as_slice());
     }
 
     /// Puts the row over its least denominator, and computes the stretches outside of which it is 0.
     pub fn shorten(&mut self)
-        requires some { 0 < self.old.bottom }
+        requires some { 0 < self.old.denominator }
         ensures { IsShortened self.old self.new }
     {
         self.put_in_lowest_terms();
         self.note_stretches();
     }
 
-    /// Multiplies the numbers by `a`, subtracts `b` times those of the leaving row `own`, and puts them over `bottom`. `false` if the
+    /// The places where the stretches begin outside of which the row is 0, if they are known.
+    #[inline]
+    fn known_starts(&self) -> Option<&[usize]>
+        ensures { IfSome result (λ starts. AreStretches self.now.numbers starts.now) }
+    {
+        if self.noted {
+            Some(self.starts.as_slice())
+        } else {
+            None
+        }
+    }
+
+    /// The row as one whose multiples are subtracted from others.
+    #[inline]
+    fn as_subtrahend(&self) -> Subtrahend<'_>
+        ensures { result ≡ self.now.numbers }
+    {
+        Subtrahend::new(self.numbers.as_slice(), self.known_starts(), self.most)
+    }
+
+    /// Multiplies the numbers by `a`, subtracts `b` times those of the leaving row `own`, and puts them over `denominator`. `false` if the
     /// bounds of the two rows don't show that all results stay within `limit`: then the row is unchanged.
-    fn combine(&mut self, own: &NarrowRow, a: i64, b: i64, bottom: u64, limit: u64) -> bool
+    fn combine(&mut self, own: &NarrowRow, a: i64, b: i64, denominator: u64, limit: u64) -> bool
         requires even { length self.old.numbers ≡ length own.now.numbers }
         requires limit { limit < 2 ^ 31 }
         ensures combined { OnTrue result (IsCombined (length own.now.numbers) limit self.old.numbers own.now.numbers a b self.new.numbers) }
-        ensures bottom { OnTrue result (self.new.bottom ≡ bottom) }
+        ensures denominator { OnTrue result (self.new.denominator ≡ denominator) }
         ensures kept { OnFalse result (self.new ≡ self.old) }
     {
+        let by = own.as_subtrahend();
         self.noted = false;
-        match combine(
-            self.numbers.as_mut_slice(),
-            own.numbers.as_slice(),
-            own.starts.as_slice(),
-            own.noted,
-            a,
-            b,
-            self.most,
-            own.most,
-            limit,
-        ) {
+        match combine(self.numbers.as_mut_slice(), &by, a, b, self.most, limit) {
             Some(most) => {
-                self.bottom = bottom;
+                self.denominator = denominator;
                 self.most = most;
                 true
             }
@@ -208,21 +220,12 @@ impl NarrowRow {
         requires limit { limit < 2 ^ 31 }
         ensures one { OnTrue result (a ≡ pos 1) }
         ensures combined { OnTrue result (IsCombined (length own.now.numbers) limit self.old.numbers own.now.numbers (pos 1) b self.new.numbers) }
-        ensures bottom { OnTrue result (self.new.bottom ≡ self.old.bottom) }
+        ensures denominator { OnTrue result (self.new.denominator ≡ self.old.denominator) }
         ensures kept { OnFalse result (self.new ≡ self.old) }
     {
+        let by = own.as_subtrahend();
         self.noted = false;
-        match subtract_multiple(
-            self.numbers.as_mut_slice(),
-            own.numbers.as_slice(),
-            own.starts.as_slice(),
-            own.noted,
-            a,
-            b,
-            self.most,
-            own.most,
-            limit,
-        ) {
+        match subtract_multiple(self.numbers.as_mut_slice(), &by, a, b, self.most, limit) {
             Some(most) => {
                 self.most = most;
                 true
@@ -231,41 +234,43 @@ impl NarrowRow {
         }
     }
 
-    /// Like `combine`, where the numbers may pass `limit` until they are put over the least denominator; they are formed in `room`.
-    /// `false` if one is still above `limit`: then nothing is known of the row.
+    /// Writes to `room`, in 64 bits, the numbers times `a` less `b` times those of the leaving row `own`. `false` if one may be above
+    /// 2^63 - 1 in absolute value: then `room` is unchanged.
     #[inline(never)]
-    fn combine_in_room(
-        &mut self,
-        own: &NarrowRow,
-        room: &mut [i64],
-        a: i64,
-        b: i64,
-        bottom: u64,
-        limit: u64,
-    ) -> bool
-        requires even { length self.old.numbers ≡ length own.now.numbers }
+    fn combine_to(&self, own: &NarrowRow, room: &mut [i64], a: i64, b: i64) -> bool
+        requires even { length self.now.numbers ≡ length own.now.numbers }
         requires room { length room.old ≡ length own.now.numbers }
-        requires some { 0 < bottom }
+        ensures room { length room.new ≡ length room.old }
+        ensures combined { OnTrue result (IsCombined (length own.now.numbers) 9223372036854775807 self.now.numbers own.now.numbers a b room.new) }
+    {
+        combine_to(
+            room,
+            self.numbers.as_slice(),
+            own.numbers.as_slice(),
+            own.most,
+            a,
+            b,
+        )
+    }
+
+    /// Replaces the row by the numbers of `room` over the denominator `denominator`, divided by a common divisor. `false` if a number is
+    /// above `limit`: then nothing is known of the row.
+    #[inline(never)]
+    fn take_shortened(&mut self, room: &mut [i64], denominator: u64, limit: u64) -> bool
+        requires even { length self.old.numbers ≡ length room.old }
+        requires short { AreShort room.old }
+        requires some { 0 < denominator }
         requires limit { limit < 2 ^ 31 }
         ensures room { length room.new ≡ length room.old }
-        ensures combined { OnTrue result (IsCombinedAndShortened (length own.now.numbers) self.old.numbers own.now.numbers a b bottom self.new) }
+        ensures shortened { OnTrue result (IsShortened record { numbers = room.old; denominator = denominator } self.new) }
         ensures small { OnTrue result (AreAtMost self.new.numbers limit) }
     {
         self.noted = false;
-        let left = combine_in_room(
-            self.numbers.as_mut_slice(),
-            own.numbers.as_slice(),
-            room,
-            a,
-            b,
-            own.most,
-            bottom,
-            limit,
-        );
+        let left = shorten_to(self.numbers.as_mut_slice(), room, denominator, limit);
         self.most = greatest_size(self.numbers.as_slice());
         match left {
-            Some(bottom) => {
-                self.bottom = bottom;
+            Some(denominator) => {
+                self.denominator = denominator;
                 true
             }
             None => false,
@@ -286,7 +291,7 @@ impl NarrowRow {
         requires row { IsUsable (length own.now.numbers) limit self.old }
         requires own { IsUsable (length own.now.numbers) limit own.now }
         requires room { length room.old ≡ length own.now.numbers }
-        requires entry { unsigned_abs entry < 2 ^ 63 }
+        requires entry { unsigned_abs entry < signed_limit }
         requires pivot { pos 1 ≤ℤ pivot }
         requires limit { limit < 2 ^ 31 }
         ensures room { length room.new ≡ length room.old }
@@ -297,13 +302,17 @@ impl NarrowRow {
         if self.subtract_multiple(own, a, b, limit) {
             return true;
         }
-        let Some(bottom) = short_product(self.bottom(), a.unsigned_abs()) else {
+        let Some(denominator) = short_product(self.denominator(), a.unsigned_abs()) else {
             return false;
         };
-        if self.combine(own, a, b, bottom, limit) {
+        if self.combine(own, a, b, denominator, limit) {
             return true;
         }
-        self.combine_in_room(own, room, a, b, bottom, limit)
+        // the numbers may pass the limit until they are put over the least denominator
+        if !self.combine_to(own, room, a, b) {
+            return false;
+        }
+        self.take_shortened(room, denominator, limit)
     }
 
     /// Updates the row in a step in which `own` leaves, whose entry at the entering column is `pivot`; this row's entry there is `entry`.
@@ -320,7 +329,7 @@ impl NarrowRow {
         requires row { IsUsable (length own.now.numbers) limit self.old }
         requires own { IsUsable (length own.now.numbers) limit own.now }
         requires room { length room.old ≡ length own.now.numbers }
-        requires entry { unsigned_abs entry < 2 ^ 63 }
+        requires entry { unsigned_abs entry < signed_limit }
         requires some { ¬ (entry ≡ pos 0) }
         requires pivot { pos 1 ≤ℤ pivot }
         requires limit { limit < 2 ^ 31 }
@@ -330,7 +339,7 @@ impl NarrowRow {
         if !self.reduce(own, room, entry, pivot, limit) {
             return false;
         }
-        if is_large(self.bottom()) {
+        if is_large(self.denominator()) {
             self.put_in_lowest_terms();
         }
         true
@@ -343,7 +352,7 @@ impl NarrowRow {
     {
         let mut row = NarrowRow {
             numbers: self.numbers,
-            bottom: pivot.unsigned_abs(),
+            denominator: pivot.unsigned_abs(),
             most: self.most,
             starts: self.starts,
             noted: false,

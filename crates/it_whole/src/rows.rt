@@ -6,8 +6,9 @@ ghost use Rattle.it_space.specs.Sums.{number_at};
 ghost use Rattle.it_vectors.specs.Sizes.{AreAtMost, AreShort};
 ghost use Rattle.it_vectors.specs.Places.{AreNextPlaces};
 ghost use Rattle.it_whole.specs.WholeRows.{IsUsable};
-ghost use Rattle.it_whole.specs.Updates.{IsQuotient, IsShortened, IsUpdated};
+ghost use Rattle.it_whole.specs.Updates.{IsLeaving, IsQuotient, IsShortened, IsUpdated};
 ghost use Rattle.it_whole.specs.Widths.{row_of};
+ghost use Rattle.it_number.specs.Limit.{signed_limit};
 
 use crate::narrow_rows::NarrowRow;
 use crate::wide_rows::WideRow;
@@ -46,11 +47,24 @@ impl Model for WholeRow {
     ghost view = { λ r. row_of r.row };
 }
 
+/// The row that leaves in a step.
+#[derive(Drop)]
+pub struct Leaving<'a> {
+    /// The row, already divided by its entry at the entering column.
+    pub row: &'a WholeRow,
+    /// Its entry at the entering column.
+    pub entry: i64,
+    /// The next places where it isn't 0.
+    pub next: &'a [usize],
+    /// Whether `next` has these: only a row in 64 bits needs them.
+    pub noted: bool,
+}
+
 impl WholeRow {
     /// The row of `numbers` in 64 bits, over the denominator 1. It allocates nothing.
     pub fn from_numbers(numbers: Vec<i64>) -> WholeRow
         ensures numbers { result.numbers ≡ numbers.items }
-        ensures bottom { result.bottom ≡ 1 }
+        ensures denominator { result.denominator ≡ 1 }
     {
         WholeRow {
             row: AnyRow::Wide(WideRow::from_numbers(numbers)),
@@ -60,7 +74,7 @@ impl WholeRow {
     /// A row without numbers. It allocates nothing.
     pub fn empty(alloc: Global) -> WholeRow
         ensures numbers { result.numbers ≡ [] }
-        ensures bottom { result.bottom ≡ 1 }
+        ensures denominator { result.denominator ≡ 1 }
     {
         WholeRow {
             row: AnyRow::Wide(WideRow::empty(alloc)),
@@ -77,7 +91,7 @@ impl WholeRow {
         match &self.row {
             AnyRow::Narrow(_) => Ok(None),
             AnyRow::Wide(row) => {
-                match NarrowRow::from_numbers(alloc, row.numbers(), row.bottom(), limit)? {
+                match NarrowRow::from_numbers(alloc, row.numbers(), row.denominator(), limit)? {
                     Some(row) => Ok(Some(WholeRow {
                         row: AnyRow::Narrow(row),
                     })),
@@ -108,21 +122,21 @@ impl WholeRow {
     }
 
     /// The denominator.
-    pub fn bottom(&self) -> u64
-        ensures { result ≡ self.now.bottom }
+    pub fn denominator(&self) -> u64
+        ensures { result ≡ self.now.denominator }
     {
         match &self.row {
-            AnyRow::Narrow(row) => row.bottom(),
-            AnyRow::Wide(row) => row.bottom(),
+            AnyRow::Narrow(row) => row.denominator(),
+            AnyRow::Wide(row) => row.denominator(),
         }
     }
 
     /// The number that represents 1 in the row: its denominator.
     pub fn unit(&self) -> i64
-        requires { self.now.bottom < 2 ^ 63 }
-        ensures { result ≡ pos self.now.bottom }
+        requires { self.now.denominator < signed_limit }
+        ensures { result ≡ pos self.now.denominator }
     {
-        self.bottom() as i64
+        self.denominator() as i64
     }
 
     /// Sets `next` to the next places where the row isn't 0, and returns `true`; for a row in 32 bits, which keeps its stretches itself,
@@ -170,60 +184,52 @@ impl WholeRow {
         }
     }
 
-    /// Updates the row in a step in which `own` leaves, whose entry at the entering column is `pivot`; this row's entry there is `entry`.
-    /// If `noted`, `next` has the next places where `own` isn't 0; `room` is space for a row. `false` if a number would be above `limit`,
-    /// if the two rows have different widths, or if a row in 64 bits has no `noted` places; then nothing is known of the row.
+    /// Updates the row in a step in which `leaving` leaves; `entry` is this row's entry at the entering column, and `room` is space for a
+    /// row. `false` if a number would be above `limit`, if the two rows have different widths, or if the next places of a leaving row in
+    /// 64 bits aren't noted; then nothing is known of the row.
     #[inline(always)]
     pub fn update(
         &mut self,
-        own: &WholeRow,
-        next: &[usize],
-        noted: bool,
-        room: &mut [i64],
+        leaving: &Leaving<'_>,
         entry: i64,
-        pivot: i64,
+        room: &mut [i64],
         limit: u64,
     ) -> bool
-        requires row { IsUsable (length own.now.numbers) limit self.old }
-        requires own { IsUsable (length own.now.numbers) limit own.now }
-        requires places { OnTrue noted (AreNextPlaces own.now.numbers next.now) }
-        requires room { length room.old ≡ length own.now.numbers }
-        requires entry { unsigned_abs entry < 2 ^ 63 }
-        requires pivot { pos 1 ≤ℤ pivot }
-        requires limit { limit < 2 ^ 63 }
+        requires row { IsUsable (length leaving.now.row.now.numbers) limit self.old }
+        requires leaving { IsLeaving limit leaving.now.row.now leaving.now.entry }
+        requires places { OnTrue leaving.now.noted (AreNextPlaces leaving.now.row.now.numbers leaving.now.next.now) }
+        requires room { length room.old ≡ length leaving.now.row.now.numbers }
+        requires entry { unsigned_abs entry < signed_limit }
         ensures room { length room.new ≡ length room.old }
-        ensures updated { OnTrue result (IsUpdated (length own.now.numbers) limit self.old own.now entry pivot self.new) }
+        ensures updated { OnTrue result (IsUpdated (length leaving.now.row.now.numbers) limit self.old leaving.now.row.now entry leaving.now.entry self.new) }
     {
         if is_zero(entry) {
             return true;
         }
-        self.update_other(own, next, noted, room, entry, pivot, limit)
+        self.update_other(leaving, entry, room, limit)
     }
 
     /// Like `update`, where `entry` isn't 0.
     #[inline(always)]
     fn update_other(
         &mut self,
-        own: &WholeRow,
-        next: &[usize],
-        noted: bool,
-        room: &mut [i64],
+        leaving: &Leaving<'_>,
         entry: i64,
-        pivot: i64,
+        room: &mut [i64],
         limit: u64,
     ) -> bool
-        requires row { IsUsable (length own.now.numbers) limit self.old }
-        requires own { IsUsable (length own.now.numbers) limit own.now }
-        requires places { OnTrue noted (AreNextPlaces own.now.numbers next.now) }
-        requires room { length room.old ≡ length own.now.numbers }
-        requires entry { unsigned_abs entry < 2 ^ 63 }
+        requires row { IsUsable (length leaving.now.row.now.numbers) limit self.old }
+        requires leaving { IsLeaving limit leaving.now.row.now leaving.now.entry }
+        requires places { OnTrue leaving.now.noted (AreNextPlaces leaving.now.row.now.numbers leaving.now.next.now) }
+        requires room { length room.old ≡ length leaving.now.row.now.numbers }
+        requires entry { unsigned_abs entry < signed_limit }
         requires some { ¬ (entry ≡ pos 0) }
-        requires pivot { pos 1 ≤ℤ pivot }
-        requires limit { limit < 2 ^ 63 }
         ensures room { length room.new ≡ length room.old }
-        ensures updated { OnTrue result (IsUpdated (length own.now.numbers) limit self.old own.now entry pivot self.new) }
+        ensures updated { OnTrue result (IsUpdated (length leaving.now.row.now.numbers) limit self.old leaving.now.row.now entry leaving.now.entry self.new) }
     {
-        match &own.row {
+        let leaving_row = leaving.row;
+        let pivot = leaving.entry;
+        match &leaving_row.row {
             AnyRow::Narrow(own) => match &mut self.row {
                 AnyRow::Narrow(row) => {
                     limit < 1 << 31 && row.update(own, room, entry, pivot, limit)
@@ -232,14 +238,16 @@ impl WholeRow {
             },
             AnyRow::Wide(own) => match &mut self.row {
                 AnyRow::Narrow(_) => false,
-                AnyRow::Wide(row) => noted && row.update(own, next, entry, pivot, limit),
+                AnyRow::Wide(row) => {
+                    leaving.noted && row.update(own, leaving.next, entry, pivot, limit)
+                }
             },
         }
     }
 
     /// Puts the row over its least denominator.
     pub fn shorten(&mut self)
-        requires some { 0 < self.old.bottom }
+        requires some { 0 < self.old.denominator }
         requires short { AreShort self.old.numbers }
         ensures { IsShortened self.old self.new }
     {

@@ -1,13 +1,14 @@
 //! Rows of numbers in 64 bits.
-ghost use Rattle.std.specs.Prelude.{◌≡◌, ◌+◌, ◌<◌, ◌^◌, ◌≤ℤ◌, [], unsigned_abs, length, pos};
+ghost use Rattle.std.specs.Prelude.{◌≡◌, ◌+◌, ◌<◌, ◌≤ℤ◌, [], unsigned_abs, length, pos};
 ghost use Rattle.std.specs.Bool.{OnTrue};
 ghost use Rattle.it_space.specs.Sums.{number_at};
 ghost use Rattle.it_vectors.specs.Sizes.{AreAtMost, AreShort};
 ghost use Rattle.it_vectors.specs.Places.{AreNextPlaces};
 ghost use Rattle.it_whole.specs.WholeRows.{IsUsable};
 ghost use Rattle.it_whole.specs.Updates.{IsWholeRowReduced, IsQuotient, IsShortened, IsUpdated};
+ghost use Rattle.it_number.specs.Limit.{signed_limit};
 
-use it_vectors::numbers::{combine, divide, divisor, greatest_size, note_places};
+use it_vectors::numbers::{Subtrahend, combine, divide, divisor, greatest_size, note_places};
 use it_vectors::{lowest_terms, short_product};
 use std::alloc::Global;
 use std::marker::Model;
@@ -16,7 +17,7 @@ use std::marker::Model;
 #[derive(Drop)]
 pub struct WideRow {
     numbers: Vec<i64>,
-    bottom: u64,
+    denominator: u64,
     // a bound on the absolute values of the numbers; kept so that a step mostly needs no pass over them
     most: u64,
 }
@@ -27,7 +28,7 @@ impl Model for WideRow {
 
     ghost Value = { WholeRowView };
 
-    ghost view = { λ r. record { numbers = r.numbers.items; bottom = r.bottom } };
+    ghost view = { λ r. record { numbers = r.numbers.items; denominator = r.denominator } };
 
     ghost invariant = { λ r. AreAtMost r.numbers.items r.most };
 }
@@ -36,12 +37,12 @@ impl WideRow {
     /// The row of `numbers` over the denominator 1.
     pub fn from_numbers(numbers: Vec<i64>) -> WideRow
         ensures numbers { result.numbers ≡ numbers.items }
-        ensures bottom { result.bottom ≡ 1 }
+        ensures denominator { result.denominator ≡ 1 }
     {
         let most = greatest_size(numbers.as_slice());
         WideRow {
             numbers,
-            bottom: 1,
+            denominator: 1,
             most,
         }
     }
@@ -49,11 +50,11 @@ impl WideRow {
     /// A row without numbers. It allocates nothing.
     pub fn empty(alloc: Global) -> WideRow
         ensures numbers { result.numbers ≡ [] }
-        ensures bottom { result.bottom ≡ 1 }
+        ensures denominator { result.denominator ≡ 1 }
     {
         WideRow {
             numbers: Vec::new(alloc),
-            bottom: 1,
+            denominator: 1,
             most: 0,
         }
     }
@@ -68,10 +69,10 @@ impl WideRow {
     }
 
     /// The denominator.
-    pub fn bottom(&self) -> u64
-        ensures { result ≡ self.now.bottom }
+    pub fn denominator(&self) -> u64
+        ensures { result ≡ self.now.denominator }
     {
-        self.bottom
+        self.denominator
     }
 
     /// The numbers.
@@ -103,7 +104,7 @@ impl WideRow {
         let most = greatest_size(self.numbers.as_slice());
         WideRow {
             numbers: self.numbers,
-            bottom: self.bottom,
+            denominator: self.denominator,
             most,
         }
     }
@@ -111,17 +112,26 @@ impl WideRow {
     /// Puts the row over its least denominator.
     #[inline(never)]
     pub fn shorten(&mut self)
-        requires some { 0 < self.old.bottom }
+        requires some { 0 < self.old.denominator }
         requires short { AreShort self.old.numbers }
         ensures { IsShortened self.old self.new }
     {
-        let shared = divisor(self.numbers.as_slice(), self.bottom);
+        let shared = divisor(self.numbers.as_slice(), self.denominator);
         if shared.is_one() {
             return;
         }
         divide(self.numbers.as_mut_slice(), &shared);
-        self.bottom = shared.size_quotient(self.bottom);
+        self.denominator = shared.size_quotient(self.denominator);
         self.most = greatest_size(self.numbers.as_slice());
+    }
+
+    /// The row as one whose multiples are subtracted from others; `next` has the next places where it isn't 0.
+    #[inline]
+    fn as_subtrahend<'a>(&'a self, next: &'a [usize]) -> Subtrahend<'a>
+        requires { AreNextPlaces self.now.numbers next.now }
+        ensures { result ≡ self.now.numbers }
+    {
+        Subtrahend::new(self.numbers.as_slice(), next, self.most)
     }
 
     /// Subtracts the multiple of the leaving row `own` that makes this row's entry at the entering column 0. `entry` and `pivot` are the
@@ -130,28 +140,20 @@ impl WideRow {
         requires row { IsUsable (length own.now.numbers) limit self.old }
         requires own { IsUsable (length own.now.numbers) limit own.now }
         requires places { AreNextPlaces own.now.numbers next.now }
-        requires entry { unsigned_abs entry < 2 ^ 63 }
+        requires entry { unsigned_abs entry < signed_limit }
         requires pivot { pos 1 ≤ℤ pivot }
-        requires limit { limit < 2 ^ 63 }
+        requires limit { limit < signed_limit }
         ensures less { OnTrue result (IsWholeRowReduced (length own.now.numbers) limit self.old own.now entry pivot self.new) }
         ensures usable { OnTrue result (IsUsable (length own.now.numbers) limit self.new) }
     {
         let (a, b) = lowest_terms(pivot, entry);
-        let Some(bottom) = short_product(self.bottom, a.unsigned_abs()) else {
+        let Some(denominator) = short_product(self.denominator, a.unsigned_abs()) else {
             return false;
         };
-        match combine(
-            self.numbers.as_mut_slice(),
-            own.numbers.as_slice(),
-            next,
-            a,
-            b,
-            self.most,
-            own.most,
-            limit,
-        ) {
+        let by = own.as_subtrahend(next);
+        match combine(self.numbers.as_mut_slice(), &by, a, b, self.most, limit) {
             Some(most) => {
-                self.bottom = bottom;
+                self.denominator = denominator;
                 self.most = most;
                 true
             }
@@ -176,16 +178,16 @@ impl WideRow {
         requires row { IsUsable (length own.now.numbers) limit self.old }
         requires own { IsUsable (length own.now.numbers) limit own.now }
         requires places { AreNextPlaces own.now.numbers next.now }
-        requires entry { unsigned_abs entry < 2 ^ 63 }
+        requires entry { unsigned_abs entry < signed_limit }
         requires some { ¬ (entry ≡ pos 0) }
         requires pivot { pos 1 ≤ℤ pivot }
-        requires limit { limit < 2 ^ 63 }
+        requires limit { limit < signed_limit }
         ensures { OnTrue result (IsUpdated (length own.now.numbers) limit self.old own.now entry pivot self.new) }
     {
         if !self.reduce(own, next, entry, pivot, limit) {
             return false;
         }
-        if is_large(self.bottom) {
+        if is_large(self.denominator) {
             self.shorten();
         }
         true
@@ -199,7 +201,7 @@ impl WideRow {
     {
         let mut row = WideRow {
             numbers: self.numbers,
-            bottom: pivot.unsigned_abs(),
+            denominator: pivot.unsigned_abs(),
             most: self.most,
         };
         row.shorten();
@@ -208,6 +210,6 @@ impl WideRow {
 }
 
 /// Whether a denominator is large. The least one takes a gcd over the whole row, and so is found only then.
-fn is_large(bottom: u64) -> bool {
-    bottom > 1 << 16
+fn is_large(denominator: u64) -> bool {
+    denominator > 1 << 16
 }

@@ -1,24 +1,22 @@
-use Rattle.std.proofs.Common.{◌∙◌}
+use Rattle.std.proofs.Common.{ap, sym, ◌∙◌}
 use Rattle.it_space.specs.Answers.{answer_view}
-use Rattle.it_question.specs.Questions.{question_body, region_view}
+use Rattle.it_question.specs.Questions.{verb_view}
 use Rattle.it_region.proofs.PairLemmas.{pair_of_verb}
 use Rattle.it_answer.specs.SearchAnswers.{found_of}
-use Rattle.it_answer.proofs.ContainmentLemmas.{question_is_answered, is_containment}
+use Rattle.it_answer.proofs.ContainmentLemmas.{question_is_answered}
 use Rattle.it_answer.proofs.containments.containment.Goals as goal
-
-pub pair-requires-clause-contains : goal.pair-requires-clause-contains
-pair-requires-clause-contains g c = is_containment (question_body c.args.question.now) (region_view c.args.first.now)
-    (region_view c.args.second.now) c.args.tries.now c.requires.contains
 
 pub returns : goal.returns
 returns g c =
-    let q = question_body c.args.question.now in
-    let a = region_view c.args.first.now in
-    let b = region_view c.args.second.now in
+    let q = c.args.question.now.body in
+    let a = c.in-Contain.first in
+    let b = c.in-Contain.second in
+    let tries = c.in-Contain.tries.items in
+    let is = sym c.verb.ensures.value ∙ ap verb_view c.in-Contain.is in
     let p = c.in_ok-pair.pair in
     let answered =
-    question_is_answered q a b c.args.tries.now p c.requires.question c.requires.contains c.in_ok-pair.ensures.limits
-    (pair_of_verb q a b c.args.tries.now p c.requires.contains c.in_ok-pair.ensures.pair) c.args.budgets _ _
-    c.in_ok-end.end c.as_slice.result.now (answer_view c.in_ok-answer.answer)
-    (c.as_slice.ensures.value ∙ c.in_ok-tried.ensures) c.in_ok-answer.ensures c.in_ok-end.ensures in
+    question_is_answered q a b tries p c.facts.ensures is c.in_ok-pair.ensures.limits
+    (pair_of_verb q a b tries p is c.in_ok-pair.ensures.pair) c.args.budgets _ _
+    c.in_ok-end.end c.as_slice-2.result.now (answer_view c.in_ok-answer.answer)
+    (c.as_slice-2.ensures.value ∙ (rw c.as_slice.ensures.value at c.in_ok-tried.ensures)) c.in_ok-answer.ensures c.in_ok-end.ensures in
     record { found = found_of c.in_ok-end.end; right = answered.0; learned = answered.1 }

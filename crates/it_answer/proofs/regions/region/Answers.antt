@@ -2,7 +2,6 @@ use Rattle.std.proofs.Common.{◌≡◌, ◌∙◌, ◌<◌, ◌↔◌, ℕ, ℤ
 use Rattle.it_space.specs.declared.spaces.Space.{Space}
 use Rattle.it_space.specs.Answers.{answer_view}
 use Rattle.it_syntax.specs.Meaning.{Holds}
-use Rattle.it_question.specs.Questions.{question_body}
 use Rattle.it_demand.specs.SystemForms.{AreAtLeastZero}
 use Rattle.it_redundant.specs.ReducedElimination.{projected_view}
 use Rattle.it_canon.proofs.PosesLemmas.{one_problem}
@@ -14,28 +13,28 @@ use Rattle.it_answer.proofs.regions.region.Goals as goal
 pub project-requires-clause-rates : goal.project-requires-clause-rates
 project-requires-clause-rates c =
     subst (λ (s : Space). All (λ r. r < s.rates) c.args.rates.now) (sym c.in_ok-system.ensures.space)
-    (rates_of_question (question_body c.args.question.now) c.args.rates.now c.requires.eliminates c.requires.question).within
+    (rates_of_question c.args.question.now.body c.args.rates.now c.requires.eliminates c.facts.ensures).within
 
 pub project-requires-clause-some : goal.project-requires-clause-some
-project-requires-clause-some c = (rates_of_question (question_body c.args.question.now) c.args.rates.now c.requires.eliminates c.requires.question).some
+project-requires-clause-some c = (rates_of_question c.args.question.now.body c.args.rates.now c.requires.eliminates c.facts.ensures).some
 
 pub project-requires-clause-system : goal.project-requires-clause-system
 project-requires-clause-system c = record {
   system = c.in_ok-system.ensures.limits;
   givens = c.requires.givens.limits;
-  space = c.in_ok-system.ensures.space ∙ sym (space_of_names (question_body c.args.question.now) c.args.rates.now c.args.givens.now
+  space = c.in_ok-system.ensures.space ∙ sym (space_of_names c.args.question.now.body c.args.rates.now c.args.givens.now
       c.requires.eliminates c.requires.givens);
-  few_givens = few_constraints (question_body c.args.question.now) c.args.rates.now c.args.givens.now c.requires.eliminates
-      c.requires.givens c.requires.question;
+  few_givens = few_constraints c.args.question.now.body c.args.rates.now c.args.givens.now c.requires.eliminates
+      c.requires.givens c.facts.ensures;
 }
 
 pub project-requires-clause-sets : goal.project-requires-clause-sets
 project-requires-clause-sets c =
-    constraints_of_sets (question_body c.args.question.now) c.args.rates.now c.args.givens.now c.requires.eliminates c.requires.givens c.requires.question
+    constraints_of_sets c.args.question.now.body c.args.rates.now c.args.givens.now c.requires.eliminates c.requires.givens c.facts.ensures
 
 pub returns : goal.returns
 returns c =
-    let q = question_body c.args.question.now in
+    let q = c.args.question.now.body in
     let rates = c.args.rates.now in
     let givens = c.args.givens.now in
     let rows = c.in_ok-system.system.rows.items in

@@ -1,4 +1,4 @@
-use Rattle.std.proofs.Common.{ℕ, ap, subst₂, ◌∙◌, ◌++◌, ◌∷◌, [], pos}
+use Rattle.std.proofs.Common.{ℕ, ap₂, subst₂, ◌∙◌, ◌++◌, ◌∷◌, [], pos}
 use Rattle.std.specs.Result.{IfOk}
 use Rattle.it_space.specs.Rows.{Terms}
 use Rattle.it_run.specs.Answers.{end_of_answer}
@@ -10,9 +10,9 @@ use Rattle.it_best.proofs.finding.third_end.Goals as goal
 pub returns-clause-ends : goal.returns-clause-ends
 returns-clause-ends c = subst₂ (λ (m : ℕ) (target : Terms). IfOk c.phase_end.result
     (λ a. PhaseEnds m (unknown_views c.args.unknowns.now) target c.args.budget (end_of_answer a))) c.right_equation.ensures.value
-    (c.in_ok-target.ensures ∙ ap (λ n. c.args.right.now ++ (n, pos 1) ∷ []) c.left_equation.ensures.value) c.phase_end.ensures.ends
+    (c.in_ok-target.ensures ∙ ap₂ (λ (ts : Terms) (n : ℕ). ts ++ (n, pos 1) ∷ []) c.right.ensures c.left_equation.ensures.value) c.phase_end.ensures.ends
 
 pub returns-clause-right : goal.returns-clause-right
 returns-clause-right c = subst₂ (λ (m : ℕ) (target : Terms). IfOk c.phase_end.result
     (λ a. PhaseIsRight m (unknown_views c.args.unknowns.now) target a)) c.right_equation.ensures.value
-    (c.in_ok-target.ensures ∙ ap (λ n. c.args.right.now ++ (n, pos 1) ∷ []) c.left_equation.ensures.value) c.phase_end.ensures.right
+    (c.in_ok-target.ensures ∙ ap₂ (λ (ts : Terms) (n : ℕ). ts ++ (n, pos 1) ∷ []) c.right.ensures c.left_equation.ensures.value) c.phase_end.ensures.right

@@ -1,8 +1,7 @@
 use Rattle.std.proofs.Common.{◌≡◌, ◌++◌, drop}
-use Rattle.it_question.specs.Questions.{question_body}
 use Rattle.it_bounds.specs.LineSteps.{row_lines}
 use Rattle.it_bounds.proofs.lines.write_rows.Given as goal
 
 abbrev pub invariant-loop-i : goal.invariant-loop-i
-invariant-loop-i l = l.out.items ++ row_lines (question_body l.question) l.constraints l.k (drop l.i l.rows) (drop l.i l.proofs)
-    ≡ l.initial.out.items ++ row_lines (question_body l.question) l.constraints l.k l.rows l.proofs
+invariant-loop-i l = l.out.items ++ row_lines l.posed (drop l.i l.rows) (drop l.i l.proofs)
+    ≡ l.initial.out.items ++ row_lines l.posed l.rows l.proofs

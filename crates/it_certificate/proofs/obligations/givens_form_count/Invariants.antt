@@ -6,7 +6,7 @@ use Rattle.it_certificate.proofs.obligations.givens_form_count.Given as goal
 
 abbrev pub invariant-loop-given : goal.invariant-loop-given
 invariant-loop-given l = record {
-  rest : fold (λ a g. a + given_form_count g) l.count (map given_view (drop l.given-index l.region.lines.givens.items))
-      ≡ sum_by given_form_count (map given_view l.region.lines.givens.items);
+  rest : fold (λ a g. a + given_form_count g) l.count (map given_view (drop l.given-index l.givens))
+      ≡ sum_by given_form_count (map given_view l.givens);
   few : l.count ≤ 32 * l.given-index;
 }

@@ -1,7 +1,5 @@
 use Rattle.serde_json.specs.View.{view}
 use Rattle.it_space.specs.Answers.{answer_view}
-use Rattle.it_question.specs.Questions.{question_view}
-use Rattle.it_certificate.specs.CodeReading.{reported_code_view}
 use Rattle.it_certificate.proofs.CodeFits.{coded_fits}
 use Rattle.it_certificate.proofs.ReportLemmas.{code_err, code_ok}
 use Rattle.it_certificate.proofs.reports.coded.Goals as goal
@@ -15,8 +13,8 @@ returns-in-Ok-question_code-clause-reading c =
 pub returns-in-Ok-question_code-clause-limits : goal.returns-in-Ok-question_code-clause-limits
 returns-in-Ok-question_code-clause-limits c = (
   c.in_ok-question.ensures.limits,
-  coded_fits (question_view c.in_ok-question.question) (view c.args.value.now) (answer_view c.in-Ok.answer)
-      (reported_code_view c.in-Ok-question_code.code) c.in-Ok.ensures c.in-Ok-question_code.ensures,
+  coded_fits c.in_ok-question.question (view c.args.value.now) (answer_view c.in-Ok.answer)
+      c.in-Ok-question_code.code c.in-Ok.ensures c.in-Ok-question_code.ensures,
 )
 
 pub returns-in-Err-question_code-clause-reading : goal.returns-in-Err-question_code-clause-reading

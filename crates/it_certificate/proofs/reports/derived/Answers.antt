@@ -1,7 +1,6 @@
 use Rattle.std.proofs.Common.{map}
 use Rattle.serde_json.specs.View.{view}
 use Rattle.it_space.specs.Answers.{answer_view, certificate_view}
-use Rattle.it_question.specs.Questions.{question_view}
 use Rattle.it_certificate.proofs.OriginFits.{derived_fits}
 use Rattle.it_certificate.proofs.ReportLemmas.{origins_err, origins_ok}
 use Rattle.it_certificate.proofs.reports.derived.Goals as goal
@@ -15,7 +14,7 @@ returns-in-Ok-answer_origins-clause-reading c =
 pub returns-in-Ok-answer_origins-clause-limits : goal.returns-in-Ok-answer_origins-clause-limits
 returns-in-Ok-answer_origins-clause-limits c = (
   c.in_ok-question.ensures.limits,
-  derived_fits (question_view c.in_ok-question.question) (view c.args.value.now) (answer_view c.in-Ok.answer)
+  derived_fits c.in_ok-question.question (view c.args.value.now) (answer_view c.in-Ok.answer)
       (map certificate_view c.in-Ok-answer_origins.origins.items) c.in-Ok.ensures c.in-Ok-answer_origins.ensures,
 )
 

@@ -1,5 +1,4 @@
 use Rattle.serde_json.specs.View.{view}
-use Rattle.it_question.specs.Questions.{question_view}
 use Rattle.it_ratio.specs.BestViews.{best_view}
 use Rattle.it_certificate.proofs.FactorFits.{best_fits}
 use Rattle.it_certificate.proofs.ReportLemmas.{best_ok}
@@ -13,6 +12,6 @@ returns-in-Ok-clause-reading c =
 pub returns-in-Ok-clause-limits : goal.returns-in-Ok-clause-limits
 returns-in-Ok-clause-limits c = (
   c.in_ok-question.ensures.limits,
-  best_fits (question_view c.in_ok-question.question) c.args.kind (view c.args.value.now)
+  best_fits c.in_ok-question.question c.args.kind (view c.args.value.now)
       (best_view c.in-Ok.best) c.in-Ok.ensures,
 )

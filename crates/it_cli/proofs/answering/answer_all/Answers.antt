@@ -1,16 +1,16 @@
 use Rattle.std.proofs.Common.{arith, ap, inr, refl, ◌∙◌}
-use Rattle.std.proofs.lemmas.List.{length-map}
 use Rattle.it_outside.specs.Causes.{next_count}
 use Rattle.it_question.specs.AsciiTexts.{IsAsciiQuestion}
-use Rattle.it_cli.proofs.RightLemmas.{all_answered, all_views, answers_more, answers_stop, first_answered, none_answered}
+use Rattle.it_cli.proofs.RightLemmas.{all_answered, answers_more, answers_stop, first_answered, none_answered}
 use Rattle.it_cli.proofs.answering.answer_all.Goals as goal
 
 pub loop-i-init : goal.loop-i-init
 loop-i-init g c = (none_answered c.args.budgets _ c.args.format _ _, refl)
 
-pub answer_one-requires-clause-ascii : goal.answer_one-requires-clause-ascii
-answer_one-requires-clause-ascii g c = rw c.index-questions-i.is (all_views IsAsciiQuestion c.args.questions.now c.requires.ascii c.loop-i.i
-    c.index-questions-i.result (omega arith))
+pub answer_one-requires : goal.answer_one-requires
+answer_one-requires g c = record {
+  ascii = rw c.index-questions-i.is (c.requires.ascii c.loop-i.i c.index-questions-i.result (omega arith));
+}
 
 pub returns-in_default : goal.returns-in_default
 returns-in_default g c bytes asked = (
@@ -39,5 +39,5 @@ pub returns : goal.returns
 returns g c bytes asked = (
   c.loop-i.invariant.1,
   all_answered c.args.budgets _ _ c.args.format _ _ bytes _ c.loop-i.i asked
-      c.loop-i.invariant.0 (simp length-map (omega arith)),
+      c.loop-i.invariant.0 (omega arith),
 )

@@ -1,5 +1,4 @@
 use Rattle.std.proofs.Common.{arith}
-use Rattle.std.proofs.lemmas.List.{length-map}
 use Rattle.it_cli.proofs.CountLemmas.{counting_done, counting_first, counting_more}
 use Rattle.it_cli.proofs.benching.counts_of.Goals as goal
 
@@ -16,4 +15,4 @@ loop-question-preserved g c = rw c.with_answer-counts.ensures (counting_more c.a
     c.in_ok-answered.ensures.answered)
 
 pub returns : goal.returns
-returns g c = counting_done c.args.budgets _ _ _ c.loop-question.question-index c.loop-question.counts c.loop-question.invariant (simp length-map (omega arith))
+returns g c = counting_done c.args.budgets _ _ _ c.loop-question.question-index c.loop-question.counts c.loop-question.invariant (omega arith)

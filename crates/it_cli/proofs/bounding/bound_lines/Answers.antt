@@ -1,6 +1,5 @@
 use Rattle.std.proofs.Common.{◌≡◌, ap, ◌∙◌, sym, subst, [], Bool, true, false, None, IfOk, refl}
 use Rattle.it_run.proofs.AnswerLemmas.{if_ok}
-use Rattle.it_question.specs.Questions.{question_body, question_view}
 use Rattle.it_canon.specs.QuestionDemands.{question_origins}
 use Rattle.it_print.specs.Lines.{origins_of}
 use Rattle.it_bounds.specs.Lines.{reply_lines}
@@ -14,7 +13,7 @@ use Rattle.it_cli.proofs.bounding.bound_lines.Goals as goal
 
 pub returns-then-report : goal.returns-then-report
 returns-then-report c =
-    let q = question_view c.args.question.now in
+    let q = c.args.question.now in
     subst (λ (b : Bool). IfOk c.reply_report.result (λ t. IsTextOf (outer_mode b c.args.limits) [] c.args.k q t.items)) (sym c.if-report.true)
     (if_ok c.reply_report.result (λ t. IsToldReport c.args.limits q (reply_view c.in_ok-replied.replied.reply) t.items)
     (λ t. IsTextOf (outer_mode true c.args.limits) [] c.args.k q t.items) c.reply_report.ensures (λ t told. record {
@@ -25,12 +24,12 @@ returns-then-report c =
 
 pub returns : goal.returns
 returns c =
-    let q = question_body c.args.question.now in
+    let q = c.args.question.now.body in
     subst (λ (b : Bool). IfOk c.reply_lines.result (λ t. IsTextOf (outer_mode b c.args.limits) [] c.args.k
-    (question_view c.args.question.now) t.items)) (sym c.if-report.false)
+    c.args.question.now t.items)) (sym c.if-report.false)
     (if_ok c.reply_lines.result (λ t. t.items ≡ reply_lines c.args.limits c.args.k q (origins_of c.constraints.result.now)
     (reply_view c.in_ok-replied.replied.reply))
-    (λ t. IsTextOf (outer_mode false c.args.limits) [] c.args.k (question_view c.args.question.now) t.items) c.reply_lines.ensures (λ t is. record {
+    (λ t. IsTextOf (outer_mode false c.args.limits) [] c.args.k c.args.question.now t.items) c.reply_lines.ensures (λ t is. record {
       reply = record { reply = reply_view c.in_ok-replied.replied.reply; steps = None };
       right = record { reply = c.in_ok-replied.ensures.right; steps = refl };
       is = is ∙ ap (λ cs. reply_lines c.args.limits c.args.k q (origins_of cs) (reply_view c.in_ok-replied.replied.reply))

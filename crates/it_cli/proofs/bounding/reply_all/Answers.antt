@@ -1,7 +1,6 @@
 use Rattle.std.proofs.Common.{[], ◌∷◌, ◌++◌, map, inr, ap, refl, arith, ◌∙◌}
 use Rattle.std.proofs.lemmas.List.{length-map}
 use Rattle.it_outside.specs.Causes.{next_count}
-use Rattle.it_question.specs.Questions.{question_view}
 use Rattle.it_cli.specs.Outputs.{outer_mode}
 use Rattle.it_cli.proofs.ReplyLemmas.{all_replied, first_replied, none_replied, replies_more, replies_stop}
 use Rattle.it_cli.proofs.RightLemmas.{question_at}
@@ -21,9 +20,9 @@ pub returns-in_default-write_all : goal.returns-in_default-write_all
 returns-in_default-write_all g c bytes asked = (
   c.in_default-write_all.ensures.counted ∙ ap next_count c.loop-i.invariant.1,
   inr (replies_stop (outer_mode c.args.report c.args.limits) _ _ _ bytes
-      (map question_view c.args.questions.now) c.loop-i.i c.loop-i.invariant.0.0
-      (question_view c.index-questions-i.result) c.in-Ok.ensures.reply c.in-Ok.text.items c.as_slice.result.now asked c.loop-i.invariant.0.1
-      (omega (arith, length-map c.args.questions.now question_view)) (question_at c.args.questions.now c.loop-i.i c.index-questions-i.result
+      c.args.questions.now c.loop-i.i c.loop-i.invariant.0.0
+      c.index-questions-i.result c.in-Ok.ensures.reply c.in-Ok.text.items c.as_slice.result.now asked c.loop-i.invariant.0.1
+      (omega arith) (question_at c.args.questions.now c.loop-i.i c.index-questions-i.result
       (omega arith) c.index-questions-i.is) c.in-Ok.ensures.right c.in-Ok.ensures.is c.as_slice.ensures.value
       c.in_default-write_all.ensures.part),
 )
@@ -32,9 +31,9 @@ pub loop-i-preserved : goal.loop-i-preserved
 loop-i-preserved g c = (
   (
     c.loop-i.invariant.0.0 ++ c.in-Ok.ensures.reply ∷ [],
-    replies_more (outer_mode c.args.report c.args.limits) _ _ _ (map question_view c.args.questions.now) c.loop-i.i c.loop-i.invariant.0.0
-        (question_view c.index-questions-i.result) c.in-Ok.ensures.reply c.in-Ok.text.items c.as_slice.result.now c.loop-i.invariant.0.1
-        (omega (arith, length-map c.args.questions.now question_view)) (question_at c.args.questions.now c.loop-i.i
+    replies_more (outer_mode c.args.report c.args.limits) _ _ _ c.args.questions.now c.loop-i.i c.loop-i.invariant.0.0
+        c.index-questions-i.result c.in-Ok.ensures.reply c.in-Ok.text.items c.as_slice.result.now c.loop-i.invariant.0.1
+        (omega arith) (question_at c.args.questions.now c.loop-i.i
         c.index-questions-i.result (omega arith) c.index-questions-i.is) c.in-Ok.ensures.right c.in-Ok.ensures.is
         c.as_slice.ensures.value c.in-Ok-write_all.ensures.whole,
   ),
@@ -45,5 +44,5 @@ pub returns : goal.returns
 returns g c bytes asked = (
   c.loop-i.invariant.1,
   all_replied (outer_mode c.args.report c.args.limits) _ _ bytes _ c.loop-i.i
-      c.loop-i.invariant.0.0 asked c.loop-i.invariant.0.1 (omega (arith, length-map c.args.questions.now question_view)),
+      c.loop-i.invariant.0.0 asked c.loop-i.invariant.0.1 (omega arith),
 )

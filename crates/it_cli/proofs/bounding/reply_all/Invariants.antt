@@ -1,5 +1,4 @@
 use Rattle.std.proofs.Common.{◌≡◌, List, map}
-use Rattle.it_question.specs.Questions.{question_view}
 use Rattle.it_cli.specs.Outputs.{outer_mode}
 use Rattle.it_cli.proofs.ReplyLemmas.{Replied}
 use Rattle.it_cli.proofs.bounding.reply_all.Given as goal
@@ -7,5 +6,5 @@ use Rattle.it_cli.proofs.bounding.reply_all.Given as goal
 abbrev pub invariant-loop-i : goal.invariant-loop-i
 invariant-loop-i g l = ((replies : List (outer_mode l.report l.limits).Reply)
     × Replied (outer_mode l.report l.limits) (g.K.Sink.taken l.initial.sink) (g.K.Sink.taken l.sink)
-    (map question_view l.questions) l.i replies)
+    l.questions l.i replies)
     × (g.K.Sink.faults l.sink ≡ g.K.Sink.faults l.initial.sink)

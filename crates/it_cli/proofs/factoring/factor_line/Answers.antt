@@ -1,6 +1,5 @@
 use Rattle.std.proofs.Common.{◌≡◌, ap, ◌∙◌}
 use Rattle.it_run.proofs.AnswerLemmas.{if_ok}
-use Rattle.it_question.specs.Questions.{question_body}
 use Rattle.it_canon.specs.QuestionDemands.{question_origins}
 use Rattle.it_print.specs.Lines.{origins_of}
 use Rattle.it_factor.specs.Lines.{reply_line}
@@ -10,7 +9,7 @@ use Rattle.it_cli.proofs.LineLemmas.{origins_same}
 use Rattle.it_cli.proofs.factoring.factor_line.Goals as goal
 
 pub returns : goal.returns
-returns c = let q = question_body c.args.question.now
+returns c = let q = c.args.question.now.body
     in if_ok c.reply_line.result (λ t. t.items ≡ reply_line c.args.k q (origins_of c.constraints.result.now)
     (reply_view c.in_ok-replied.replied.reply))
     (λ t. IsFactorText c.args.effort c.args.k q t.items) c.reply_line.ensures (λ t is. record {

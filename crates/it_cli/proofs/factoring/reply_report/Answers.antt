@@ -1,5 +1,4 @@
 use Rattle.std.proofs.Common.{rules, ◌≡◌, length, map, true, refl, ◌∙◌}
-use Rattle.it_question.specs.Questions.{question_body, question_view}
 use Rattle.it_copy.specs.CopyLines.{copy_view}
 use Rattle.it_cli.specs.BestReplies.{texts_with}
 use Rattle.it_cli.specs.Copies.{Misfit, with_copies}
@@ -12,7 +11,7 @@ pub returns-then-is_empty : goal.returns-then-is_empty
 returns-then-is_empty c =
     let none : length c.args.copies.now ≡ 0 = search rules in
     let copies = map copy_view c.args.copies.now in
-    let q = question_view c.args.question.now in
+    let q = c.args.question.now in
     let same = no_copies c.args.copies.now none in
     factored_report c.args.effort (with_copies copies q) c.args.k q.body _ c.factor_report.result
     (text_alone _ q.text copies (c.as_slice.ensures.value ∙ c.in_ok-text.ensures) same)
@@ -22,8 +21,8 @@ pub returns-in-Ok : goal.returns-in-Ok
 returns-in-Ok c =
     let some : length c.args.copies.now ≡ 0 → ⊥ = search rules in
     let copies = map copy_view c.args.copies.now in
-    let q = question_view c.args.question.now in
-    let e = question_body c.in-Ok.extended in
+    let q = c.args.question.now in
+    let e = c.in-Ok.extended.body in
     let copied = some_copies c.args.copies.now some in
     factored_report c.args.effort (with_copies copies q) c.args.k e _ c.factor_report-in-Ok.result
     (texts_after_head _ _ q.text copies (c.as_slice-2.ensures.value ∙ c.in_ok-head.ensures) (c.as_slice-3.ensures.value ∙ c.in_ok-text.ensures) copied)
@@ -33,7 +32,7 @@ pub returns : goal.returns
 returns c =
     let some : length c.args.copies.now ≡ 0 → ⊥ = search rules in
     let copies = map copy_view c.args.copies.now in
-    let q = question_view c.args.question.now in
+    let q = c.args.question.now in
     let copied = some_copies c.args.copies.now some in
     misfit_reported (best_mode true c.args.effort) (with_copies copies q) c.args.k c.in-Err.fault (Misfit c.in-Err.fault)
     (λ told. (copied, told, c.in-Err.ensures.misfit)) _ (texts_with copies q.text) c.misfit_report.result

@@ -1,19 +1,18 @@
-use Rattle.it_question.specs.Questions.{question_view}
-use Rattle.it_sharing.specs.Sharings.{sharing_view}
+use Rattle.std.proofs.Common.{sym}
 use Rattle.it_cli.proofs.SharingLemmas.{answered_report, factored_report, made_is_proof}
 use Rattle.it_cli.proofs.sharing.made_report.Goals as goal
 
-pub proof_report-requires-clause-proof : goal.proof_report-requires-clause-proof
-proof_report-requires-clause-proof c = made_is_proof (sharing_view c.args.sharing.now) (question_view c.args.made.now.question) c.requires.question
+pub proof_report-requires : goal.proof_report-requires
+proof_report-requires c = record { proof = made_is_proof c.args.sharing.now c.args.made.now.question c.requires.question }
 
 pub returns-in_ok-text : goal.returns-in_ok-text
-returns-in_ok-text c = factored_report c.args.effort c.args.bytes.now (sharing_view c.args.sharing.now) c.args.made.now.minimal
-    c.args.made.now.maximal (question_view c.args.made.now.question) c.requires.minimal c.requires.maximal c.requires.few
+returns-in_ok-text c = factored_report c.args.effort c.args.bytes.now c.args.sharing.now c.args.made.now.minimal
+    c.args.made.now.maximal c.args.made.now.question c.requires.minimal c.requires.maximal c.requires.few
     c.requires.question
-    c.in_ok-text.text.items c.if-sharing.true c.in_ok-text.ensures
+    c.in_ok-text.text.items (sym c.if-asks_best.ensures) c.in_ok-text.ensures
 
 pub returns-in_ok-line : goal.returns-in_ok-line
-returns-in_ok-line c = answered_report c.args.effort c.args.bytes.now (sharing_view c.args.sharing.now) c.args.made.now.minimal
-    c.args.made.now.maximal (question_view c.args.made.now.question) c.requires.minimal c.requires.maximal c.requires.few
+returns-in_ok-line c = answered_report c.args.effort c.args.bytes.now c.args.sharing.now c.args.made.now.minimal
+    c.args.made.now.maximal c.args.made.now.question c.requires.minimal c.requires.maximal c.requires.few
     c.requires.question
-    c.in_ok-line.line.items c.if-sharing.false c.in_ok-line.ensures
+    c.in_ok-line.line.items (sym c.if-asks_best.ensures) c.in_ok-line.ensures

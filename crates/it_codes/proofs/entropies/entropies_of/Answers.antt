@@ -2,7 +2,7 @@ use Rattle.std.proofs.Common.{◌≡◌, ◌≤◌, ◌<◌, ◌^◌, ◌++◌, 
 use Rattle.std.proofs.lemmas.Int.{to_z_pos}
 use Rattle.std.proofs.lemmas.List.Elements.{All-push}
 use Rattle.it_number.specs.Limit.{IsWithin}
-use Rattle.it_codes.specs.Codes.{code_view, variables_of, HasEntropy}
+use Rattle.it_codes.specs.Codes.{variables_of, HasEntropy}
 use Rattle.it_codes.proofs.EntropyLemmas.{more_entropies}
 use Rattle.it_codes.proofs.entropies.entropies_of.Goals as goal
 use mir.Syntax.{w128}
@@ -17,11 +17,11 @@ loop-set-preserved c =
       c.loop-set.invariant.0,
       omega (arith, c.in_ok-push-in-Some.ensures.len, ap length items, c.loop-set.invariant.1),
       rw items (All-push IsWithin values (pos c.in-Some.h) c.loop-set.invariant.2 within),
-      rw items (more_entropies (code_view c.args.code.now) values c.loop-set.set c.in-Some.h c.loop-set.invariant.1 c.loop-set.invariant.3
+      rw items (more_entropies c.args.code.now values c.loop-set.set c.in-Some.h c.loop-set.invariant.1 c.loop-set.invariant.3
           c.in-Some.ensures.found),
     )
 
 pub returns-clause-values : goal.returns-clause-values
 returns-clause-values c = λ s from below.
-    let last : 2 ^ variables_of (code_view c.args.code.now) ≤ c.loop-set.set = subst (λ n. n ≤ c.loop-set.set) c.loop-set.invariant.0 c.loop-set-test.false in
-    subst (λ (v : List ℤ). HasEntropy (code_view c.args.code.now) 1 v s) (sym c.new.ensures) (c.loop-set.invariant.3 s from (omega (arith, last, below)))
+    let last : 2 ^ variables_of c.args.code.now ≤ c.loop-set.set = subst (λ n. n ≤ c.loop-set.set) c.loop-set.invariant.0 c.loop-set-test.false in
+    subst (λ (v : List ℤ). HasEntropy c.args.code.now 1 v s) (sym c.new.ensures) (c.loop-set.invariant.3 s from (omega (arith, last, below)))

@@ -1,6 +1,5 @@
-use Rattle.it_question.specs.Questions.{question_body}
 use Rattle.it_copy.proofs.SizeLemmas.{size_told}
 use Rattle.it_copy.proofs.extending.has_large_table.Goals as goal
 
 pub returns : goal.returns
-returns c = size_told (question_body c.args.question.now) c.in_ok-problem.problem c.in_ok-problem.ensures.poses c.in_ok-large.large c.in_ok-large.ensures
+returns c = size_told c.args.question.now.body c.in_ok-problem.problem c.in_ok-problem.ensures.poses c.in_ok-large.large c.in_ok-large.ensures

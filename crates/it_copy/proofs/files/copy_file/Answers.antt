@@ -3,12 +3,11 @@ use Rattle.std.proofs.lemmas.List.{drop-map, length-map}
 use Rattle.std.proofs.lemmas.List.Elements.{All-map}
 use Rattle.it_question.specs.declared.bodies.Body.{Body}
 use Rattle.it_question.specs.declared.cursor.Line.{Line}
-use Rattle.it_question.specs.declared.types.Question.{Question}
+use Rattle.it_question.specs.Questions.{QuestionView}
 use Rattle.it_question.specs.Bodies.{body_view}
 use Rattle.it_question.specs.Cursors.{line_view, letters_left}
 use Rattle.it_question.specs.Limits.{IsQuestion}
 use Rattle.it_question.specs.Lines.{LineView, letters_of_lines}
-use Rattle.it_question.specs.Questions.{question_view}
 use Rattle.it_question.specs.Stops.{IsLeft, IfFault, IsStopAt}
 use Rattle.it_question.specs.Texts.{with_texts}
 use Rattle.it_question.specs.WholeFiles.{place_of}
@@ -22,10 +21,10 @@ use Rattle.it_copy.proofs.StartLemmas.{items_are_read, begun_stop, same_lines}
 use Rattle.it_copy.proofs.files.copy_file.Goals as goal
 
 -- the questions after the copies have the texts of the lines after theirs
-after_copies : (lines after : List Line) (copies : List CopyLine) (bodies : List Body) (questions : List Question) (n : ℕ)
+after_copies : (lines after : List Line) (copies : List CopyLine) (bodies : List Body) (questions : List QuestionView) (n : ℕ)
     → n ≡ length copies → after ≡ drop n lines
-    → map question_view questions ≡ with_texts (map line_view after) (map body_view bodies)
-    → map question_view questions ≡ with_texts (drop (length (map copy_view copies)) (map line_view lines)) (map body_view bodies)
+    → questions ≡ with_texts (map line_view after) (map body_view bodies)
+    → questions ≡ with_texts (drop (length (map copy_view copies)) (map line_view lines)) (map body_view bodies)
 after_copies lines after copies bodies questions n count is made =
     made ∙ ap (λ (ls : List LineView). with_texts ls (map body_view bodies))
     (ap (map line_view) is ∙ sym (drop-map line_view n lines) ∙ ap (λ (k : ℕ). drop k (map line_view lines))

@@ -28,7 +28,7 @@ even c = c.requires.notes.moved_is ∙ sym c.requires.engine.rows_are
 
 -- which rows moved by now
 moved_is : (c : After-entry_at) → c.note_moved.new.moved ≡ slice_set c.args.notes.now.moved.items c.args.row true
-moved_is c = c.if-not-note_moved.ensures.moved ∙ ap (λ (moved : List Bool). slice_set moved c.args.row true) c.as_mut_slice.ensures.value
+moved_is c = c.in_ok-note_moved.ensures.moved ∙ ap (λ (moved : List Bool). slice_set moved c.args.row true) c.as_mut_slice.ensures.value
 
 -- that list as it is written back
 moved_is_written : (c : After-entry_at) → (with_items c.args.notes.now.moved c.note_moved.new.moved).items ≡ c.note_moved.new.moved
@@ -36,7 +36,7 @@ moved_is_written c = with_items_is c.args.notes.now.moved c.note_moved.new.moved
     (ap length (moved_is c) ∙ length-set c.args.notes.now.moved.items c.args.row true ∙ sym c.args.notes.now.moved.ok.0)
 
 order_is : (c : After-entry_at) → AreMovedInOrder c.note_moved.new.moved (length c.args.basis.now) c.note_moved.new.order.items
-order_is c = c.if-not-note_moved.ensures.order (length c.args.basis.now) c.requires.row
+order_is c = c.in_ok-note_moved.ensures.order (length c.args.basis.now) c.requires.row
     (subst (λ (moved : List Bool). AreMovedInOrder moved (length c.args.basis.now) c.args.notes.now.order.items)
     (sym c.as_mut_slice.ensures.value) c.requires.order)
 

@@ -11,7 +11,7 @@ entering_column-requires c = λ j l.
     let last : length c.args.block.now.basis.now < length c.args.block.now.rows.now = omega (arith, c.requires.engine.rows_are) in
     subst (λ (r : WholeRowView). Suits (slice_index_or c.args.run.now.columns.now j []) r.numbers)
     (sym (get_or_default c.args.block.now.rows.now (length c.args.block.now.basis.now) c.index-block-last.result
-    record { numbers = []; bottom = 1 } last))
+    record { numbers = []; denominator = 1 } last))
     (fitting_suits (length c.args.block.now.rows.now) c.args.run.now.limit (slice_index_or c.args.run.now.columns.now j [])
     (whole_row_at c.args.block.now.rows.now (length c.args.block.now.basis.now)) (c.requires.engine.fitting j l)
     (c.requires.engine.usable (length c.args.block.now.basis.now) last))

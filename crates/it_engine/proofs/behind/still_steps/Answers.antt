@@ -1,5 +1,6 @@
-use Rattle.std.proofs.Common.{◌≡◌, ◌+◌, ◌∙◌, List, Bool, ℕ, length, slice_set, sym, ap, subst, arith}
+use Rattle.std.proofs.Common.{◌≡◌, ◌+◌, ◌∙◌, List, Option, Bool, ℕ, length, slice_set, sym, ap, subst, arith}
 use Rattle.std.proofs.lemmas.List.{length-set}
+use Rattle.std.specs.Option.{IfSome}
 use Rattle.it_engine.specs.Behind.{AreBaseBounds, AreMovedInOrder, AreRanked, AreStillSteps, IsStillChoice}
 use Rattle.it_engine.specs.Engine.{HasRoom}
 use Rattle.it_engine.proofs.ManySteps.{bounds_kept, no_steps, more_steps}
@@ -20,9 +21,11 @@ loop-k-init c = record {
 
 pub loop-k-preserved : goal.loop-k-preserved
 loop-k-preserved c =
-    let made = c.if-not-make_step.ensures in
+    let made = c.in_ok-make_step.ensures in
     let choice = subst (λ (moved : List Bool). IsStillChoice c.args.run.now.columns.now c.args.run.now.limit c.loop-k.rows c.loop-k.basis
-    moved c.in-Some.column c.in-Some.row) c.as_slice-in-loop-k.ensures.value c.in-Some.ensures.choice in
+    moved c.in-Some.column c.in-Some.row) c.as_slice-in-loop-k.ensures.value
+    (subst (λ (found : Option (ℕ × ℕ)). IfSome found (λ x. IsStillChoice c.args.run.now.columns.now c.args.run.now.limit c.loop-k.rows
+    c.loop-k.basis c.as_slice-in-loop-k.result.now x.0 x.1)) c.in-Some.is c.in_ok-found.ensures.choice) in
     let steps = c.loop-k.invariant.steps in record {
       steps = subst (λ (bs : List ℕ). AreStillSteps c.args.run.now.columns.now c.args.run.now.limit c.args.rows.now c.args.basis.now
           c.args.notes.now.moved.items (c.loop-k.k + 1) c.make_step.new.rows bs c.make_step.new.notes.moved.items) (sym made.basis)

@@ -1,4 +1,4 @@
-use Rattle.std.proofs.Common.{◌≡◌, ◌<◌, ◌≤◌, ℕ, List, length, slice_index_or, subst}
+use Rattle.std.proofs.Common.{rules, ◌≡◌, ◌<◌, ◌≤◌, ℕ, List, length, slice_index_or, subst}
 use Rattle.it_engine.proofs.MovedOrder.{noted_in_order, stands_in_order}
 use Rattle.it_engine.proofs.blocks.note_moved.Goals as goal
 
@@ -20,5 +20,5 @@ returns-clause-order c =
     c.as_slice.ensures.value c.place_of-place.ensures.after in
     let other = subst (λ (xs : List ℕ). c.place_of-place.result < length xs → ¬ (slice_index_or xs c.place_of-place.result 0 ≡ c.args.r))
     c.as_slice-2.ensures.value c.if-stands_at.ensures.no in
-    noted_in_order c.args.moved.now c.args.r c.place_of-place.result c.args.order.now.items c.insert.new.self.items c.is_ok.result _
-    c.requires within before after other c.is_ok.ensures.value c.insert.ensures.items
+    noted_in_order c.args.moved.now c.args.r c.place_of-place.result c.args.order.now.items c.insert.new.self.items
+    c.requires within before after other (search rules)

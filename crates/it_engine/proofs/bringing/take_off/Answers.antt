@@ -11,7 +11,7 @@ returns-then-is_zero-clause-updated c =
     let f : FitsSigned w64 c.price-entry.result = search rules in
     kept_updated (length (whole_row_at c.args.rows.now c.args.q).numbers) c.args.limit c.args.row.now
     (whole_row_at c.args.rows.now c.args.q) (value c.args.column.now (number_at c.args.row.now.numbers))
-    (pos (whole_row_at c.args.rows.now c.args.q).bottom)
+    (pos (whole_row_at c.args.rows.now c.args.q).denominator)
     c.requires.row (sym c.price-entry.ensures ∙ (simp to_z-of_z at c.if-is_zero.ensures.yes))
 
 pub update-requires-clause-entry : goal.update-requires-clause-entry

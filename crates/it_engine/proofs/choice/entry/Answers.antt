@@ -8,5 +8,5 @@ pub price-requires : goal.price-requires
 price-requires c = record {
   suits = subst (λ (r : WholeRowView). Suits c.args.column.now r.numbers)
       (sym (item_by_default c.args.rows.now c.args.i c.index-rows-i.result
-      record { numbers = []; bottom = 1 } c.requires.row c.index-rows-i.is)) (c.requires.suits c.args.i c.requires.row);
+      record { numbers = []; denominator = 1 } c.requires.row c.index-rows-i.is)) (c.requires.suits c.args.i c.requires.row);
 }

@@ -8,7 +8,7 @@ use Rattle.it_engine.proofs.engine.narrowed_row.Goals as goal
 use Rattle.it_engine.proofs.engine.narrowed_row.Goals.{After-index-rows-k}
 
 row_is : (c : After-index-rows-k) → c.index-rows-k.result ≡ whole_row_at c.args.rows.now c.args.k
-row_is c = item_by_default c.args.rows.now c.args.k c.index-rows-k.result record { numbers = []; bottom = 1 } c.requires.row c.index-rows-k.is
+row_is c = item_by_default c.args.rows.now c.args.k c.index-rows-k.result record { numbers = []; denominator = 1 } c.requires.row c.index-rows-k.is
 
 pub returns-clause-row : goal.returns-clause-row
 returns-clause-row c = subst (λ (r : WholeRowView). IfOk c.narrowed.result (λ o. IfSome o (λ row. row ≡ r)))

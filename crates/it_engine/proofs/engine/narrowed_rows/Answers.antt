@@ -18,7 +18,7 @@ loop-k-preserved c =
     let l : c.loop-k.k < length rows = search rules in record {
       same = c.in_ok-push.ensures.items ∙ ap (λ (r : WholeRowView). c.loop-k.narrow.items ++ r ∷ []) row
           ∙ ap (λ (rs : List WholeRowView). rs ++ whole_row_at rows c.loop-k.k ∷ []) c.loop-k.invariant.same
-          ∙ sym (take_more rows c.loop-k.k record { numbers = []; bottom = 1 } l);
+          ∙ sym (take_more rows c.loop-k.k record { numbers = []; denominator = 1 } l);
       small = below_more (λ j. AreAtMost (whole_row_at rows j).numbers c.args.limit) c.loop-k.k c.loop-k.invariant.small small;
     }
 

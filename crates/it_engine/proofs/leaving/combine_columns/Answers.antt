@@ -11,7 +11,7 @@ loop-k-preserved c = after_row c.args.block.now.order.now
     c.loop-k.k c.row_at-q.result c.row_at-q.ensures
     (column_more c.args.columns.now c.args.block.now.rows.now c.args.block.now.basis.now c.args.block.now.moved.now c.args.entries.now
     c.args.multiple c.args.column c.row_at-q.result c.loop-k.combined c.less_moved.new.combined
-    (rw c.row_at-q.ensures (c.requires.order.own c.loop-k.k c.loop-k-test.true)) c.if-not-less_moved.ensures
+    (rw c.row_at-q.ensures (c.requires.order.own c.loop-k.k c.loop-k-test.true)) c.in_ok-less_moved.ensures
     (up_to_row c.args.block.now.moved.now (length c.args.block.now.basis.now) c.args.block.now.order.now c.requires.order
     (λ q. c.loop-k.combined ≡ column_less_moved c.args.columns.now c.args.block.now.rows.now c.args.block.now.basis.now
     c.args.block.now.moved.now c.args.entries.now c.args.multiple c.args.column q)

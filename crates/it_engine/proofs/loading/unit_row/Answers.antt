@@ -6,7 +6,7 @@ pub returns : goal.returns
 returns c =
     let cs = c.args.coordinates.now in
     let fits : FitsSigned w64 c.signed-last.result = search rules in
-    unit_row_is cs c.args.target.now c.args.limit c.requires.some c.from_numbers.result c.from_numbers.ensures.bottom c.args.k c.requires.row
+    unit_row_is cs c.args.target.now c.args.limit c.requires.some c.from_numbers.result c.from_numbers.ensures.denominator c.args.k c.requires.row
     (subst (λ n. n ≤ c.args.limit) c.in-Some.ensures.0 c.in-Some.ensures.1)
     (c.from_numbers.ensures.numbers ∙ ap₂ (λ (xs : List ℤ) (y : ℤ). set (set xs c.args.k (pos 1)) (length cs) y) c.in_ok-numbers.ensures
     (to_z-of_z fits ∙ c.signed-last.ensures ∙ ap pos c.in-Some.ensures.0))

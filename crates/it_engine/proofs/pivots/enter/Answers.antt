@@ -9,7 +9,7 @@ use Rattle.it_engine.proofs.Fitting.{fitting_short, fitting_suits}
 use Rattle.it_engine.proofs.pivots.enter.Goals as goal
 
 pub note_entries-requires-clause-suits : goal.note_entries-requires-clause-suits
-note_entries-requires-clause-suits c = λ i l. fitting_suits (length c.args.rows.now) c.args.limit c.args.column.now
+note_entries-requires-clause-suits c = λ i l. fitting_suits (length c.args.rows.now) c.args.run.now.limit c.args.column.now
     (whole_row_at c.args.rows.now i) c.requires.column (c.requires.rows i l)
 
 pub pivot-requires-clause-row : goal.pivot-requires-clause-row
@@ -18,7 +18,7 @@ pivot-requires-clause-row c = omega (arith, c.in_ok-row.ensures.within, c.requir
 pub pivot-requires-clause-short : goal.pivot-requires-clause-short
 pivot-requires-clause-short c = λ k l. let h : k < length c.args.rows.now = omega (arith, l, c.note_entries.ensures.length_is) in
     subst (λ (z : ℤ). unsigned_abs z < 2 ^ 63) (sym (c.note_entries.ensures.each k h))
-    (fitting_short (length c.args.rows.now) c.args.limit c.args.column.now (whole_row_at c.args.rows.now k) c.requires.column (c.requires.rows k h))
+    (fitting_short (length c.args.rows.now) c.args.run.now.limit c.args.column.now (whole_row_at c.args.rows.now k) c.requires.column (c.requires.rows k h))
 
 pub pivot-requires-clause-positive : goal.pivot-requires-clause-positive
 pivot-requires-clause-positive c = let entries = c.note_entries.new.entries in
@@ -34,6 +34,6 @@ returns-then-pivot-clause-leaves c = let entries = c.note_entries.new.entries in
 
 pub returns-then-pivot-clause-pivoted : goal.returns-then-pivot-clause-pivoted
 returns-then-pivot-clause-pivoted c = let entries = c.note_entries.new.entries in
-    pivoted_by_entries (length c.args.rows.now) c.args.limit c.args.rows.now (number_at entries)
+    pivoted_by_entries (length c.args.rows.now) c.args.run.now.limit c.args.rows.now (number_at entries)
     (entry_of c.args.column.now c.args.rows.now) c.in_ok-row.row c.pivot.new.rows
     (omega (arith, c.in_ok-row.ensures.within, c.requires.height)) c.note_entries.ensures.each c.if-pivot.ensures.pivoted

@@ -5,6 +5,6 @@ use Rattle.it_engine.proofs.pivots.pivot_moved.Given as goal
 
 abbrev pub invariant-loop-k : goal.invariant-loop-k
 invariant-loop-k l = record {
-  under_way : IsPivotUnderWay l.limit l.fn.rows l.entries l.r l.own l.p l.rows (after_rows l.order l.k);
+  under_way : IsPivotUnderWay l.run.limit l.fn.rows l.entries l.r l.leaving.row.now l.p l.rows (after_rows l.order l.k);
   room : length l.room ≡ length l.fn.rows;
 }

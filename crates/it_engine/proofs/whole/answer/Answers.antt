@@ -14,45 +14,49 @@ without_columns columns limit rows basis s = record { rows_are = s.rows_are; usa
 pub weights-requires : goal.weights-requires
 weights-requires c = (
   c.args.limit,
-  subst (λ (rows : List WholeRowView). IsSafe c.args.columns.now c.args.limit rows c.basis.result.now) (sym c.rows.ensures)
-      (subst (IsSafe c.args.columns.now c.args.limit c.run.new.self.rows) (sym c.basis.ensures) c.in-Some-Weights.ensures.engine),
+  subst (λ (rows : List WholeRowView). IsSafe c.args.task.now.columns.now c.args.limit rows c.basis.result.now) (sym c.rows.ensures)
+      (subst (IsSafe c.args.task.now.columns.now c.args.limit c.run.new.self.rows) (sym c.basis.ensures) c.in-Ok-Weights.ensures.engine),
 )
 
 pub point-requires-clause-height : goal.point-requires-clause-height
-point-requires-clause-height c = ap length c.basis-in-Some-Point.ensures ∙ c.in-Some-Point.ensures.height ∙ c.requires.height
+point-requires-clause-height c = ap length c.basis-in-Ok-Point.ensures ∙ c.in-Ok-Point.ensures.height ∙ c.requires.height
 
 pub point-requires-clause-engine : goal.point-requires-clause-engine
 point-requires-clause-engine c = (
   c.args.limit,
-  subst (λ (rows : List WholeRowView). IsSafe [] c.args.limit rows c.basis-in-Some-Point.result.now) (sym c.rows-in-Some-Point.ensures)
-      (subst (IsSafe [] c.args.limit c.run.new.self.rows) (sym c.basis-in-Some-Point.ensures)
-      (without_columns c.args.columns.now c.args.limit c.run.new.self.rows c.run.new.self.basis c.in-Some-Point.ensures.engine)),
+  subst (λ (rows : List WholeRowView). IsSafe [] c.args.limit rows c.basis-in-Ok-Point.result.now) (sym c.rows-in-Ok-Point.ensures)
+      (subst (IsSafe [] c.args.limit c.run.new.self.rows) (sym c.basis-in-Ok-Point.ensures)
+      (without_columns c.args.task.now.columns.now c.args.limit c.run.new.self.rows c.run.new.self.basis c.in-Ok-Point.ensures.engine)),
 )
 
-pub returns-in-Some-Weights : goal.returns-in-Some-Weights
-returns-in-Some-Weights c =
-    let ws = c.in_ok-weights-in-Some-Weights.field-0.items in
-    by_weights c.args.coordinates.now c.args.target.now c.args.columns.now c.args.limit c.args.engine.rows c.args.engine.basis c.args.budget
+pub returns-in-Ok-Weights : goal.returns-in-Ok-Weights
+returns-in-Ok-Weights c =
+    let ws = c.in_ok-weights-in-Ok-Weights.field-0.items in
+    by_weights c.args.task.now.coordinates.now c.args.task.now.target.now c.args.task.now.columns.now c.args.limit
+    c.args.engine.rows c.args.engine.basis c.args.task.now.budget
     c.run.new.self.rows c.run.new.self.basis ws
-    (subst (λ (f : EngineEnd). IsFinished c.args.columns.now c.args.limit c.args.engine.rows c.args.engine.basis c.args.budget
-    c.run.new.self.rows c.run.new.self.basis f) c.in-Some-Weights.field-0-is c.in-Some-Weights.ensures)
-    (subst (λ (rows : List WholeRowView). AreWeightsOf c.args.columns.now rows c.run.new.self.basis ws) c.rows.ensures
-    (subst (λ (basis : List ℕ). AreWeightsOf c.args.columns.now c.rows.result.now basis ws) c.basis.ensures c.in_ok-weights-in-Some-Weights.ensures))
+    (subst (λ (f : EngineEnd). IsFinished c.args.task.now.columns.now c.args.limit c.args.engine.rows c.args.engine.basis c.args.task.now.budget
+    c.run.new.self.rows c.run.new.self.basis f) c.in-Ok-Weights.field-0-is c.in-Ok-Weights.ensures)
+    (subst (λ (rows : List WholeRowView). AreWeightsOf c.args.task.now.columns.now rows c.run.new.self.basis ws) c.rows.ensures
+    (subst (λ (basis : List ℕ). AreWeightsOf c.args.task.now.columns.now c.rows.result.now basis ws) c.basis.ensures c.in_ok-weights-in-Ok-Weights.ensures))
 
-pub returns-in-Some-Point : goal.returns-in-Some-Point
-returns-in-Some-Point c =
-    let q = c.in_ok-point-in-Some-Point.field-0.items in
-    by_point c.args.coordinates.now c.args.target.now c.args.columns.now c.args.limit c.args.engine.rows c.args.engine.basis c.args.budget
+pub returns-in-Ok-Point : goal.returns-in-Ok-Point
+returns-in-Ok-Point c =
+    let q = c.in_ok-point-in-Ok-Point.field-0.items in
+    by_point c.args.task.now.coordinates.now c.args.task.now.target.now c.args.task.now.columns.now c.args.limit
+    c.args.engine.rows c.args.engine.basis c.args.task.now.budget
     c.run.new.self.rows c.run.new.self.basis q
-    (subst (λ (f : EngineEnd). IsFinished c.args.columns.now c.args.limit c.args.engine.rows c.args.engine.basis c.args.budget
-    c.run.new.self.rows c.run.new.self.basis f) c.in-Some-Point.field-0-is c.in-Some-Point.ensures)
-    (subst (λ (rows : List WholeRowView). IsPointOf c.args.coordinates.now c.args.target.now rows c.run.new.self.basis q) c.rows-in-Some-Point.ensures
-    (subst (λ (basis : List ℕ). IsPointOf c.args.coordinates.now c.args.target.now c.rows-in-Some-Point.result.now basis q)
-    c.basis-in-Some-Point.ensures c.in_ok-point-in-Some-Point.ensures))
+    (subst (λ (f : EngineEnd). IsFinished c.args.task.now.columns.now c.args.limit c.args.engine.rows c.args.engine.basis c.args.task.now.budget
+    c.run.new.self.rows c.run.new.self.basis f) c.in-Ok-Point.field-0-is c.in-Ok-Point.ensures)
+    (subst (λ (rows : List WholeRowView). IsPointOf c.args.task.now.coordinates.now c.args.task.now.target.now rows c.run.new.self.basis q)
+    c.rows-in-Ok-Point.ensures
+    (subst (λ (basis : List ℕ). IsPointOf c.args.task.now.coordinates.now c.args.task.now.target.now c.rows-in-Ok-Point.result.now basis q)
+    c.basis-in-Ok-Point.ensures c.in_ok-point-in-Ok-Point.ensures))
 
-pub returns-in-Some-Pivots : goal.returns-in-Some-Pivots
-returns-in-Some-Pivots c =
-    by_budget c.args.coordinates.now c.args.target.now c.args.columns.now c.args.limit c.args.engine.rows c.args.engine.basis c.args.budget
-    c.run.new.self.rows c.run.new.self.basis c.in-Some-Pivots.steps
-    (subst (λ (f : EngineEnd). IsFinished c.args.columns.now c.args.limit c.args.engine.rows c.args.engine.basis c.args.budget
-    c.run.new.self.rows c.run.new.self.basis f) c.in-Some-Pivots.field-0-is c.in-Some-Pivots.ensures)
+pub returns-in-Ok-Pivots : goal.returns-in-Ok-Pivots
+returns-in-Ok-Pivots c =
+    by_budget c.args.task.now.coordinates.now c.args.task.now.target.now c.args.task.now.columns.now c.args.limit
+    c.args.engine.rows c.args.engine.basis c.args.task.now.budget
+    c.run.new.self.rows c.run.new.self.basis c.in-Ok-Pivots.steps
+    (subst (λ (f : EngineEnd). IsFinished c.args.task.now.columns.now c.args.limit c.args.engine.rows c.args.engine.basis c.args.task.now.budget
+    c.run.new.self.rows c.run.new.self.basis f) c.in-Ok-Pivots.field-0-is c.in-Ok-Pivots.ensures)

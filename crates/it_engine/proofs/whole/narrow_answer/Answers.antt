@@ -25,8 +25,8 @@ answer-requires-clause-height c = let d = (goal.at.answer-requires-clause-height
 pub answer-requires-clause-engine : goal.answer-requires-clause-engine
 answer-requires-clause-engine c =
     let d = (goal.at.answer-requires-clause-engine c).In-Some in
-    subst (λ (e : EngineView). IsSafe c.args.columns.now c.narrow_limit-lower.result e.rows e.basis) (sym (engine_is d))
-    (safe_below c.args.columns.now c.args.limit c.narrow_limit-lower.result c.args.engine.now.rows c.args.engine.now.basis
+    subst (λ (e : EngineView). IsSafe c.args.task.now.columns.now c.narrow_limit-lower.result e.rows e.basis) (sym (engine_is d))
+    (safe_below c.args.task.now.columns.now c.args.limit c.narrow_limit-lower.result c.args.engine.now.rows c.args.engine.now.basis
     c.narrow_limit-lower.ensures.below (numbers_are_small d) c.requires.engine)
 
 pub answer-requires-clause-stands : goal.answer-requires-clause-stands
@@ -35,22 +35,24 @@ answer-requires-clause-stands c =
     let s = c.requires.stands in (
       s.0,
       s.1,
-      subst (λ (e : EngineView). Represents s.0 s.1 c.args.columns.now c.narrow_limit-lower.result e.rows e.basis) (sym (engine_is d))
-          (stands_below c.args.columns.now c.args.limit c.narrow_limit-lower.result c.args.engine.now.rows c.args.engine.now.basis
+      subst (λ (e : EngineView). Represents s.0 s.1 c.args.task.now.columns.now c.narrow_limit-lower.result e.rows e.basis) (sym (engine_is d))
+          (stands_below c.args.task.now.columns.now c.args.limit c.narrow_limit-lower.result c.args.engine.now.rows c.args.engine.now.basis
           c.narrow_limit-lower.ensures.below (numbers_are_small d) s.0 s.1 s.2),
     )
 
 pub returns-in-Some : goal.returns-in-Some
 returns-in-Some c =
     let d = (goal.at.returns-in-Some c).In-Some in
-    let columns = c.args.columns.now in
+    let columns = c.args.task.now.columns.now in
     let rows = c.args.engine.now.rows in
     let basis = c.args.engine.now.basis in
     let lower = c.narrow_limit-lower.result in
-    let P : Solved → Type 0 = λ solved. AnswersQuestion c.args.coordinates.now c.args.target.now columns lower c.in-Some.narrow.rows
-    c.in-Some.narrow.basis c.args.budget solved in
-    let Q : Solved → Type 0 = λ solved. AnswersQuestion c.args.coordinates.now c.args.target.now columns c.args.limit rows basis c.args.budget solved in
+    let P : Solved → Type 0 = λ solved. AnswersQuestion c.args.task.now.coordinates.now c.args.task.now.target.now columns lower c.in-Some.narrow.rows
+    c.in-Some.narrow.basis c.args.task.now.budget solved in
+    let Q : Solved → Type 0 = λ solved. AnswersQuestion c.args.task.now.coordinates.now c.args.task.now.target.now
+    columns c.args.limit rows basis c.args.task.now.budget solved in
     if_ok c.answer.result (λ o. IfSome o P) (λ o. IfSome o Q) c.answer.ensures
     (λ o h. if_some_more o P Q h (λ solved a. answers_below columns c.args.limit lower rows basis c.narrow_limit-lower.ensures.below
-    (numbers_are_small d) c.args.coordinates.now c.args.target.now c.args.budget solved
-    (subst (λ (e : EngineView). AnswersQuestion c.args.coordinates.now c.args.target.now columns lower e.rows e.basis c.args.budget solved) (engine_is d) a)))
+    (numbers_are_small d) c.args.task.now.coordinates.now c.args.task.now.target.now c.args.task.now.budget solved
+    (subst (λ (e : EngineView). AnswersQuestion c.args.task.now.coordinates.now c.args.task.now.target.now
+    columns lower e.rows e.basis c.args.task.now.budget solved) (engine_is d) a)))

@@ -19,7 +19,7 @@ answer_by_width-requires-clause-stands c = (
   feasibility_problem c.args.coordinates.now c.args.generators.now c.args.target.now,
   start_of c.args.coordinates.now
       c.args.generators.now c.args.target.now,
-  (is_start c).stands,
+  (is_start (goal.at.answer_by_width-requires-clause-stands c).After-as_slice).stands,
 )
 
 pub returns : goal.returns

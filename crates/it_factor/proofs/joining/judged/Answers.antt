@@ -11,13 +11,13 @@ use Rattle.it_factor.proofs.joining.judged.Goals as goal
 
 pub check_no-requires-clause-target : goal.check_no-requires-clause-target
 check_no-requires-clause-target c =
-    let size = size_of c.args.problem.now.space in
-    subst (IsOver size) (sym c.requires.turned) (negated_up size c.args.right.now c.requires.sides.right)
+    let size = size_of c.args.sides.now.problem.now.space in
+    subst (IsOver size) (sym c.requires.negated) (negated_up size c.args.sides.now.right.now c.requires.sides.right)
 
 pub returns-in-Valid : goal.returns-in-Valid
 returns-in-Valid c =
-    let q = c.args.problem.now in
-    let zero : value c.args.left.now (point_of c.args.point) ≡ pos 0 = search rules in
-    never_is_right q c.args.left.now c.args.right.now c.args.point c.requires.sides.problem c.requires.sides.right c.requires.complete
+    let q = c.args.sides.now.problem.now in
+    let zero : value c.args.sides.now.left.now (point_of c.args.point) ≡ pos 0 = search rules in
+    never_is_right q c.args.sides.now.left.now c.args.sides.now.right.now c.args.point c.requires.sides.problem c.requires.sides.right c.requires.complete
     (subst (λ (row : Terms). Valid ≡ no_verdict (length (elementals q.space.variables)) (generators q) row (point_of c.args.point))
-    c.requires.turned c.in-Valid.ensures) zero
+    c.requires.negated c.in-Valid.ensures) zero

@@ -12,8 +12,8 @@ shared_is c =
     let f : FitsSigned w128 c.args.num = c.ranges.num in
     c.common_divisor-shared.ensures.value ∙ ap (λ n. gcd n c.args.den) (simp to_z-of_z at c.unsigned_abs.ensures.value)
 
-top_is : (c : After-signed_quotient) → c.signed_quotient.result ≡ int_quotient c.args.num c.common_divisor-shared.result
-top_is c = let f : FitsSigned w128 c.args.num = c.ranges.num in simp to_z-of_z at c.signed_quotient.ensures
+numerator_is : (c : After-signed_quotient) → c.signed_quotient.result ≡ int_quotient c.args.num c.common_divisor-shared.result
+numerator_is c = let f : FitsSigned w128 c.args.num = c.ranges.num in simp to_z-of_z at c.signed_quotient.ensures
 
 pub in_lowest_terms-requires-clause-some : goal.in_lowest_terms-requires-clause-some
 in_lowest_terms-requires-clause-some c =
@@ -24,12 +24,12 @@ pub in_lowest_terms-requires-clause-lowest : goal.in_lowest_terms-requires-claus
 in_lowest_terms-requires-clause-lowest c =
     let g = goal.at.in_lowest_terms-requires-clause-lowest c in
     let f : FitsSigned w128 c.signed_quotient.result = search rules in
-    simp to_z-of_z (rw (top_is g.After-signed_quotient, c.quotient.ensures)
+    simp to_z-of_z (rw (numerator_is g.After-signed_quotient, c.quotient.ensures)
     (reduced-lowest c.args.num c.args.den c.common_divisor-shared.result c.requires.den_some (shared_is g.After-common_divisor-shared)))
 
 pub returns : goal.returns
 returns c =
     let g = goal.at.returns c in
     let f : FitsSigned w128 c.signed_quotient.result = search rules in
-    simp to_z-of_z at c.in_lowest_terms.ensures ∙ ap₂ quotient (top_is g.After-signed_quotient) c.quotient.ensures
+    simp to_z-of_z at c.in_lowest_terms.ensures ∙ ap₂ quotient (numerator_is g.After-signed_quotient) c.quotient.ensures
     ∙ reduced-is c.args.num c.args.den c.common_divisor-shared.result c.requires.den_some (shared_is g.After-common_divisor-shared)

@@ -12,18 +12,18 @@ use Rattle.it_space.proofs.MixLemmas.{where_fault}
 from_below : (n f t : ℕ) → t < 2 ^ n → IsInside f t → f < 2 ^ n
 from_below n f t h i = omega (arith, inside_le f t i)
 
-pub add_mutual-requires-clause-a_apart_from_b : goal.add_mutual-requires-clause-a_apart_from_b
-add_mutual-requires-clause-a_apart_from_b c =
+pub add_mutual-requires-clause-left_apart_from_right : goal.add_mutual-requires-clause-left_apart_from_right
+add_mutual-requires-clause-left_apart_from_right c =
     rw (less_found c.args.by.to c.args.set c.minus.result c.minus.ensures.rest, less_found c.args.set c.args.by.to c.minus-2.result c.minus-2.ensures.rest)
     (less_less c.args.n c.args.by.to c.args.set c.requires.to_below c.requires.below)
 
-pub add_mutual-requires-clause-a_apart_from_c : goal.add_mutual-requires-clause-a_apart_from_c
-add_mutual-requires-clause-a_apart_from_c c =
+pub add_mutual-requires-clause-left_apart_from_given : goal.add_mutual-requires-clause-left_apart_from_given
+add_mutual-requires-clause-left_apart_from_given c =
     rw (less_found c.args.by.to c.args.set c.minus.result c.minus.ensures.rest, c.meet-shared.ensures)
     (less_meet_right c.args.n c.args.by.to c.args.set c.requires.to_below c.requires.below)
 
-pub add_mutual-requires-clause-b_apart_from_c : goal.add_mutual-requires-clause-b_apart_from_c
-add_mutual-requires-clause-b_apart_from_c c =
+pub add_mutual-requires-clause-right_apart_from_given : goal.add_mutual-requires-clause-right_apart_from_given
+add_mutual-requires-clause-right_apart_from_given c =
     rw (less_found c.args.set c.args.by.to c.minus-2.result c.minus-2.ensures.rest, c.meet-shared.ensures)
     (less_meet c.args.n c.args.set c.args.by.to c.requires.below c.requires.to_below)
 

@@ -21,16 +21,12 @@ terms-requires-clause-columns c =
       few_generators c.args.problem.now c.facts.ensures,
     )) c.requires.ordered
 
-pub new-row-requires : goal.new-row-requires
-new-row-requires c =
-    terms_canonical (length (columns (generators c.args.problem.now))) c.in_ok-scale.scale c.args.weights.now
-    (scale_is (goal.at.new-row-requires c).In_ok-scale) c.requires.ordered c.in_ok-terms.field-0.items c.in_ok-terms.ensures.value
-    c.in_ok-terms.ensures.fits
-
-pub generator_weights-requires : goal.generator_weights-requires
-generator_weights-requires c =
+pub new-columns-requires : goal.new-columns-requires
+new-columns-requires c =
+    let n = length (columns (generators c.args.problem.now)) in
+    let same = c.as_slice-2.ensures.value ∙ c.in_ok-scaled.ensures.value in
+    let scale = scale_is (goal.at.new-columns-requires c).In_ok-scale in
     record {
-      positive = terms_positive (length (columns (generators c.args.problem.now))) c.in_ok-scale.scale c.args.weights.now
-          (scale_is (goal.at.generator_weights-requires c).In_ok-scale) c.requires.ordered c.new-row.result
-          (c.new-row.ensures ∙ c.in_ok-terms.ensures.value);
+      ascend = terms_canonical n c.in_ok-scale.scale c.args.weights.now scale c.requires.ordered c.as_slice-2.result.now same c.in_ok-scaled.ensures.fits;
+      least = terms_positive n c.in_ok-scale.scale c.args.weights.now scale c.requires.ordered c.as_slice-2.result.now same;
     }

@@ -6,4 +6,4 @@ use Rattle.it_prove.proofs.certificates.generator_weights.Given as goal
 
 abbrev pub invariant-loop-index : goal.invariant-loop-index
 invariant-loop-index l = (l.column ≤ 2 * l.index) × (l.weights.items ++ weights_from l.index l.column (drop l.index (generators l.problem))
-    (coefficient l.row) ≡ weights_from 0 0 (generators l.problem) (coefficient l.row))
+    (coefficient l.columns) ≡ weights_from 0 0 (generators l.problem) (coefficient l.columns))

@@ -1,5 +1,4 @@
 use Rattle.std.proofs.Common.{}
-use Rattle.it_question.specs.Questions.{own_lines_view}
 use Rattle.it_question.proofs.LimitLemmas.{names_limited, lines_limited}
 use Rattle.it_question.proofs.asking.question.Goals as goal
 
@@ -8,4 +7,4 @@ verb-requires-clause-space c = let e = rw c.new-names.ensures at c.in_ok-names_t
     in names_limited c.names_to_end.new.names c.names_line.new.names _ _ _ _ e c.in_ok-names_line.ensures
 
 pub verb-requires-clause-lines : goal.verb-requires-clause-lines
-verb-requires-clause-lines c = lines_limited c.names_line.new.names _ _ (own_lines_view c.in_ok-lines.lines) c.in_ok-lines.ensures
+verb-requires-clause-lines c = lines_limited c.names_line.new.names _ _ c.in_ok-lines.lines c.in_ok-lines.ensures

@@ -10,7 +10,7 @@ use Rattle.it_syntax.specs.Gives.{StopsAs}
 use Rattle.it_question.specs.QuestionLimits.{givens_left, rows_left}
 use Rattle.it_question.specs.Cursors.{letters_left}
 use Rattle.it_question.specs.QuestionForms.{own_words, own_keyword, own_line, more_own_lines}
-use Rattle.it_question.specs.Questions.{OwnLinesView, own_lines_view}
+use Rattle.it_question.specs.OwnLines.{OwnLinesView}
 use Rattle.it_question.specs.ReaderSteps.{own_word}
 use Rattle.it_syntax.proofs.Loops.{after_with_flags, no_limit, loop_goes, loop_stops, loop_flagged, loop_ends, rest_is_shorter}
 use Rattle.it_question.proofs.own.own_lines.Goals as goal
@@ -35,13 +35,13 @@ unfolding more_own_lines
 returns-then-lines_left-eq0 c =
     let g = c.args.most_givens in
     let r = c.args.most_rows in
-    let own = own_lines_view c.loop-is_given.own in
+    let own = c.loop-is_given.own in
     let n = sym c.lines_left.ensures ∙ c.if-lines_left-eq0.true in
     sym c.loop-is_given.invariant ∙ loop_flagged own_words (own_keyword g r) (own_line c.args.names.now) own c.in-Some.is_given Many _ _
     (stands g r own c.in-Some.is_given (Some Many) (letters_left c.loop-is_given.cursor) _ c.in-Some.ensures.found (ap limit_flag n))
 
 pub loop-is_given-smaller : goal.loop-is_given-smaller
-loop-is_given-smaller c = rest_is_shorter own_word (own_line c.args.names.now (own_lines_view c.loop-is_given.own) c.in-Some.is_given) _ _ _
+loop-is_given-smaller c = rest_is_shorter own_word (own_line c.args.names.now c.loop-is_given.own c.in-Some.is_given) _ _ _
     _ _ c.in-Some.ensures.found c.in-Ok.ensures
 
 pub loop-is_given-preserved : goal.loop-is_given-preserved
@@ -49,9 +49,9 @@ unfolding more_own_lines
 loop-is_given-preserved c =
     let g = c.args.most_givens in
     let r = c.args.most_rows in
-    let own = own_lines_view c.loop-is_given.own in
+    let own = c.loop-is_given.own in
     let free = no_limit (if c.in-Some.is_given then givens_left g own else rows_left r own) (λ e. c.if-lines_left-eq0.false (c.lines_left.ensures ∙ e)) in
-    loop_goes own_words (own_keyword g r) (own_line c.args.names.now) own (own_lines_view c.own_line.new.own) c.in-Some.is_given _ _ _
+    loop_goes own_words (own_keyword g r) (own_line c.args.names.now) own c.own_line.new.own c.in-Some.is_given _ _ _
     (stands g r own c.in-Some.is_given None (letters_left c.loop-is_given.cursor) _ c.in-Some.ensures.found free) c.in-Ok.ensures
     ∙ c.loop-is_given.invariant
 
@@ -60,7 +60,7 @@ unfolding more_own_lines
 returns-in-Err c =
     let g = c.args.most_givens in
     let r = c.args.most_rows in
-    let own = own_lines_view c.loop-is_given.own in
+    let own = c.loop-is_given.own in
     let free = no_limit (if c.in-Some.is_given then givens_left g own else rows_left r own) (λ e. c.if-lines_left-eq0.false (c.lines_left.ensures ∙ e)) in
     subst (StopsAs c.in-Err.stop (letters_left c.own_line.new.cursor)) c.loop-is_given.invariant
     (loop_stops own_words (own_keyword g r) (own_line c.args.names.now) own c.in-Some.is_given _ _ _ c.in-Err.stop
@@ -69,5 +69,5 @@ returns-in-Err c =
 pub returns : goal.returns
 unfolding more_own_lines
 returns c = sym c.loop-is_given.invariant ∙ loop_ends own_words (own_keyword c.args.most_givens c.args.most_rows)
-    (own_line c.args.names.now) (own_lines_view c.loop-is_given.own) _ (none_stands c.args.most_givens c.args.most_rows
-    (own_lines_view c.loop-is_given.own) (letters_left c.loop-is_given.cursor) c.in_default.ensures.none)
+    (own_line c.args.names.now) c.loop-is_given.own _ (none_stands c.args.most_givens c.args.most_rows
+    c.loop-is_given.own (letters_left c.loop-is_given.cursor) c.in_default.ensures.none)

@@ -2,29 +2,26 @@ use Rattle.std.proofs.Common.{◌++◌, ap, sym, subst, arith, length, length-ap
 use Rattle.std.specs.Prelude.{All}
 use Rattle.it_space.specs.declared.spaces.Space.{Space}
 use Rattle.it_space.specs.Spaces.{IsSpace}
-use Rattle.std.proofs.lemmas.List.{length-map}
-use Rattle.it_syntax.specs.Givens.{given_view, IsGivenOf, IsRelationOf}
-use Rattle.it_syntax.specs.Meaning.{relation_view}
-use Rattle.it_question.specs.Questions.{own_lines_view, region_view}
+use Rattle.it_syntax.specs.Givens.{IsGivenOf, IsRelationOf}
 use Rattle.it_question.specs.ProblemLines.{lines_with}
 use Rattle.std.proofs.lemmas.List.Elements.{All-append}
 use Rattle.it_question.proofs.TableLemmas.{region_space, region_givens, region_rows, few_variables, lines_problem, space_flag}
 use Rattle.it_question.proofs.tables.containment_is_large.Goals as goal
 
 pub region_constraints-requires-clause-givens : goal.region_constraints-requires-clause-givens
-region_constraints-requires-clause-givens c = subst (λ (s : Space). All (IsGivenOf s.variables) (own_lines_view c.args.lines.now).givens)
+region_constraints-requires-clause-givens c = subst (λ (s : Space). All (IsGivenOf s.variables) c.args.lines.now.givens)
     (sym c.space-space.ensures.counts)
-    (region_givens c.args.names.now (region_view c.args.first.now) (own_lines_view c.args.lines.now).givens c.requires.region c.requires.lines.givens)
+    (region_givens c.args.names.now c.args.first.now c.args.lines.now.givens c.requires.region c.requires.lines.givens)
 
 pub region_constraints-requires-clause-rows : goal.region_constraints-requires-clause-rows
 region_constraints-requires-clause-rows c = subst (λ (s : Space). All (IsRelationOf s.variables s.rates)
-    (own_lines_view c.args.lines.now).rows) (sym c.space-space.ensures.counts)
-    (region_rows c.args.names.now (region_view c.args.first.now) (own_lines_view c.args.lines.now).rows c.requires.region c.requires.lines.rows)
+    c.args.lines.now.rows) (sym c.space-space.ensures.counts)
+    (region_rows c.args.names.now c.args.first.now c.args.lines.now.rows c.requires.region c.requires.lines.rows)
 
 pub is_large-requires : goal.is_large-requires
 is_large-requires c =
-    let own = own_lines_view c.args.lines.now in
-    let first = region_view c.args.first.now in
+    let own = c.args.lines.now in
+    let first = c.args.first.now in
     let same = sym c.space-space.ensures.counts in
     let space = subst IsSpace same (region_space c.args.names.now first c.requires.space c.requires.region) in
     let givens = subst (λ (s : Space). All (IsGivenOf s.variables) (own.givens ++ first.lines.givens)) same
@@ -37,13 +34,13 @@ is_large-requires c =
 
 pub returns-clause-large : goal.returns-clause-large
 returns-clause-large c = space_flag c.space-space.result c.args.first.now.names
-    (lines_with (own_lines_view c.args.lines.now) (region_view c.args.first.now)) c.in_ok-constraints.constraints.items c.in_ok-large.large
+    (lines_with c.args.lines.now c.args.first.now) c.in_ok-constraints.constraints.items c.in_ok-large.large
     c.space-space.ensures.counts c.in_ok-constraints.ensures c.in_ok-large.ensures.large
 
 pub returns-then-space-le-MOST_SMALL-clause-large : goal.returns-then-space-le-MOST_SMALL-clause-large
 returns-then-space-le-MOST_SMALL-clause-large c =
-    let own = own_lines_view c.args.lines.now in
-    let first = region_view c.args.first.now in
+    let own = c.args.lines.now in
+    let first = c.args.first.now in
     let space = region_space c.args.names.now first c.requires.space c.requires.region in
     let givens = region_givens c.args.names.now first own.givens c.requires.region c.requires.lines.givens in
     few_variables first.names (lines_with own first)
@@ -52,16 +49,10 @@ returns-then-space-le-MOST_SMALL-clause-large c =
     (omega (
       arith,
       length-append own.givens first.lines.givens,
-      length-map c.args.lines.now.givens.items given_view,
-      length-map
-          c.args.first.now.lines.givens.items given_view,
       c.requires.few_givens,
     ))
     (omega (
       arith,
       length-append own.rows first.lines.rows,
-      length-map c.args.lines.now.rows.items relation_view,
-      length-map
-          c.args.first.now.lines.rows.items relation_view,
       c.requires.few_rows,
     ))

@@ -1,8 +1,6 @@
 use Rattle.std.proofs.Common.{List, map, flat_map, subst}
-use Rattle.it_syntax.specs.declared.types.Given.{Given}
-use Rattle.it_syntax.specs.declared.types.Relation.{Relation}
-use Rattle.it_syntax.specs.Givens.{given_view}
-use Rattle.it_syntax.specs.Meaning.{relation_view}
+use Rattle.it_syntax.specs.Givens.{GivenView}
+use Rattle.it_syntax.specs.Meaning.{RelationView}
 use Rattle.it_demand.specs.Demands.{demand_of, demands}
 use Rattle.it_demand.specs.Origins.{AreStated, given_origins, row_origins}
 use Rattle.it_demand.proofs.GeneratorLemmas.{stated-append}
@@ -11,14 +9,11 @@ use Rattle.it_question.proofs.tables.line_constraints.Goals as goal
 pub returns : goal.returns
 returns c =
     let n = c.args.space.variables in
-    let givens = c.args.lines.now.givens.items in
-    let rows = c.args.lines.now.rows.items in
-    stated-append c.args.space (given_origins n 1 (map given_view givens)) (row_origins 1 (map relation_view rows))
-    (flat_map (demands n) (map given_view givens)) (map (demand_of n) (map relation_view rows)) c.in_ok-constraints.constraints.items
-    c.in_ok-others.others.items c.append.new.self.items
-    (subst (λ (gs : List Given). AreStated c.args.space (given_origins n 1 (map given_view gs))
-    (flat_map (demands n) (map given_view gs)) c.in_ok-constraints.constraints.items) c.as_slice.ensures.value
-    c.in_ok-constraints.ensures)
-    (subst (λ (rs : List Relation). AreStated c.args.space (row_origins 1 (map relation_view rs))
-    (map (demand_of n) (map relation_view rs)) c.in_ok-others.others.items) c.as_slice-2.ensures.value c.in_ok-others.ensures)
+    let own = c.args.lines.now in
+    stated-append c.args.space (given_origins n 1 own.givens) (row_origins 1 own.rows) (flat_map (demands n) own.givens)
+    (map (demand_of n) own.rows) c.in_ok-constraints.constraints.items c.in_ok-others.others.items c.append.new.self.items
+    (subst (λ (gs : List GivenView). AreStated c.args.space (given_origins n 1 gs) (flat_map (demands n) gs)
+    c.in_ok-constraints.constraints.items) c.givens.ensures.value c.in_ok-constraints.ensures)
+    (subst (λ (rs : List RelationView). AreStated c.args.space (row_origins 1 rs) (map (demand_of n) rs)
+    c.in_ok-others.others.items) c.rows.ensures.value c.in_ok-others.ensures)
     c.in_ok-append.ensures.items

@@ -3,13 +3,12 @@ use Rattle.std.specs.Prelude.{All}
 use Rattle.it_space.specs.declared.spaces.Space.{Space}
 use Rattle.it_space.specs.Spaces.{IsSpace}
 use Rattle.it_syntax.specs.Givens.{IsGivenOf}
-use Rattle.it_question.specs.Questions.{own_lines_view}
 use Rattle.it_question.proofs.TableLemmas.{few_variables, lines_problem, space_flag}
 use Rattle.it_question.proofs.tables.proof_is_large.Goals as goal
 
 pub is_large-requires : goal.is_large-requires
 is_large-requires c =
-    let own = own_lines_view c.args.lines.now in
+    let own = c.args.lines.now in
     let same = sym c.space-space.ensures.counts in
     lines_problem c.space-space.result own c.in_ok-constraints.constraints.items (subst IsSpace same c.requires.space)
     (subst (λ (s : Space). All (IsGivenOf s.variables) own.givens) same c.requires.lines.givens)
@@ -17,11 +16,11 @@ is_large-requires c =
 
 pub returns-clause-large : goal.returns-clause-large
 returns-clause-large c = space_flag c.space-space.result c.args.names.now
-    (own_lines_view c.args.lines.now) c.in_ok-constraints.constraints.items c.in_ok-large.large c.space-space.ensures.counts
+    c.args.lines.now c.in_ok-constraints.constraints.items c.in_ok-large.large c.space-space.ensures.counts
     c.in_ok-constraints.ensures c.in_ok-large.ensures.large
 
 pub returns-then-space-le-MOST_SMALL-clause-large : goal.returns-then-space-le-MOST_SMALL-clause-large
 returns-then-space-le-MOST_SMALL-clause-large c =
-    few_variables c.args.names.now (own_lines_view c.args.lines.now)
+    few_variables c.args.names.now c.args.lines.now
     (omega (arith, ap (λ (s : Space). s.variables) c.space-space.ensures.counts, c.if-space-le-MOST_SMALL.true))
     c.requires.space.few_rates c.requires.lines.givens c.requires.lines.few_givens c.requires.lines.few_rows

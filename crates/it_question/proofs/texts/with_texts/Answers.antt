@@ -12,6 +12,10 @@ pub question_line_count-requires : goal.question_line_count-requires
 question_line_count-requires c = next_is IsLimited (into_iter_items c.loop-body.left)
     (into_iter_items c.next.new.self) c.in-Some.body c.loop-body.invariant.0 c.in-Some.ensures.items
 
+pub with_source-requires : goal.with_source-requires
+with_source-requires c = next_is IsLimited (into_iter_items c.loop-body.left)
+    (into_iter_items c.next.new.self) c.in-Some.body c.loop-body.invariant.0 c.in-Some.ensures.items
+
 pub loop-body-preserved : goal.loop-body-preserved
 loop-body-preserved c = (
   others_are IsLimited (into_iter_items c.loop-body.left) (into_iter_items c.next.new.self) c.in-Some.body c.loop-body.invariant.0 c.in-Some.ensures.items,

@@ -8,7 +8,8 @@ use Rattle.it_redundant.proofs.reduction.reduced_rows.Given as goal
 
 abbrev pub invariant-loop-i : goal.invariant-loop-i
 invariant-loop-i l = record {
-  under_way : IsUnderWay l.givens l.effort (size_of l.givens.space) l.rows (kept_view l.reduced) (dropped_view l.reduced) l.i;
-  closed : IsClosedProblem l.givens l.closed;
-  problem : l.problem ≡ with_rows l.givens (map (λ k. k.0) l.reduced.kept.items ++ drop l.i l.rows);
+  under_way : IsUnderWay l.reduction.givens.now l.reduction.effort
+      (size_of l.reduction.givens.now.space) l.rows (kept_view l.reduced) (dropped_view l.reduced) l.i;
+  closed : IsClosedProblem l.reduction.givens.now l.closed;
+  problem : l.problem ≡ with_rows l.reduction.givens.now (map (λ k. k.0) l.reduced.kept.items ++ drop l.i l.rows);
 }

@@ -13,13 +13,13 @@ loop-term-preserved c =
     let t : ℕ × ℤ = get_or items i (0, pos 0) in
     let below : i < length items = c.loop-term-test.true in
     let same : items ≡ c.args.row.now = c.terms-term-items.ensures.value in
-    goes_on (pair_coordinate c.args.pair.now c.args.sets.now) c.args.turned c.args.row.now
+    goes_on (pair_coordinate c.args.pair.now c.args.sets.now) c.args.negated c.args.row.now
     (size_of c.args.pair.now.first.space) c.loop-term.sums c.add_term.new.sums i t
     (omega (arith, below, ap length same)) (get_or_default items i (0, pos 0) t below ∙ ap (λ (ts : Terms). get_or ts i t) same)
     c.add_term.ensures c.loop-term.invariant
 
 pub returns : goal.returns
-returns c = row_at_end c.args.pair.now.first.space (pair_coordinate c.args.pair.now c.args.sets.now) c.args.turned c.args.row.now
+returns c = row_at_end c.args.pair.now.first.space (pair_coordinate c.args.pair.now c.args.sets.now) c.args.negated c.args.row.now
     c.loop-term.sums c.loop-term.term-index c.into_row.result
     (omega (arith, c.loop-term-test.false, ap length c.terms-term-items.ensures.value)) c.loop-term.invariant c.into_row.ensures.same
     c.into_row.ensures.coordinates c.into_row.ensures.canonical

@@ -3,7 +3,6 @@ use Rattle.it_space.specs.declared.spaces.Space.{Space}
 use Rattle.it_space.specs.Spaces.{size_of}
 use Rattle.it_check.specs.declared.verdicts.Verdict.TheVariants.{Valid}
 use Rattle.it_spans.specs.Spans.{StepView, step_views}
-use Rattle.it_question.specs.Questions.{question_body}
 use Rattle.it_canon.proofs.PosesLemmas.{one_problem}
 use Rattle.it_rates.specs.Asked.{under_all_lines}
 use Rattle.it_certificate.specs.Bounds.{bounds_view}
@@ -23,18 +22,19 @@ parts_verdict-verdict-requires-clause-rays c =
 
 pub returns-then-not-is_valid : goal.returns-then-not-is_valid
 returns-then-not-is_valid c =
-    let q = question_body c.args.question.now in
+    let q = c.args.question.now.body in
     let b = bounds_view c.args.bounds.now in
     let p = c.in_ok-problem.problem in
     let v = c.parts_verdict-verdict.result in
     let invalid : is_valid v ≡ false = search rules in
     let verdict : bounds_verdict q b ≡ v = sym (c.parts_verdict-verdict.ensures.verdict
     ∙ ap (λ x. parts_verdict x b) (one_problem (under_all_lines q) p c.in_ok-problem.ensures)) in
-    bounds_told (λ j. j.text.items) (λ j. j.invalid) c.args.k q b (Judged q.names v) c.verdict_line.result (refl, verdict, invalid) c.verdict_line.ensures
+    bounds_told (λ j. j.text.items) (λ j. j.invalid) c.args.k q b (Judged q.names v) c.verdict_line.result (refl, verdict, invalid)
+    (rw c.names.ensures.value at c.verdict_line.ensures)
 
 pub returns : goal.returns
 returns c =
-    let q = question_body c.args.question.now in
+    let q = c.args.question.now.body in
     let b = bounds_view c.args.bounds.now in
     let p = c.in_ok-problem.problem in
     let v = c.parts_verdict-verdict.result in

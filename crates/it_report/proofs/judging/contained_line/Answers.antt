@@ -1,29 +1,30 @@
 use Rattle.std.proofs.Common.{◌≡◌, map, rules, sym, ap, subst, Some}
 use Rattle.it_space.specs.Answers.{certificate_view}
 use Rattle.it_space.specs.Answers.AnswerView.{Contained}
-use Rattle.it_question.specs.Questions.{question_body}
 use Rattle.it_report.specs.Judging.{answer_verdict}
 use Rattle.it_report.proofs.JudgingLemmas.{verdict_is_told, has_verdict, contained_is_about_regions, few_parts, pair_problem, candidate_fits, obligation_rows_are}
 use Rattle.it_report.proofs.judging.contained_line.Goals as goal
 
-pub pair-requires-clause-contains : goal.pair-requires-clause-contains
-pair-requires-clause-contains c = contained_is_about_regions (question_body c.args.question.now) c.args.parts.now
-    (map certificate_view c.args.proofs.now) c.requires.fits
+pub pair-requires : goal.pair-requires
+pair-requires c = record {
+  contains = contained_is_about_regions c.args.question.now.body c.args.parts.now
+      (map certificate_view c.args.proofs.now) c.requires.fits;
+}
 
 pub candidate-requires : goal.candidate-requires
 candidate-requires c =
-    few_parts (question_body c.args.question.now) c.in_ok-pair.pair c.args.parts.now
+    few_parts c.args.question.now.body c.in_ok-pair.pair c.args.parts.now
     (map certificate_view c.args.proofs.now) c.in_ok-pair.ensures.limits c.in_ok-pair.ensures.pair c.requires.fits
 
 pub obligations-requires-clause-fits : goal.obligations-requires-clause-fits
 obligations-requires-clause-fits c =
-    candidate_fits (question_body c.args.question.now) c.in_ok-pair.pair c.args.parts.now
+    candidate_fits c.args.question.now.body c.in_ok-pair.pair c.args.parts.now
     (map certificate_view c.args.proofs.now) c.in_ok-pair.ensures.limits c.in_ok-pair.ensures.pair c.requires.fits
     c.candidate.result (search rules) c.candidate.ensures.count c.candidate.ensures.parts
 
 pub returns : goal.returns
 returns c =
-    let q = question_body c.args.question.now in
+    let q = c.args.question.now.body in
     let pair = c.in_ok-pair.pair in
     let p = pair.first in
     let ws = map certificate_view c.args.proofs.now in
@@ -38,5 +39,5 @@ returns c =
     let are = obligation_rows_are q pair parts ws limits pairs fits c.candidate.result c.in_ok-rows.rows.items c.candidate.ensures.parts
     c.in_ok-rows.ensures.rows in
     verdict_is_told (λ j. j.text.items) (λ j. j.invalid) c.args.k q a c.problem_names.result.now v c.verdict_line.result
-    (has_verdict q p (pair_problem q pair parts ws limits pairs fits) a c.in_ok-rows.rows.items c.problem_names.result.now v are c.problem_names.ensures e)
+    (has_verdict q p (pair_problem q pair parts ws limits pairs fits) a c.in_ok-rows.rows.items c.problem_names.result.now v are c.problem_names.ensures.value e)
     c.verdict_line.ensures

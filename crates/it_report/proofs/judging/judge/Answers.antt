@@ -1,10 +1,11 @@
-use Rattle.it_report.proofs.JudgingLemmas.{fault_is_judged, report_is_judged}
+use Rattle.std.proofs.Common.{Ok, Err}
+use Rattle.it_report.proofs.JudgingLemmas.{judged_as_read}
 use Rattle.it_report.proofs.judging.judge.Goals as goal
 
 pub returns-in-Ok : goal.returns-in-Ok
-returns-in-Ok c = report_is_judged (λ j. j.text.items) (λ j. j.invalid) c.args.k c.args.line.now c.in-Ok.reported c.report_line.result
-    c.in-Ok.ensures.reading c.report_line.ensures
+returns-in-Ok c = judged_as_read (λ j. j.text.items) (λ j. j.invalid) c.args.k c.args.line.now (Ok c.in-Ok.reported) c.judge_reported.result
+    c.in-Ok.ensures.reading c.judge_reported.ensures
 
 pub returns-in-Err : goal.returns-in-Err
-returns-in-Err c = fault_is_judged (λ j. j.text.items) (λ j. j.invalid) c.args.k c.args.line.now c.in-Err.fault c.fault_line.result
-    c.in-Err.ensures.reading c.fault_line.ensures
+returns-in-Err c = judged_as_read (λ j. j.text.items) (λ j. j.invalid) c.args.k c.args.line.now (Err c.in-Err.fault) c.judge_fault.result
+    c.in-Err.ensures.reading c.judge_fault.ensures.line

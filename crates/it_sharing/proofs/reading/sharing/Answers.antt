@@ -36,9 +36,6 @@ returns-in-Ok-clause-read c =
     (letters_left c.whole.new.cursor) c.in_ok-lines.ensures (items_are_read _ _ _ _ c.at-cursor.ensures c.as_slice.ensures.value
     c.in-Ok.ensures)
 
-pub returns-in-Ok-clause-limits : goal.returns-in-Ok-clause-limits
-returns-in-Ok-clause-limits c = (sharing_limited _ (letters_left c.whole.new.cursor) _ c.in-Ok.ensures).0
-
 pub returns-in-Ok-clause-bound : goal.returns-in-Ok-clause-bound
 returns-in-Ok-clause-bound c = (sharing_limited _ (letters_left c.whole.new.cursor) _ c.in-Ok.ensures).1
 

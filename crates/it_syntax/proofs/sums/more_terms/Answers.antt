@@ -4,8 +4,7 @@ use Rattle.it_forms.specs.Forms.{is_of, Punctuation}
 use Rattle.it_forms.specs.declared.types.Symbol.TheVariants.{Minus}
 use Rattle.it_syntax.specs.LineForms.{signs, term, more_terms}
 use Rattle.it_syntax.specs.Meaning.{multiple_from}
-use Rattle.it_syntax.specs.ReaderSteps.{sign}
-use Rattle.it_syntax.specs.Scopes.{scope_of}
+use Rattle.it_syntax.specs.ReaderSteps.{known_scope, sign}
 use Rattle.it_syntax.proofs.Loops.{each_goes, each_stops, each_ends, rest_is_shorter}
 use Rattle.it_syntax.proofs.MultipleLemmas.{one_more_multiple}
 use Rattle.it_syntax.proofs.sums.more_terms.Goals as goal
@@ -19,7 +18,7 @@ loop-negative-smaller c = rest_is_shorter sign _ _ _ _ _ _ c.in-Some.ensures c.i
 pub loop-negative-preserved : goal.loop-negative-preserved
 unfolding more_terms
 loop-negative-preserved c =
-    let s = scope_of c.args.names.now c.args.rates in
+    let s = known_scope c.args.known.now in
     let found = c.loop-negative.found.items in
     let left : c.saturating_sub-left.result ≡ c.args.most - length found = omega (arith, c.saturating_sub-left.ensures, c.len.ensures) in
     let both = c.in-Ok.ensures.multiple in
@@ -36,7 +35,7 @@ loop-negative-preserved c =
 pub returns-in-Err-clause-read : goal.returns-in-Err-clause-read
 unfolding more_terms
 returns-in-Err-clause-read c = λ m e.
-    let s = scope_of c.args.names.now c.args.rates in
+    let s = known_scope c.args.known.now in
     let found = c.loop-negative.found.items in
     let left : c.saturating_sub-left.result ≡ c.args.most - length found = omega (arith, c.saturating_sub-left.ensures, c.len.ensures) in
     each_stops signs (λ ts l. (None, is_of (Punctuation Minus) l)) (λ ts minus. allowed (c.args.most - length ts)
@@ -46,7 +45,7 @@ returns-in-Err-clause-read c = λ m e.
 pub returns-clause-read : goal.returns-clause-read
 unfolding more_terms
 returns-clause-read c = λ m e.
-    let s = scope_of c.args.names.now c.args.rates in
+    let s = known_scope c.args.known.now in
     rw c.in_default.ensures.1 (each_ends signs (λ ts l. (None, is_of (Punctuation Minus) l))
     (λ ts minus. allowed (c.args.most - length ts) (term (multiple_from m ts) s minus))
     (λ ts t. ts ++ t ∷ []) c.loop-negative.found.items _ _ c.in_default.ensures.0 (c.loop-negative.invariant.1 m e).0)

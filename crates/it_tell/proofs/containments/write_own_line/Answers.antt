@@ -2,7 +2,6 @@ use Rattle.std.proofs.Common.{◌++◌, ◌∙◌, List, [], ap, map, subst, sym
 use Rattle.it_space.specs.Answers.{certificate_view}
 use Rattle.it_space.specs.Rows.{value}
 use Rattle.it_question.specs.ProblemLines.{problem_names}
-use Rattle.it_question.specs.Questions.{question_body}
 use Rattle.it_tell.specs.OwnLines.{own_line_comment}
 use Rattle.it_tell.specs.Steps.{AppendsOwnProofs, SaysOrNothing}
 use Rattle.it_tell.specs.Tellings.{indented_line}
@@ -11,11 +10,11 @@ use Rattle.it_tell.proofs.containments.write_own_line.Goals as goal
 
 pub returns : goal.returns
 returns c =
-    let q = question_body c.args.asked.now.question.now in
+    let q = c.args.asked.now.question.now.body in
     let options = c.args.asked.now.options in
     let parts = c.args.asked.now.parts.now in
-    let rows = c.args.rows.now in
-    let ws = map certificate_view c.args.proofs.now in
+    let rows = c.args.owed.now.rows.now in
+    let ws = map certificate_view c.args.owed.now.proofs.now in
     let relation = c.as_slice-relation.result.now in
     let below = c.as_slice-below.result.now in
     let old = c.args.out.now.items in

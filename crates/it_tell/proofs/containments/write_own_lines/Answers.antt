@@ -8,7 +8,6 @@ use Rattle.it_space.specs.Rows.{IsOver}
 use Rattle.it_space.specs.Spaces.{size_of}
 use Rattle.it_polymatroid.specs.Elementals.{elementals}
 use Rattle.it_canon.specs.TrueLines.{variable_count}
-use Rattle.it_question.specs.Questions.{question_body}
 use Rattle.it_tell.specs.Steps.{AppendsEachOwnLine, HasObligations}
 use Rattle.it_tell.proofs.OwnLineLemmas.{lines_after, no_line, obligations_go_on}
 use Rattle.it_tell.proofs.containments.write_own_lines.Goals as goal
@@ -31,7 +30,7 @@ split_at-requires-in-loop-constraint c =
 
 pub write_own_line-requires-clause-there : goal.write_own_line-requires-clause-there
 write_own_line-requires-clause-there c =
-    let q = question_body c.args.asked.now.question.now in
+    let q = c.args.asked.now.question.now.body in
     rw c.split_at-in-loop-constraint.ensures.front
     (All-take (λ (w : Certificate). All (λ x. x.0 < length (elementals (variable_count q)) + length c.args.asked.now.constraints.now)
     w.weights.items) c.obliged-count.result c.loop-constraint.proofs_left.now c.loop-constraint.invariant.there)
@@ -42,7 +41,7 @@ write_own_line-requires-clause-over c = rw c.split_at.ensures.front (All-take
 
 pub loop-constraint-preserved : goal.loop-constraint-preserved
 loop-constraint-preserved c =
-    let q = question_body c.args.asked.now.question.now in
+    let q = c.args.asked.now.question.now.body in
     let asked = c.args.asked.now in
     let own = c.args.own.now in
     let i = c.loop-constraint.constraint-index in
@@ -69,7 +68,7 @@ loop-constraint-preserved c =
 
 pub returns : goal.returns
 returns c =
-    let q = question_body c.args.asked.now.question.now in
+    let q = c.args.asked.now.question.now.body in
     let asked = c.args.asked.now in
     c.loop-constraint.invariant.goes_on c.loop-constraint.out.items
     (subst (λ (cs : List Constraint). AppendsEachOwnLine q asked.options asked.parts.now cs c.loop-constraint.rows_left.now

@@ -1,5 +1,4 @@
 use Rattle.std.proofs.lemmas.Result.{on_ok_weaker}
-use Rattle.it_question.specs.Questions.{question_body}
 use Rattle.it_tell.proofs.DetailLemmas.{open_details, point_details, region_details, undecided_details}
 use Rattle.it_tell.proofs.details.write_details.Goals as goal
 
@@ -8,12 +7,12 @@ returns-in-Yes c = rw c.in-Yes.is (rw c.as_slice.ensures.value at c.write_relati
 
 pub returns-in-No : goal.returns-in-No
 returns-in-No c = rw c.in-No.is (on_ok_weaker c.write_point.result (point_details
-    (question_body c.args.question.now) c.args.options c.in-No.back c.in-No.point c.args.out.now.items c.write_point.new.out.items)
+    c.args.question.now.body c.args.options c.in-No.back c.in-No.point c.args.out.now.items c.write_point.new.out.items)
     c.write_point.ensures)
 
 pub returns-in-Region : goal.returns-in-Region
 returns-in-Region c = rw c.in-Region.is (on_ok_weaker c.write_rows.result
-    (region_details (question_body c.args.question.now) c.args.options c.in-Region.rows.items c.args.out.now.items
+    (region_details c.args.question.now.body c.args.options c.in-Region.rows.items c.args.out.now.items
     c.write_rows.new.out.items) (rw c.as_slice-in-Region.ensures.value at c.write_rows.ensures))
 
 pub returns-in-Contained : goal.returns-in-Contained
@@ -21,7 +20,7 @@ returns-in-Contained c = rw c.in-Contained.is (rw c.as_slice-in-Contained-2.ensu
     (rw c.as_slice-in-Contained.ensures.value at c.write_contained.ensures))
 
 pub returns-in-Undecided : goal.returns-in-Undecided
-returns-in-Undecided c = rw c.in-Undecided.is (undecided_details (question_body c.args.question.now) c.args.options _ c.args.out.now.items)
+returns-in-Undecided c = rw c.in-Undecided.is (undecided_details c.args.question.now.body c.args.options _ c.args.out.now.items)
 
 pub returns-in-Open : goal.returns-in-Open
-returns-in-Open c = rw c.in-Open.is (open_details (question_body c.args.question.now) c.args.options _ c.args.out.now.items)
+returns-in-Open c = rw c.in-Open.is (open_details c.args.question.now.body c.args.options _ c.args.out.now.items)

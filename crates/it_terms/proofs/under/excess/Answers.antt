@@ -17,7 +17,7 @@ new-requires c =
     let places = c.size.result + 1 in
     let cs = c.args.constraints.now in
     let ws = c.args.weights.now in
-    (row_of_all c.args.space (relation_view c.args.relation.now) c.args.turned cs ws c.in_ok-difference.difference
+    (row_of_all c.args.space (relation_view c.args.relation.now) c.args.negated cs ws c.in_ok-difference.difference
     c.in_ok-terms-in-Ok.field-0.items places c.in_ok-sums.sums c.add_both.new.sums
     (ap (λ n. n + 1) c.size.ensures) c.in_ok-difference.ensures c.in_ok-sums.ensures
     (subst (λ (t : Terms). IsPlus c.in_ok-sums.sums c.add_both.new.sums (λ p. value t p +ℤ combination ws (constraint_value cs p)))
@@ -29,8 +29,8 @@ returns-in-Ok c =
     let places = c.size.result + 1 in
     let cs = c.args.constraints.now in
     let ws = c.args.weights.now in
-    subst (IsExcess c.args.space (relation_view c.args.relation.now) c.args.turned cs ws) (sym c.new.ensures)
-    (row_of_all c.args.space (relation_view c.args.relation.now) c.args.turned cs ws c.in_ok-difference.difference
+    subst (IsExcess c.args.space (relation_view c.args.relation.now) c.args.negated cs ws) (sym c.new.ensures)
+    (row_of_all c.args.space (relation_view c.args.relation.now) c.args.negated cs ws c.in_ok-difference.difference
     c.in_ok-terms-in-Ok.field-0.items places c.in_ok-sums.sums c.add_both.new.sums
     (ap (λ n. n + 1) c.size.ensures) c.in_ok-difference.ensures c.in_ok-sums.ensures
     (subst (λ (t : Terms). IsPlus c.in_ok-sums.sums c.add_both.new.sums (λ p. value t p +ℤ combination ws (constraint_value cs p)))

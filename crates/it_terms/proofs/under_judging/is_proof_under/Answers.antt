@@ -14,19 +14,19 @@ use Rattle.it_terms.proofs.under_judging.is_proof_under.Goals as goal
 
 pub returns : goal.returns
 returns c =
-    let s : Space = c.args.problem.now.space in
-    let cs : List Constraint = c.args.problem.now.constraints in
+    let s : Space = c.args.said.now.problem.now.space in
+    let cs : List Constraint = c.args.said.now.problem.now.constraints in
     let r = relation_view c.args.relation.now in
     let named = c.args.sides.now.named.items in
-    let ds = c.args.functions.now.list in
+    let ds = c.args.said.now.functions.now.list in
     let row = c.in-Some.row in
     let all = c.constraints-constraints.ensures.value in
     let weights = c.as_slice-named.ensures.value in
     let space = c.space-space.ensures.value in
     let whole = c.if-not-is_whole_equation.ensures in
-    OnTrue_from c.in_ok-is_nothing.is_nothing (IsProofUnder s.variables c.args.lines.now r named (value c.args.target.now)
+    OnTrue_from c.in_ok-is_nothing.is_nothing (IsProofUnder s.variables c.args.said.now.lines.now r named (value c.args.target.now)
     (forms_of (map of_constraint cs))) (λ e.
-    proof_by_excess s c.args.lines.now r named c.args.target.now cs ds row whole.0 whole.1
+    proof_by_excess s c.args.said.now.lines.now r named c.args.target.now cs ds row whole.0 whole.1
     (subst₂ (λ (xs : List Constraint) (z : Space). IsProofFrom z.variables r c.args.target.now xs) all space
     (OnTrue_at c.if-not-is_split.false c.in_ok-is_split.ensures))
     (subst₂ (λ (xs : List Constraint) (ws : List (ℕ × ℤ)). All (IsAllowed (forms_of (map of_constraint xs))) ws) all weights c.if-not-are_allowed.ensures)

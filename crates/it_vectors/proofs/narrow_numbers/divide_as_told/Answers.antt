@@ -8,17 +8,15 @@ pub loop-j-preserved : goal.loop-j-preserved
 loop-j-preserved c =
     let l : c.loop-j.j < length c.loop-j.row = search rules in
     let fr : FitsSigned w32 c.read.result = search rules in
-    let fk : FitsSigned w32 c.args.k = c.ranges.k in
-    let fi : FitsSigned w32 c.args.inverse = c.ranges.inverse in
+    let fi : FitsSigned w32 c.args.by.now.inverse = search rules in
     let f : FitsSigned w32 c.likely_quotient.result = search rules in
     let q = simp to_z-of_z at c.likely_quotient.ensures in
-    let told = c.requires.told in
-    let done = simp to_z-of_z at c.loop-j.invariant.done in
     let here : c.read.result ≡ number_at c.args.row.now c.loop-j.j = c.read.ensures ∙ c.loop-j.invariant.rest c.loop-j.j (omega arith) in
-    rw (to_z-of_z f) (rw (to_z-of_z fk) record {
+    rw (to_z-of_z f) record {
       same_length = search rules;
-      done = set_done c.loop-j.row c.loop-j.j c.likely_quotient.result (λ j z. z *ℤ c.args.k ≡ number_at c.args.row.now j) l done
-          (ap (λ (z : ℤ). z *ℤ c.args.k) (q ∙ ap (likely_quotient_of c.args.shift c.args.inverse) here)
-          ∙ told c.loop-j.j (omega (arith, l, c.loop-j.invariant.same_length)));
+      done = set_done c.loop-j.row c.loop-j.j c.likely_quotient.result (λ j z. z *ℤ c.args.by.now.value ≡ number_at c.args.row.now j) l
+          c.loop-j.invariant.done
+          (ap (λ (z : ℤ). z *ℤ c.args.by.now.value) (q ∙ ap (likely_quotient_of c.args.by.now.shift c.args.by.now.inverse) here)
+          ∙ c.requires.told c.loop-j.j (omega (arith, l, c.loop-j.invariant.same_length)));
       rest = set_rest c.loop-j.row c.args.row.now c.loop-j.j c.likely_quotient.result c.loop-j.invariant.rest;
-    })
+    }

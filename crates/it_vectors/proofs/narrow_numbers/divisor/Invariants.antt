@@ -5,7 +5,7 @@ use Rattle.it_vectors.proofs.narrow_numbers.divisor.Given as goal
 abbrev pub invariant-loop-from : goal.invariant-loop-from
 invariant-loop-from l = record {
   within : l.from ≤ length l.row;
-  divides : DividesUpTo l.shared.value l.bottom l.row l.from;
+  divides : DividesUpTo l.shared.value l.denominator l.row l.from;
 }
 
 abbrev pub decreases-loop-from : goal.decreases-loop-from

@@ -4,7 +4,7 @@ use Rattle.it_engine.proofs.engine.Engine.run_within.Given as goal
 
 abbrev pub invariant-loop-k : goal.invariant-loop-k
 invariant-loop-k l = record {
-  under_way : IsRunUnderWay l.columns l.limit l.fn.self.rows l.fn.self.basis l.budget l.self.rows l.self.basis l.k;
+  under_way : IsRunUnderWay l.run.columns.now l.run.limit l.fn.self.rows l.fn.self.basis l.budget l.self.rows l.self.basis l.k;
   within : l.k ≤ l.budget;
 }
 

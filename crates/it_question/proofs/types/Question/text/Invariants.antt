@@ -4,4 +4,4 @@ use Rattle.it_question.proofs.types.Question.text.Given as goal
 
 abbrev pub invariant-loop-line : goal.invariant-loop-line
 invariant-loop-line l = l.text.items ++ text_of_lines (map (λ v. v.items) (drop l.line-index l.line-items))
-    ≡ text_of_lines (map (λ v. v.items) l.self.source.items)
+    ≡ l.self.text

@@ -21,11 +21,11 @@ loop-k-preserved c =
     number_fits z l e h k = let m : unsigned_abs z < 2 ^ 31 = omega (arith, e, h, k) in search (rules, m)
 
 pub returns-clause-row : goal.returns-clause-row
-returns-clause-row c = ap (λ (xs : List ℤ). row xs c.args.bottom) (c.loop-k.invariant.same
+returns-clause-row c = ap (λ (xs : List ℤ). row xs c.args.denominator) (c.loop-k.invariant.same
     ∙ take_all c.loop-k.k c.args.numbers.now (omega (arith, c.loop-k-test.false, c.loop-k.auto.k-end)))
   where
     row : List ℤ → ℕ → WholeRowView
-    row numbers bottom = record { numbers = numbers; bottom = bottom }
+    row numbers denominator = record { numbers = numbers; denominator = denominator }
 
 pub returns-clause-small : goal.returns-clause-small
 returns-clause-small c = λ k l. c.loop-k.invariant.small k (omega (arith, l, c.loop-k-test.false, c.loop-k.auto.k-end))

@@ -6,4 +6,5 @@ pub returns-then-is_zero-clause-updated : goal.returns-then-is_zero-clause-updat
 returns-then-is_zero-clause-updated c =
     let f : FitsSigned w64 c.args.entry = c.ranges.entry in
     let z : c.args.entry ≡ pos 0 = simp to_z-of_z at c.if-is_zero.ensures.yes in
-    kept_updated (length c.args.own.now.numbers) c.args.limit c.args.self.now c.args.own.now c.args.entry c.args.pivot c.requires.row z
+    kept_updated (length c.args.leaving.now.row.now.numbers) c.args.limit c.args.self.now c.args.leaving.now.row.now c.args.entry
+    c.args.leaving.now.entry c.requires.row z

@@ -14,8 +14,7 @@ use Rattle.it_whole.proofs.wide_rows.WideRow.reduce.Goals.{In-Some-combine}
 -- the numbers that come back are those of the row
 numbers_are_written : (c : In-Some-combine) → (with_items c.self.inside.numbers c.combine.new.row).items ≡ c.combine.new.row
 numbers_are_written c = with_items_is c.self.inside.numbers c.combine.new.row
-    (c.in-Some-combine.ensures.combined.length_is ∙ ap length c.as_slice.ensures.value
-    ∙ ap (λ (r : WholeRowView). length r.numbers) c.own.view_is
+    (c.in-Some-combine.ensures.combined.length_is ∙ ap length c.as_subtrahend-by.ensures
     ∙ sym c.requires.row.length_is ∙ ap (λ (r : WholeRowView). length r.numbers) (sym c.self.view_is) ∙ sym c.self.inside.numbers.ok.0)
 
 pub returns-in-Some-combine-clause-less : goal.returns-in-Some-combine-clause-less
@@ -29,21 +28,19 @@ returns-in-Some-combine-clause-less c =
     let b : c.lowest_terms-a.result.1 ≡ int_quotient c.args.entry (gcd (unsigned_abs c.args.pivot) (unsigned_abs c.args.entry))
     = simp to_z-of_z at c.lowest_terms-a.ensures.entry in
     let u : c.unsigned_abs.result ≡ unsigned_abs c.lowest_terms-a.result.0 = c.unsigned_abs.ensures.value ∙ ap unsigned_abs (to_z-of_z fa) in
-    let combined = simp (to_z-of_z, c.as_slice.ensures.value, c.as_mut_slice.ensures.value) at c.in-Some-combine.ensures.combined in
-    let bottom = c.in-Some.ensures in
-    let v = c.self.view_is in let w = c.own.view_is in
+    let combined = simp (to_z-of_z, c.as_subtrahend-by.ensures, c.as_mut_slice.ensures.value) at c.in-Some-combine.ensures.combined in
+    let denominator = c.in-Some.ensures in
+    let v = c.self.view_is in
     let d = (goal.at.returns-in-Some-combine-clause-less c).In-Some-combine in
     subst (λ (new : List ℤ). IsWholeRowReduced (length c.args.own.now.numbers) c.args.limit c.args.self.now c.args.own.now c.args.entry
-    c.args.pivot record { numbers = new; bottom = c.in-Some.bottom }) (sym (numbers_are_written d))
+    c.args.pivot record { numbers = new; denominator = c.in-Some.denominator }) (sym (numbers_are_written d))
     (less_row (length c.args.own.now.numbers) c.args.limit c.args.self.now c.args.own.now
-    record { numbers = c.combine.new.row; bottom = c.in-Some.bottom } c.args.entry c.args.pivot
+    record { numbers = c.combine.new.row; denominator = c.in-Some.denominator } c.args.entry c.args.pivot
     c.lowest_terms-a.result.0 c.lowest_terms-a.result.1 c.requires.pivot a b
-    (subst (λ (ys : List ℤ). IsCombined (length ys) c.args.limit c.args.self.now.numbers ys c.lowest_terms-a.result.0
-    c.lowest_terms-a.result.1 c.combine.new.row) (ap (λ (r : WholeRowView). r.numbers) w)
-    (subst (λ (xs : List ℤ). IsCombined (length c.own.inside.numbers.items) c.args.limit xs c.own.inside.numbers.items
-    c.lowest_terms-a.result.0 c.lowest_terms-a.result.1 c.combine.new.row) (ap (λ (r : WholeRowView). r.numbers) v) combined))
-    (bottom.1 ∙ ap₂ (λ x y. x * y) (ap (λ (r : WholeRowView). r.bottom) v) u)
-    (subst (λ (k : ℕ). k < 2 ^ 63) (ap₂ (λ x y. x * y) (ap (λ (r : WholeRowView). r.bottom) v) u) bottom.0))
+    (subst (λ (xs : List ℤ). IsCombined (length c.args.own.now.numbers) c.args.limit xs c.args.own.now.numbers
+    c.lowest_terms-a.result.0 c.lowest_terms-a.result.1 c.combine.new.row) (ap (λ (r : WholeRowView). r.numbers) v) combined)
+    (denominator.1 ∙ ap₂ (λ x y. x * y) (ap (λ (r : WholeRowView). r.denominator) v) u)
+    (subst (λ (k : ℕ). k < 2 ^ 63) (ap₂ (λ x y. x * y) (ap (λ (r : WholeRowView). r.denominator) v) u) denominator.0))
 
 pub returns-in-Some-combine-clause-usable : goal.returns-in-Some-combine-clause-usable
 returns-in-Some-combine-clause-usable c =
@@ -53,15 +50,14 @@ returns-in-Some-combine-clause-usable c =
     let a : c.lowest_terms-a.result.0 ≡ int_quotient c.args.pivot (gcd (unsigned_abs c.args.pivot) (unsigned_abs c.args.entry))
     = simp to_z-of_z at c.lowest_terms-a.ensures.pivot in
     let u : c.unsigned_abs.result ≡ unsigned_abs c.lowest_terms-a.result.0 = c.unsigned_abs.ensures.value ∙ ap unsigned_abs (to_z-of_z fa) in
-    let bottom = c.in-Some.ensures in
+    let denominator = c.in-Some.ensures in
     let combined = c.in-Some-combine.ensures.combined in
-    let w = ap (λ (r : WholeRowView). length r.numbers) c.own.view_is in
-    let len : length c.as_slice.result.now ≡ length c.args.own.now.numbers = ap length c.as_slice.ensures.value ∙ w in
+    let len : length c.as_subtrahend-by.result ≡ length c.args.own.now.numbers = ap length c.as_subtrahend-by.ensures in
     let d = (goal.at.returns-in-Some-combine-clause-usable c).In-Some-combine in
-    subst (λ (new : List ℤ). IsUsable (length c.args.own.now.numbers) c.args.limit record { numbers = new; bottom = c.in-Some.bottom })
+    subst (λ (new : List ℤ). IsUsable (length c.args.own.now.numbers) c.args.limit record { numbers = new; denominator = c.in-Some.denominator })
     (sym (numbers_are_written d)) record {
       length_is = combined.length_is ∙ len;
-      some = subst (λ (k : ℕ). 0 < k) (sym (bottom.1 ∙ ap₂ (λ x y. x * y) (ap (λ (r : WholeRowView). r.bottom) c.self.view_is) u))
+      some = subst (λ (k : ℕ). 0 < k) (sym (denominator.1 ∙ ap₂ (λ x y. x * y) (ap (λ (r : WholeRowView). r.denominator) c.self.view_is) u))
           (mul-pos c.requires.row.some (factor_some c.args.pivot c.args.entry c.lowest_terms-a.result.0 c.requires.pivot a));
       small = λ k l. combined.small k (omega (arith, l, len));
     }

@@ -15,14 +15,14 @@ returns c =
     let lent = c.as_mut_slice.ensures.value in
     let written : (with_items c.self.inside.numbers c.divide.new.row).items ≡ c.divide.new.row =
     with_items_is c.self.inside.numbers c.divide.new.row (c.divide.ensures.length ∙ ap length lent ∙ sym c.self.inside.numbers.ok.0) in
-    subst (λ (new : List ℤ). IsShortened c.args.self.now record { numbers = new; bottom = c.size_quotient-self-inside.result }) (sym written)
-    (subst (λ (v : WholeRowView). IsShortened v record { numbers = c.divide.new.row; bottom = c.size_quotient-self-inside.result }) c.self.view_is
-    (subst (λ (old : List ℤ). IsShortened record { numbers = old; bottom = c.self.inside.bottom }
-    record { numbers = c.divide.new.row; bottom = c.size_quotient-self-inside.result }) lent record {
+    subst (λ (new : List ℤ). IsShortened c.args.self.now record { numbers = new; denominator = c.size_quotient-self-inside.result }) (sym written)
+    (subst (λ (v : WholeRowView). IsShortened v record { numbers = c.divide.new.row; denominator = c.size_quotient-self-inside.result }) c.self.view_is
+    (subst (λ (old : List ℤ). IsShortened record { numbers = old; denominator = c.self.inside.denominator }
+    record { numbers = c.divide.new.row; denominator = c.size_quotient-self-inside.result }) lent record {
       shared = c.divisor-shared.result.value;
       some = c.divisor-shared.ensures.numbers.some;
       length_is = c.divide.ensures.length;
       entries = c.divide.ensures.entries;
-      bottom_is = ap (λ b. b * c.divisor-shared.result.value) c.size_quotient-self-inside.ensures
-          ∙ div-mul_cancel c.divisor-shared.result.value c.divisor-shared.ensures.bottom;
+      denominator_is = ap (λ b. b * c.divisor-shared.result.value) c.size_quotient-self-inside.ensures
+          ∙ div-mul_cancel c.divisor-shared.result.value c.divisor-shared.ensures.denominator;
     }))
