@@ -2,7 +2,7 @@
 //! the text that it gives, so no clause says it here.
 ghost use Rattle.std.specs.Prelude.{◌≡◌, ◌+◌, ◌*◌, ◌^◌, ◌≤◌, ◌<◌, length, IfOk, OnOk};
 ghost use Rattle.it_space.specs.Spaces.{IsSpace, most_variables};
-ghost use Rattle.it_demand.specs.Coefficients.{largest};
+ghost use Rattle.it_demand.specs.Coefficients.{mass};
 
 use crate::closed::{ClosedTerm, Closures};
 use crate::finding::{common_multiple, negated, term_of, weights_of};
@@ -95,9 +95,9 @@ fn put(
     times: i128,
 ) -> Result<(), Untold>
     requires complete { length coefficients.old ≡ places }
-    requires small { largest coefficients.old ≤ 2 ^ 100 }
+    requires small { mass coefficients.old ≤ 2 ^ 100 }
     ensures complete { OnOk result (length coefficients.new ≡ places) }
-    ensures small { OnOk result (largest coefficients.new ≤ largest coefficients.old + 2 ^ 64) }
+    ensures small { OnOk result (mass coefficients.new ≤ mass coefficients.old + 2 ^ 64) }
 {
     if coordinate >= places || times.unsigned_abs() > u64::MAX as u128 {
         return Err(Untold::NotFound);
