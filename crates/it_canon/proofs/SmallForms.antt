@@ -109,7 +109,7 @@ mass-coefficients [] first zero = omega arith
 mass-coefficients [] first (suc count) = omega (arith, mass-coefficients [] (first + 1) count)
 mass-coefficients (t ∷ ts) first count =
     let one : mass (map (λ c. value (t ∷ ts) (one_at c)) (span first count)) ≤ unsigned_abs t.1 + mass (map (λ c. value ts (one_at c)) (span first count)) =
-        mass-with_term t (λ c. value ts (one_at c)) first count in
+    mass-with_term t (λ c. value ts (one_at c)) first count in
     omega (arith, one, mass-coefficients ts first count)
 
 module _ (s : Space) (bound : ℕ) (within : bound < 2 ^ 127) (form : Form) (x : IsFormUpTo (size_of s) bound form) where

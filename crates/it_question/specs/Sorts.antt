@@ -4,7 +4,8 @@ use Rattle.it_syntax.specs.NamesViews.{NamesView}
 use Rattle.it_question.specs.declared.sorts.NameSort.{NameSort}
 use Rattle.it_question.specs.declared.sorts.NameSort.TheVariants as sorts
 use Rattle.it_question.specs.NewNames.{NameSortView, Variable, Rate}
-use Rattle.it_space.specs.Spaces.{most_rates, most_variables}
+use Rattle.it_space.specs.Spaces.{most_rates}
+use Rattle.it_question.specs.QuestionLimits.{most_names}
 
 -- what contracts see of a sort of names
 abbrev pub name_sort_view : NameSort → NameSortView
@@ -13,10 +14,10 @@ name_sort_view sorts.Rate = Rate
 
 -- n is within the limit of names of this sort
 abbrev pub IsWithinLimit : NameSort → ℕ → Type 0
-IsWithinLimit sorts.Variable n = n ≤ most_variables
+IsWithinLimit sorts.Variable n = n ≤ most_names
 IsWithinLimit sorts.Rate n = n ≤ most_rates
 
 -- the limit of names of this sort isn't reached
 abbrev pub HasRoom : NameSort → NamesView → Type 0
-HasRoom sorts.Variable v = length v.variables < most_variables
+HasRoom sorts.Variable v = length v.variables < most_names
 HasRoom sorts.Rate v = length v.rates < most_rates

@@ -21,7 +21,7 @@ use crate::names::{names_line, names_to_end};
 use crate::own::{MOST_LINES, own_lines};
 use crate::parts::relation;
 use crate::rates::rates;
-use crate::regions::{MOST_VARIABLES, containment};
+use crate::regions::{MOST_NAMES, containment};
 use crate::sorts::NameSort;
 use crate::tables::{elimination_is_large, proof_is_large};
 use crate::types::{OwnLines, Verb};
@@ -98,7 +98,7 @@ fn question(alloc: Global, cursor: &mut Cursor<'_>) -> Result<Body, Stop>
     ensures { ParsesBy body_view result forms.question cursor.old cursor.new }
 {
     let mut names = Names::new(alloc);
-    names_to_end(cursor, &mut names, NameSort::Variable, MOST_VARIABLES)?;
+    names_to_end(cursor, &mut names, NameSort::Variable, MOST_NAMES)?;
     names_line(cursor, &mut names, NameSort::Rate, MOST_RATES, RATES)?;
     let lines = own_lines(alloc, cursor, &names, MOST_LINES, MOST_LINES)?;
     let verb = verb(alloc, cursor, &names, &lines)?;

@@ -3,12 +3,12 @@ ghost use Rattle.std.specs.Prelude.{◌≡◌, ◌≤◌, ◌+◌, ◌-◌, leng
 ghost use Rattle.it_forms.specs.FormReading.{read};
 ghost use Rattle.it_question.specs.Cursors.{Parses, ParsesBy};
 ghost use Rattle.it_question.specs.Questions.{verb_view};
-ghost use Rattle.it_space.specs.Spaces.{IsSpace, most_variables};
+ghost use Rattle.it_space.specs.Spaces.{IsSpace};
 ghost use Rattle.it_demand.specs.QuestionSpaces.{space_of};
 ghost use Rattle.it_question.specs.Limits.{AreLinesOver, IsRegionOf};
 ghost use Rattle.it_question.specs.QuestionForms as forms;
 ghost use Rattle.it_question.specs.NewNames.{Variable};
-ghost use Rattle.it_question.specs.QuestionLimits.{most_lines};
+ghost use Rattle.it_question.specs.QuestionLimits.{most_lines, most_names};
 ghost use Rattle.it_question.specs.ReaderSteps.{contain_line, most_of_region};
 
 use crate::cursor::Cursor;
@@ -24,8 +24,8 @@ use it_syntax::rest::Stop;
 use it_syntax::types::Code;
 use std::alloc::Global;
 
-/// The most variables of a question together with a region's auxiliaries.
-pub const MOST_VARIABLES: usize = 10;
+/// The most names of variables of a question, a region's auxiliaries among them.
+pub const MOST_NAMES: usize = 10;
 
 /// The most auxiliaries of a region.
 const MOST_AUXILIARIES: usize = 4;
@@ -33,10 +33,10 @@ const MOST_AUXILIARIES: usize = 4;
 /// The most variables of a region of a question with these names, its auxiliaries among them.
 fn most_of_region(names: &Names) -> usize
     ensures most { result ≡ most_of_region names.now }
-    ensures few { result ≤ most_variables }
+    ensures few { result ≤ most_names }
 {
     let variables = names.space().variables as usize;
-    variables + MOST_AUXILIARIES.min(MOST_VARIABLES.saturating_sub(variables))
+    variables + MOST_AUXILIARIES.min(MOST_NAMES.saturating_sub(variables))
 }
 
 /// The number of variables that a region with the names `inside` adds to `names`.

@@ -52,6 +52,7 @@ pair_limits q a b p k l r problem o =
     let wide = region_wider q b r in
     record {
       problem = problem;
+      few = omega (arith, n, l.few_variables);
       space = record {
         some = omega (arith, m, wide, k.some);
         few = omega (arith, m, r.few_variables);

@@ -66,7 +66,7 @@ IsShort name = (1 ≤ length name) × (length name ≤ 16)
 
 -- ---- one more variable, one more rate, and none
 pub with_variable : (v : NamesView) (name : List ℕ) → AreNames v → IsNew v name → 1 ≤ length name → length name ≤ 16
-    → length v.variables < 10 → AreNames (record { variables = v.variables ++ name ∷ []; rates = v.rates })
+    → length v.variables < most_variables → AreNames (record { variables = v.variables ++ name ∷ []; rates = v.rates })
 with_variable v name h new some short few =
     let same : v.variables ++ name ∷ v.rates ≡ (v.variables ++ name ∷ []) ++ v.rates = sym (append_assoc v.variables (name ∷ []) v.rates) in
     record {

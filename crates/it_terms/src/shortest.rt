@@ -174,16 +174,17 @@ fn put_atoms_of(
     alloc: Global,
     columns: &mut Columns,
     space: Space,
-    sets: u16,
+    sets: u32,
     left: VarSet,
     given: VarSet,
 ) -> Result<(), Untold>
-    requires { IsSpace space }
+    requires space { IsSpace space }
+    requires sets { sets ≤ 2 ^ most_variables }
 {
     put_atom(alloc, columns, space, Atom::Entropy { of: left, given })?;
     for number in 1..sets {
-        let right = VarSet::from_number(number);
-        if number > left.number() && !meets(right, left) && !meets(right, given) {
+        let right = VarSet::from_number(number as u16);
+        if right.number() > left.number() && !meets(right, left) && !meets(right, given) {
             put_atom(alloc, columns, space, Atom::Mutual { left, right, given })?;
         }
     }
@@ -191,13 +192,14 @@ fn put_atoms_of(
 }
 
 /// Adds the columns of each H(A|C) and each I(A;B|C) of disjoint sets.
-fn put_atoms(alloc: Global, columns: &mut Columns, space: Space, sets: u16) -> Result<(), Untold>
-    requires { IsSpace space }
+fn put_atoms(alloc: Global, columns: &mut Columns, space: Space, sets: u32) -> Result<(), Untold>
+    requires space { IsSpace space }
+    requires sets { sets ≤ 2 ^ most_variables }
 {
     for number in 0..sets {
-        let given = VarSet::from_number(number);
+        let given = VarSet::from_number(number as u16);
         for other in 1..sets {
-            let left = VarSet::from_number(other);
+            let left = VarSet::from_number(other as u16);
             if !meets(left, given) {
                 put_atoms_of(alloc, columns, space, sets, left, given)?;
             }
@@ -238,7 +240,7 @@ fn all_columns(alloc: Global, space: Space, constraints: &[Constraint]) -> Resul
 {
     let coordinates = (1..space.size() + 1).collect(alloc)?;
     let mut columns = no_columns(alloc, coordinates);
-    put_atoms(alloc, &mut columns, space, 1u16 << space.variables)?;
+    put_atoms(alloc, &mut columns, space, 1u32 << space.variables)?;
     for (i, constraint) in constraints.iter().enumerate() {
         put_constraint(alloc, &mut columns, constraint, (i % 65536) as u32)?;
     }
