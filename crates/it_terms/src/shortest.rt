@@ -174,15 +174,13 @@ fn put_atoms_of(
     alloc: Global,
     columns: &mut Columns,
     space: Space,
-    sets: u32,
     left: VarSet,
     given: VarSet,
 ) -> Result<(), Untold>
-    requires space { IsSpace space }
-    requires sets { sets ≤ 2 ^ most_variables }
+    requires { IsSpace space }
 {
     put_atom(alloc, columns, space, Atom::Entropy { of: left, given })?;
-    for number in 1..sets {
+    for number in 1..1u32 << space.variables {
         let right = VarSet::from_number(number as u16);
         if right.number() > left.number() && !meets(right, left) && !meets(right, given) {
             put_atom(alloc, columns, space, Atom::Mutual { left, right, given })?;
@@ -192,16 +190,15 @@ fn put_atoms_of(
 }
 
 /// Adds the columns of each H(A|C) and each I(A;B|C) of disjoint sets.
-fn put_atoms(alloc: Global, columns: &mut Columns, space: Space, sets: u32) -> Result<(), Untold>
-    requires space { IsSpace space }
-    requires sets { sets ≤ 2 ^ most_variables }
+fn put_atoms(alloc: Global, columns: &mut Columns, space: Space) -> Result<(), Untold>
+    requires { IsSpace space }
 {
-    for number in 0..sets {
+    for number in 0..1u32 << space.variables {
         let given = VarSet::from_number(number as u16);
-        for other in 1..sets {
+        for other in 1..1u32 << space.variables {
             let left = VarSet::from_number(other as u16);
             if !meets(left, given) {
-                put_atoms_of(alloc, columns, space, sets, left, given)?;
+                put_atoms_of(alloc, columns, space, left, given)?;
             }
         }
     }
@@ -240,7 +237,7 @@ fn all_columns(alloc: Global, space: Space, constraints: &[Constraint]) -> Resul
 {
     let coordinates = (1..space.size() + 1).collect(alloc)?;
     let mut columns = no_columns(alloc, coordinates);
-    put_atoms(alloc, &mut columns, space, 1u32 << space.variables)?;
+    put_atoms(alloc, &mut columns, space)?;
     for (i, constraint) in constraints.iter().enumerate() {
         put_constraint(alloc, &mut columns, constraint, (i % 65536) as u32)?;
     }
