@@ -90,8 +90,7 @@ fn pulled_values(alloc: Global, table: &Table, by: &Substitution) -> Result<Vec<
     let count = 1u32 << by.len();
     let mut values = Vec::with_capacity(alloc, count as usize)?;
     for number in 0..count {
-        let set = VarSet::from_number(number as u16);
-        values.push(table.at(by.union_of_images(set)))?;
+        values.push(table.at(by.union_of_images(VarSet::from_number(number as u16))))?;
     }
     Ok(values)
 }
