@@ -15,7 +15,7 @@ pub record AreLinesOver (v : NamesView) (own : OwnLinesView) : Type 0 where
   pub givens : All (IsGivenOf (length v.variables)) own.givens
   pub rows : All (IsRelationOf (length v.variables) (length v.rates)) own.rows
 
--- a region of a question with these names: their variables, and after them at most 4 auxiliaries, 10 in all
+-- a region of a question with these names: their variables, and after them at most four auxiliaries, `most_names` in all
 pub record IsRegionOf (v : NamesView) (r : RegionView) : Type 0 where
   pub own : List (List ℕ)
   pub variables : r.names.variables ≡ v.variables ++ own
