@@ -15,7 +15,8 @@ use Rattle.it_problems.specs.declared.problems.Kind.{Kind}
 use Rattle.it_problems.specs.declared.problems.Kind.TheVariants.{Equation}
 use Rattle.it_polymatroid.specs.Elementals.{span}
 use Rattle.it_best.specs.declared.unknowns.Unknown.{Unknown}
-use Rattle.it_best.specs.Phases.{bounded_unknown, free_unknown, unknown_views, counterweight, first_phase, coordinate_terms, coordinate_row, coordinate_unknown, slacks, third_phase, left_equation, most_equations, right_equation}
+use Rattle.it_best.specs.Phases.{bounded_unknown, free_unknown, unknown_views, counterweight, first_phase, coordinate_terms, coordinate_row, coordinate_unknown, slacks, third_phase, left_equation, right_equation}
+use Rattle.it_best.specs.PhaseSteps.{most_equations}
 use Rattle.it_best.proofs.WalkLemmas.{piece_more, piece_end}
 
 -- the rows as those of generators

@@ -4,8 +4,8 @@ ghost use Rattle.it_number.specs.Limit.{IsWithin};
 ghost use Rattle.it_space.specs.Rows.{coefficient};
 ghost use Rattle.it_space.specs.Spaces.{size_of};
 ghost use Rattle.it_elemental.specs.Generators.{Generator, generators, generator_at};
-ghost use Rattle.it_best.specs.PhaseSteps.{IsCoordinateKind, all_slacks, all_values, first_unknowns, row_at, third_unknowns};
-ghost use Rattle.it_best.specs.Phases.{coordinate_terms, counterweight, left_equation, most_equations, right_equation, slack_by, unknown_view, unknown_views};
+ghost use Rattle.it_best.specs.PhaseSteps.{IsCoordinateKind, all_slacks, all_values, first_unknowns, most_equations, row_at, third_unknowns};
+ghost use Rattle.it_best.specs.Phases.{coordinate_terms, counterweight, left_equation, right_equation, slack_by, unknown_view, unknown_views};
 
 use crate::sides::Sides;
 use crate::unknowns::Unknown;
