@@ -8,6 +8,7 @@ use Rattle.std.proofs.lemmas.List.Elements.{All-nil, All-cons, All-head, All-tai
 use Rattle.std.proofs.lemmas.Slice.Eq.{bytes_eq-Decides}
 use Rattle.std.proofs.lemmas.List.Sums.{fails_before_first}
 use Rattle.std.proofs.lemmas.Bool.Decides.{nat_tests}
+use Rattle.it_space.specs.Spaces.{most_variables}
 use Rattle.it_syntax.specs.NamesViews.{index_of, NamesView, AreNames, IsNew}
 
 abbrev place : ℕ → ℕ → Option ℕ
