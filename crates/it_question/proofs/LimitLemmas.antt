@@ -29,6 +29,7 @@ use Rattle.it_question.specs.NewNames.{NameSortView, Variable, Rate, with_name, 
 use Rattle.it_question.specs.QuestionForms.{count, new_name, more_new, new_names, names_line, own_line, own_words, own_keyword, more_own_lines, own_lines, once, more_once, distinct, auxiliary, set, part, more_parts, try_line, more_tries, region, containment, verb, question, more_questions, file}
 use Rattle.it_question.specs.QuestionLimits.{auxiliaries_left, givens_left, most_lines, most_names, most_questions, rows_left}
 use Rattle.it_question.specs.OwnLines.{OwnLinesView, RegionView, no_lines}
+use Rattle.it_question.specs.Sorts.{AreQuestionNames}
 use Rattle.it_question.specs.Questions.{VerbView, Prove, Eliminate, Contain, BodyView}
 use Rattle.it_question.specs.ProblemLines.{givens_alone, names_under, lines_under}
 use Rattle.it_question.specs.TableSizes.{problem_of_lines, most_entries, size_flag, HasSmallTable}
@@ -394,13 +395,9 @@ pub record IsRead (q : BodyView) : Type 0 where
   pub limits : IsQuestion q
   pub small : HasSmallTable q
 
--- the names of a question: variables, and perhaps rates
-record AreNames (names : NamesView) : Type 0 where
-  some : 1 ≤ length names.variables
-  few : length names.variables ≤ most_names
-  few_rates : length names.rates ≤ 16
-
-are_names : (variables names : NamesView) → AreNamed Variable most_names no_names variables → MayBeNamed Rate most_rates variables names → AreNames names
+-- variables, and perhaps rates
+are_names : (variables names : NamesView) → AreNamed Variable most_names no_names variables → MayBeNamed Rate most_rates variables names
+    → AreQuestionNames names
 are_names variables names hv hn =
     let own : names.variables ≡ variables.variables = ap (λ (w : NamesView). w.variables) hn.grown.is in
     let first : variables.variables ≡ hv.grown.own = ap (λ (w : NamesView). w.variables) hv.grown.is in
@@ -441,13 +438,15 @@ file_keeps = always_weaker (more_questions []) _ _ (λ p qs h l e m. h)
 pub file_limited : (ls r : List Letter) (qs : List BodyView) → read file ls ≡ Ok (qs, r) → All IsRead qs
 file_limited ls r qs e = value_read file (All IsRead) ls r qs file_keeps e
 
-pub names_limited : (variables names : NamesView) (ls a b r : List Letter) → read (new_names Variable most_names no_names) ls ≡ Ok (variables, a) → read (names_line Rate most_rates (codes "rates") variables) b ≡ Ok (names, r) → IsSpace (space_of names)
+pub names_limited : (variables names : NamesView) (ls a b r : List Letter) → read (new_names Variable most_names no_names) ls ≡ Ok (variables, a) → read (names_line Rate most_rates (codes "rates") variables) b ≡ Ok (names, r) → AreQuestionNames names
 names_limited variables names ls a b r e f =
     let hv = value_read (new_names Variable most_names no_names) (AreNamed Variable most_names no_names) ls a variables
     (new_names_keep Variable most_names no_names) e in
     let hn = value_read (names_line Rate most_rates (codes "rates") variables) (MayBeNamed Rate most_rates variables) b r names (names_line_keeps Rate most_rates (codes "rates") variables) f in
-    let n = are_names variables names hv hn in
-    record { some = n.some; few = n.few; few_rates = n.few_rates }
+    are_names variables names hv hn
+
+pub declared_space : (v : NamesView) → AreQuestionNames v → IsSpace (space_of v)
+declared_space v k = record { some = k.some; few = omega (arith, k.few); few_rates = k.few_rates }
 
 pub lines_limited : (v : NamesView) (ls r : List Letter) (own : OwnLinesView) → read (own_lines most_lines most_lines v) ls ≡ Ok (own, r) → AreLinesOver v own
 lines_limited v ls r own e = lines_over most_lines most_lines v own (omega arith) (omega arith)

@@ -6,14 +6,13 @@ ghost use Rattle.it_forms.specs.FormReading.{read};
 ghost use Rattle.it_forms.specs.Words as words;
 ghost use Rattle.it_syntax.specs.declared.rest.Stop.TheVariants.{Memory};
 ghost use Rattle.it_syntax.specs.RelationLines.{relation_line};
-ghost use Rattle.it_space.specs.Spaces.{IsSpace};
-ghost use Rattle.it_demand.specs.QuestionSpaces.{space_of};
 ghost use Rattle.it_syntax.specs.NamesViews.{index_of};
 ghost use Rattle.it_question.specs.Limits.{AreLinesOver};
 ghost use Rattle.it_question.specs.Bodies.{body_view};
 ghost use Rattle.it_question.specs.Cursors.{Parses, ParsesBy};
 ghost use Rattle.it_question.specs.QuestionForms as forms;
 ghost use Rattle.it_question.specs.Questions.{verb_view, Prove, Eliminate};
+ghost use Rattle.it_question.specs.Sorts.{AreQuestionNames};
 
 use crate::bodies::Body;
 use crate::cursor::Cursor;
@@ -63,7 +62,7 @@ fn verb(
     names: &Names,
     lines: &OwnLines,
 ) -> Result<Verb, Stop>
-    requires space { IsSpace (space_of names.now) }
+    requires names { AreQuestionNames names.now }
     requires lines { AreLinesOver names.now lines.now }
     ensures { ParsesBy verb_view result (forms.verb lines.now names.now) cursor.old cursor.new }
 {

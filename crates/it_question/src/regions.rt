@@ -3,13 +3,14 @@ ghost use Rattle.std.specs.Prelude.{◌≡◌, ◌≤◌, ◌+◌, ◌-◌, leng
 ghost use Rattle.it_forms.specs.FormReading.{read};
 ghost use Rattle.it_question.specs.Cursors.{Parses, ParsesBy};
 ghost use Rattle.it_question.specs.Questions.{verb_view};
-ghost use Rattle.it_space.specs.Spaces.{IsSpace};
+ghost use Rattle.it_space.specs.Spaces.{IsSpace, most_variables};
 ghost use Rattle.it_demand.specs.QuestionSpaces.{space_of};
 ghost use Rattle.it_question.specs.Limits.{AreLinesOver, IsRegionOf};
 ghost use Rattle.it_question.specs.QuestionForms as forms;
 ghost use Rattle.it_question.specs.NewNames.{Variable};
-ghost use Rattle.it_question.specs.QuestionLimits.{most_lines, most_names};
+ghost use Rattle.it_question.specs.QuestionLimits.{most_lines};
 ghost use Rattle.it_question.specs.ReaderSteps.{contain_line, most_of_region};
+ghost use Rattle.it_question.specs.Sorts.{AreQuestionNames};
 
 use crate::cursor::Cursor;
 use crate::names::names_line;
@@ -33,7 +34,7 @@ const MOST_AUXILIARIES: usize = 4;
 /// The most variables of a region of a question with these names, its auxiliaries among them.
 fn most_of_region(names: &Names) -> usize
     ensures most { result ≡ most_of_region names.now }
-    ensures few { result ≤ most_names }
+    ensures few { result ≤ most_variables }
 {
     let variables = names.space().variables as usize;
     variables + MOST_AUXILIARIES.min(MOST_NAMES.saturating_sub(variables))
@@ -122,7 +123,7 @@ pub fn containment(
     names: &Names,
     lines: &OwnLines,
 ) -> Result<Verb, Stop>
-    requires space { IsSpace (space_of names.now) }
+    requires names { AreQuestionNames names.now }
     requires lines { AreLinesOver names.now lines.now }
     ensures { ParsesBy verb_view result (forms.containment lines.now names.now) cursor.old cursor.new }
 {
