@@ -1,5 +1,6 @@
 -- Sums that are None where a number passes the limit, by the conditions that the numbers fit.
-use Rattle.std.proofs.Common.{◌≡◌, ◌≢◌, ℕ, zero, suc, ◌^◌, ℤ, pos, negsuc, ◌+ℤ◌, ◌*ℤ◌, unsigned_abs, [], ◌∷◌, ◌++◌, Bool, true, false, cond, ◌&&◌, Option, Some, None, Result, Ok, Err, OkIff, refl, sym, ap, ap₂, ◌∙◌, arith, lit<}
+use Rattle.std.specs.Prelude.{◌≡◌, ◌≢◌, ℕ, zero, suc, ◌^◌, ℤ, pos, negsuc, ◌+ℤ◌, ◌*ℤ◌, unsigned_abs, [], ◌∷◌, ◌++◌, Bool, true, false, cond, ◌&&◌, Option, Some, None, Result, Ok, Err, OkIff}
+use Rattle.std.proofs.Common.{refl, sym, ap, ap₂, ◌∙◌, arith, lit<}
 use Rattle.std.specs.Bool.{Decides}
 use Rattle.std.specs.Result.{result_ok}
 use Rattle.std.proofs.lemmas.Int.{ints}
@@ -73,7 +74,8 @@ sum_is (Err e) ts p o = by_option (sum_within (pos 0) ts p) (λ x q. o (sum_told
 
 -- ---- sums, one term further
 
-pub plus_is : (r : Result ℤ Wide) (sum a b : ℤ) → OkIff r (IsWithin (a *ℤ b) × IsWithin (sum +ℤ a *ℤ b)) (sum +ℤ a *ℤ b) → result_ok r ≡ plus_product (Some sum) a b
+pub plus_is : (r : Result ℤ Wide) (sum a b : ℤ) → OkIff r (IsWithin (a *ℤ b) × IsWithin (sum +ℤ a *ℤ b)) (sum +ℤ a *ℤ b)
+    → result_ok r ≡ plus_product (Some sum) a b
 plus_is r sum a b o = by_result r (is_within (a *ℤ b)) (is_within (sum +ℤ a *ℤ b)) (decides_within (a *ℤ b)) (decides_within (sum +ℤ a *ℤ b)) o
   where
     by_result : (r : Result ℤ Wide) (s t : Bool) → Decides s (IsWithin (a *ℤ b)) → Decides t (IsWithin (sum +ℤ a *ℤ b))

@@ -1,5 +1,6 @@
 -- The first term of a row at a coordinate from a given one on.
-use Rattle.std.proofs.Common.{◌≡◌, ◌≢◌, ◌⊎◌, inl, inr, ℕ, zero, suc, ◌+◌, ◌<◌, ◌≤◌, ℤ, pos, [], ◌∷◌, ◌++◌, length, get_or, Bool, true, false, cond, nat_lt, Option, Some, None, refl, sym, ap, ap₂, subst, ◌∙◌, arith}
+use Rattle.std.specs.Prelude.{◌≡◌, ◌≢◌, ℕ, zero, suc, ◌+◌, ◌<◌, ◌≤◌, ℤ, pos, [], ◌∷◌, ◌++◌, length, Bool, true, false, cond, nat_lt, Option, Some, None}
+use Rattle.std.proofs.Common.{◌⊎◌, inl, inr, get_or, refl, sym, ap, ap₂, subst, ◌∙◌, arith}
 use Rattle.std.specs.Option.{option_or}
 use Rattle.std.specs.List.Sorted.{IsPartitionPoint}
 use Rattle.std.proofs.lemmas.Bool.{cases_lt, ltb-true, ltb-false}
@@ -10,7 +11,7 @@ use Rattle.it_polymatroid.specs.Elementals.{Elemental}
 use Rattle.it_elemental.specs.Rows.{elemental_row, set_term}
 use Rattle.it_elemental.specs.Views.{IsElemental}
 use Rattle.it_elemental.proofs.RowLemmas.{canonical-row}
-use Rattle.it_check.specs.Windows.{first_from, IsTermFrom, IsNextTerm}
+use Rattle.it_check.specs.NextTerms.{first_from, IsTermFrom, IsNextTerm}
 
 pub first_from-append : (from : ℕ) (xs ys : Terms) → first_from from (xs ++ ys) ≡ option_or (first_from from xs) (first_from from ys)
 first_from-append from [] ys = refl
@@ -51,7 +52,8 @@ some_term from (t ∷ ts) zero d a h = a.1
 some_term from (t ∷ ts) (suc i) d a h = some_term (t.0 + 1) ts i d a.3 (omega arith)
 
 -- where the terms before place i are those with a coordinate below `from`
-module _ (from : ℕ) (ts : Terms) (i : ℕ) (a : Ascends 0 ts) (p : IsPartitionPoint (λ (t : ℕ × ℤ). nat_lt t.0 from ≡ true) (λ (t : ℕ × ℤ). nat_lt t.0 from ≡ false) ts i) where
+module _ (from : ℕ) (ts : Terms) (i : ℕ) (a : Ascends 0 ts)
+    (p : IsPartitionPoint (λ (t : ℕ × ℤ). nat_lt t.0 from ≡ true) (λ (t : ℕ × ℤ). nat_lt t.0 from ≡ false) ts i) where
   pub place_is_next : (d : ℕ × ℤ) → i < length ts → IsTermFrom from ts (get_or ts i d)
   place_is_next d h = record {
     late = ltb-false (get_or ts i d).0 from (p.1 i d (omega arith) h);

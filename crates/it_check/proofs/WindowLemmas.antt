@@ -1,11 +1,13 @@
 -- The sums at a window of coordinates, term by term and weight by weight.
-use Rattle.std.proofs.Common.{◌≡◌, ◌⊎◌, inl, inr, ℕ, ◌+◌, ◌-◌, ◌<◌, ◌≤◌, min, ℤ, pos, List, [], ◌∷◌, ◌++◌, length, length-set, get_or, get_or-set_same, get_or-set_other, set, take, Option, Some, None, refl, sym, ap, ◌∙◌, arith}
+use Rattle.std.specs.Prelude.{◌≡◌, ℕ, ◌+◌, ◌-◌, ◌<◌, ◌≤◌, min, ℤ, pos, List, [], ◌∷◌, ◌++◌, length, Option, Some, None}
+use Rattle.std.proofs.Common.{◌⊎◌, inl, inr, length-set, get_or, get_or-set_same, get_or-set_other, set, take, refl, sym, ap, ◌∙◌, arith}
 use Rattle.std.proofs.Math.ListN.{replicate, length-replicate, get_or-replicate}
 use Rattle.std.proofs.lemmas.Bool.{cases_lt, cases_order}
 use Rattle.std.proofs.lemmas.List.{take_more}
 use Rattle.it_space.specs.Rows.{Terms, coefficient}
 use Rattle.it_elemental.specs.Generators.{Generator, generator_at}
-use Rattle.it_check.specs.Windows.{IsTermFrom, IsZeroBetween, plus_product, plus_some, window_length, AreAdded, AreSums}
+use Rattle.it_check.specs.NextTerms.{IsTermFrom, IsZeroBetween}
+use Rattle.it_check.specs.Windows.{plus_product, plus_some, window_length, AreAdded, AreSums}
 use Rattle.it_check.specs.Sums.{sum_within}
 use Rattle.it_check.specs.Verdicts.{column}
 use Rattle.it_check.proofs.SumLemmas.{plus_nonzero, sum_step}
@@ -73,7 +75,8 @@ sums_begin gs target start next later zero = record {
 -- one weight further: its generator is added, which has no coefficient past the window before coordinate n
 module _ (gs : List Generator) (target weights : Terms) (start : ℕ) (sums new : List (Option ℤ)) (next n i : ℕ) (t d : ℕ × ℤ)
     (s : AreSums gs target (take i weights) start sums next) (h : i < length weights) (is : t ≡ get_or weights i d) where
-  sum_at : (c : ℕ) → sum_within (pos 0) (take (i + 1) weights) (column gs c) ≡ plus_some (sum_within (pos 0) (take i weights) (column gs c)) t.1 (column gs c t.0)
+  sum_at : (c : ℕ) → sum_within (pos 0) (take (i + 1) weights) (column gs c)
+      ≡ plus_some (sum_within (pos 0) (take i weights) (column gs c)) t.1 (column gs c t.0)
   sum_at c = ap (λ ts. sum_within (pos 0) ts (column gs c)) (take_more weights i d h ∙ ap (λ u. take i weights ++ u ∷ []) (sym is))
       ∙ sum_step (take i weights) t (column gs c)
 

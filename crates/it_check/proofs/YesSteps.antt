@@ -1,5 +1,6 @@
 -- The verdict on a certificate, step by step as the code forms it.
-use Rattle.std.proofs.Common.{◌≡◌, ◌⊎◌, inl, inr, ℕ, zero, suc, ◌+◌, ◌-◌, ◌<◌, ◌≤◌, min, ℤ, pos, ◌*ℤ◌, List, [], ◌∷◌, length, drop, get_or, All, Bool, true, false, cond, ltb, not, ◌&&◌, Option, Some, None, Result, Ok, Err, OkIff, refl, sym, ap, ap₂, ◌∙◌, arith}
+use Rattle.std.specs.Prelude.{◌≡◌, ℕ, zero, suc, ◌+◌, ◌-◌, ◌<◌, ◌≤◌, min, ℤ, pos, ◌*ℤ◌, List, [], ◌∷◌, length, All, Bool, true, false, cond, not, ◌&&◌, Option, Some, None, Result, Ok, Err, OkIff}
+use Rattle.std.proofs.Common.{◌⊎◌, inl, inr, drop, get_or, ltb, refl, sym, ap, ap₂, ◌∙◌, arith}
 use Rattle.std.specs.Option.{option_or}
 use Rattle.std.specs.Int.Signed.{lt_z}
 use Rattle.std.specs.Bool.{Decides}
@@ -121,7 +122,8 @@ module _ (gs : List Generator) (target : Terms) (w : CertificateView) where
       let e : suc a + b ≡ suc (a + b) = omega arith in
       let f : c + 1 + a ≡ c + suc a = omega arith in
       ap (of_coordinates gs target w c) e
-      ∙ ap (option_or (of_coordinate gs target w c)) (coordinates-append (c + 1) a b ∙ ap (λ d. option_or (of_coordinates gs target w (c + 1) a) (of_coordinates gs target w d b)) f)
+      ∙ ap (option_or (of_coordinate gs target w c)) (coordinates-append (c + 1) a b
+      ∙ ap (λ d. option_or (of_coordinates gs target w (c + 1) a) (of_coordinates gs target w d b)) f)
       ∙ regroup (of_coordinate gs target w c) (of_coordinates gs target w (c + 1) a) (of_coordinates gs target w (c + suc a) b)
     where
       regroup : (x y z : Option Verdict) → option_or x (option_or y z) ≡ option_or (option_or x y) z

@@ -1,34 +1,10 @@
--- No public clause cites this module: the terms of rows from a coordinate on, and the sums at a window of consecutive coordinates.
-use Rattle.std.specs.Prelude.{◌≡◌, ◌≢◌, ℕ, zero, ◌+◌, ◌<◌, ◌≤◌, nat_lt, ℤ, pos, ◌+ℤ◌, ◌*ℤ◌, List, [], ◌∷◌, length, slice_index_or, ◌&&◌, Option, Some, None, if◌then◌else◌}
+-- No public clause cites this module: the sums at a window of consecutive coordinates.
+use Rattle.std.specs.Prelude.{◌≡◌, ℕ, zero, ◌+◌, ◌<◌, ◌≤◌, ℤ, pos, ◌+ℤ◌, ◌*ℤ◌, List, length, slice_index_or, ◌&&◌, Option, Some, None, if◌then◌else◌}
 use Rattle.it_space.specs.Rows.{Terms, coefficient}
 use Rattle.it_elemental.specs.Generators.{Generator}
+use Rattle.it_check.specs.NextTerms.{IsZeroBetween}
 use Rattle.it_check.specs.Sums.{is_within, sum_within}
 use Rattle.it_check.specs.Verdicts.{column}
-
--- ---- terms
-
--- the first term of a list at a coordinate from `from` on
-abbrev pub first_from : ℕ → Terms → Option (ℕ × ℤ)
-first_from from [] = None
-first_from from (t ∷ ts) = if nat_lt t.0 from then first_from from ts else Some t
-
--- a row has the coefficient 0 at each coordinate from a on, before b
-abbrev pub IsZeroBetween : ℕ → ℕ → Terms → Type 0
-IsZeroBetween a b row = (c : ℕ) → a ≤ c → c < b → coefficient row c ≡ pos 0
-
--- t has the least coordinate from `from` on at which the row's coefficient isn't 0, and that coefficient
-pub record IsTermFrom (from : ℕ) (row : Terms) (t : ℕ × ℤ) : Type 0 where
-  pub late : from ≤ t.0
-  pub some : t.1 ≢ pos 0
-  pub own : coefficient row t.0 ≡ t.1
-  pub before : IsZeroBetween from t.0 row
-
--- that term, or none where the coefficients are 0 from there on
-abbrev pub IsNextTerm : ℕ → Terms → Option (ℕ × ℤ) → Type 0
-IsNextTerm from row (Some t) = IsTermFrom from row t
-IsNextTerm from row None = (c : ℕ) → from ≤ c → coefficient row c ≡ pos 0
-
--- ---- sums
 
 -- a sum with the product of a and b added; None where there is no sum, or one of these passes the limit
 abbrev pub plus_product : Option ℤ → ℤ → ℤ → Option ℤ

@@ -4,7 +4,7 @@ ghost use Rattle.it_space.specs.Spaces.{most_variables};
 ghost use Rattle.it_polymatroid.specs.Elementals.{elementals, elemental_at};
 ghost use Rattle.it_elemental.specs.Rows.{elemental_row, set_term};
 ghost use Rattle.it_elemental.specs.Generators.{generators, generator_at};
-ghost use Rattle.it_check.specs.Windows.{IsNextTerm, first_from};
+ghost use Rattle.it_check.specs.NextTerms.{IsNextTerm, first_from};
 
 use it_elemental::{Elemental, count, parts};
 use it_problems::Problem;
@@ -26,7 +26,6 @@ pub fn next_of_row(row: &Row, from: u32) -> Option<(u32, i128)>
 /// The first term of generator `index` at a coordinate from `from` on; `None` if there is none.
 pub fn next_of_generator(problem: &Problem, index: u32, from: u32) -> Option<(u32, i128)>
     requires listed { index < length (generators problem.now) }
-    requires from_one { 1 ≤ from }
     ensures { IsNextTerm from (generator_at (generators problem.now) index).row result }
 {
     problem.facts();
@@ -46,7 +45,6 @@ fn next_of_elemental(n: u8, index: u32, from: u32) -> Option<(u32, i128)>
     requires some { 1 ≤ n }
     requires few { n ≤ most_variables }
     requires listed { index < length (elementals n) }
-    requires from_one { 1 ≤ from }
     ensures { IsNextTerm from (elemental_row n (elemental_at n index)) result }
 {
     match parts(n, index) {
@@ -65,12 +63,11 @@ fn next_of_elemental(n: u8, index: u32, from: u32) -> Option<(u32, i128)>
     }
 }
 
-/// The term with `coefficient` at `coordinate` where that is from `from` on, else `None`.
+/// The term with `coefficient` at `coordinate` where that is from `from` on, else `None`; 0, the empty set, is no coordinate.
 fn term_from(coordinate: u32, coefficient: i128, from: u32) -> Option<(u32, i128)>
-    requires { 1 ≤ from }
     ensures { result ≡ first_from from (set_term coordinate coefficient) }
 {
-    if coordinate < from {
+    if coordinate == 0 || coordinate < from {
         None
     } else {
         Some((coordinate, coefficient))

@@ -1,7 +1,8 @@
 //! The sums of weights times coefficients, at a window of consecutive coordinates at a time.
 ghost use Rattle.std.specs.Prelude.{◌≡◌, ◌<◌, ◌≤◌, ◌+◌, ◌^◌, All, length};
 ghost use Rattle.it_elemental.specs.Generators.{generators, generator_at};
-ghost use Rattle.it_check.specs.Windows.{AreAdded, AreSums, IsZeroBetween, plus_product, window_length};
+ghost use Rattle.it_check.specs.NextTerms.{IsZeroBetween};
+ghost use Rattle.it_check.specs.Windows.{AreAdded, AreSums, plus_product, window_length};
 
 use crate::terms::{next_of_generator, next_of_row};
 use it_problems::Problem;
@@ -35,7 +36,6 @@ fn add_weighed(
     sums: &mut [Option<i128>],
 ) -> u32
     requires listed { weight.now.0 < length (generators problem.now) }
-    requires from_one { 1 ≤ start }
     requires few { start + window_length < 2 ^ 32 }
     requires long { length sums.old ≡ window_length }
     ensures sums { AreAdded (generator_at (generators problem.now) weight.now.0).row weight.now.1 start sums.old sums.new }
@@ -68,7 +68,6 @@ fn first_coordinate(row: &Row, from: u32) -> u32
 /// The sums of the weights times the generators' coefficients at the coordinates from `start` on.
 pub fn window_from(problem: &Problem, target: &Row, weights: &[(u32, i128)], start: u32) -> Window
     requires listed { All (λ w. w.0 < length (generators problem.now)) weights.now }
-    requires from_one { 1 ≤ start }
     requires few { start + window_length < 2 ^ 32 }
     ensures start { result.start ≡ start }
     ensures sums { AreSums (generators problem.now) target.now weights.now result.start result.sums result.next }

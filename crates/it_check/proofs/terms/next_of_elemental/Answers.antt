@@ -3,7 +3,7 @@ use Rattle.std.proofs.lemmas.Nat.{pow_below}
 use Rattle.it_space.specs.Rows.{Terms}
 use Rattle.it_polymatroid.specs.Elementals.{Elemental, Conditional, Mutual}
 use Rattle.it_elemental.specs.Rows.{elemental_row, set_term}
-use Rattle.it_check.specs.Windows.{IsNextTerm, first_from}
+use Rattle.it_check.specs.NextTerms.{IsNextTerm, first_from}
 use Rattle.it_check.proofs.TermLemmas.{elemental_is_next, first_of_more}
 use Rattle.it_check.proofs.terms.next_of_elemental.Goals as goal
 

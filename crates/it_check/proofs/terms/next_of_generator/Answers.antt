@@ -2,7 +2,7 @@ use Rattle.std.proofs.Common.{◌∙◌, sym, ap, subst, arith, ◌-◌, length,
 use Rattle.it_polymatroid.specs.Elementals.{elementals}
 use Rattle.it_elemental.specs.Generators.{Generator}
 use Rattle.it_elemental.proofs.GeneratorLemmas.{length-listed, front_is, after_is}
-use Rattle.it_check.specs.Windows.{IsNextTerm}
+use Rattle.it_check.specs.NextTerms.{IsNextTerm}
 use Rattle.it_check.proofs.terms.next_of_generator.Goals as goal
 
 pub bounds-constraints-index : goal.bounds-constraints-index

@@ -3,7 +3,7 @@ use Rattle.std.specs.List.Sorted.{IsPartitionPoint}
 use Rattle.std.proofs.lemmas.List.Sorted.{IsPartitionPoint-from_clause, IsPartitionedBy-ltb}
 use Rattle.it_space.specs.Rows.{Terms, Ascends, coefficient}
 use Rattle.it_space.proofs.CanonicalRows.{ascends_far}
-use Rattle.it_check.specs.Windows.{IsTermFrom}
+use Rattle.it_check.specs.NextTerms.{IsTermFrom}
 use Rattle.it_check.proofs.TermLemmas.{place_is_next, none_is_next}
 use Rattle.it_check.proofs.terms.next_of_row.Goals as goal
 use Rattle.it_check.proofs.terms.next_of_row.Goals.{After-partition_point-place}
@@ -15,7 +15,8 @@ parted : (c : After-partition_point-place) → IsPartitionPoint (λ (t : ℕ × 
     c.terms-terms.result.now c.partition_point-place.result
 parted c = IsPartitionPoint-from_clause (λ (t : ℕ × ℤ). nat_lt t.0 c.args.from) c.terms-terms.result.now c.partition_point-place.result
     c.partition_point-place.ensures.partitioned
-    (IsPartitionedBy-ltb (λ (t : ℕ × ℤ). t.0) c.terms-terms.result.now c.args.from (λ i j d h l. (ascends_far 0 c.terms-terms.result.now i j d (ascending c) h l).1))
+    (IsPartitionedBy-ltb (λ (t : ℕ × ℤ). t.0) c.terms-terms.result.now c.args.from
+    (λ i j d h l. (ascends_far 0 c.terms-terms.result.now i j d (ascending c) h l).1))
     (λ a r f' e. search rules)
 
 pub returns-then-place-terms : goal.returns-then-place-terms

@@ -1,7 +1,8 @@
 use Rattle.std.proofs.Common.{rules, ◌≡◌, ℕ, ℤ, pos, ◌+◌, ◌-◌, ◌≤◌, refl, arith, FitsSigned, to_z-of_z}
 use Rattle.it_space.specs.Rows.{Terms, coefficient}
 use Rattle.it_elemental.specs.Generators.{generators, generator_at}
-use Rattle.it_check.specs.Windows.{IsTermFrom, window_length}
+use Rattle.it_check.specs.NextTerms.{IsTermFrom}
+use Rattle.it_check.specs.Windows.{window_length}
 use Rattle.it_check.proofs.WindowLemmas.{adding_more, adding_ends}
 use Rattle.it_check.proofs.windows.add_weighed.Goals as goal
 use mir.Syntax.{w128}

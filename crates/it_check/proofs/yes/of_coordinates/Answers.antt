@@ -16,7 +16,7 @@ so_far_there : (c : After-window_from-window) → of_coordinates (generators c.a
 so_far_there c = subst (λ (s : ℕ). of_coordinates (generators c.args.problem.now) c.args.target.now (certificate_view c.args.certificate.now)
     s (size_of c.args.problem.now.space + 1 - s)
     ≡ of_coordinates (generators c.args.problem.now) c.args.target.now (certificate_view c.args.certificate.now) 1 (size_of c.args.problem.now.space))
-    (sym c.window_from-window.ensures.start) c.loop-start.invariant.so_far
+    (sym c.window_from-window.ensures.start) c.loop-start.invariant
 
 -- the window is that of the certificate's weights
 own_sums : (c : After-window_from-window) → AreSums (generators c.args.problem.now) c.args.target.now c.args.certificate.now.weights.items
@@ -33,16 +33,11 @@ returns-in-Some c = window_found (generators c.args.problem.now) c.args.target.n
     (so_far_there (goal.at.returns-in-Some c).After-window_from-window) c.in-Some.verdict c.in-Some.ensures
 
 pub loop-start-preserved : goal.loop-start-preserved
-loop-start-preserved c =
-    let own = own_sums (goal.at.loop-start-preserved c).After-window_from-window in
-    record {
-      from_one = omega (arith, own.later);
-      so_far = window_passed (generators c.args.problem.now) c.args.target.now (certificate_view c.args.certificate.now)
-          c.window_from-window.result.start (size_of c.args.problem.now.space) _ (omega arith)
-          (so_far_there (goal.at.loop-start-preserved c).After-window_from-window) c.window_from-window.result.next
-          c.window_from-window.result.sums own c.in_default.ensures;
-    }
+loop-start-preserved c = window_passed (generators c.args.problem.now) c.args.target.now (certificate_view c.args.certificate.now)
+    c.window_from-window.result.start (size_of c.args.problem.now.space) _ (omega arith)
+    (so_far_there (goal.at.loop-start-preserved c).After-window_from-window) c.window_from-window.result.next
+    c.window_from-window.result.sums (own_sums (goal.at.loop-start-preserved c).After-window_from-window) c.in_default.ensures
 
 pub returns : goal.returns
 returns c = coordinates_done (generators c.args.problem.now) c.args.target.now (certificate_view c.args.certificate.now)
-    (size_of c.args.problem.now.space + 1) c.loop-start.start _ c.loop-start.invariant.so_far (omega arith)
+    (size_of c.args.problem.now.space + 1) c.loop-start.start _ c.loop-start.invariant (omega arith)
