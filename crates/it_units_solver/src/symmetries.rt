@@ -59,7 +59,7 @@ fn push_lines(
     ensures count { IfOk result (λ _. length constraints.new.items ≡ length constraints.old.items + length lists.now) }
 {
     for coordinates in lists {
-        let row = line(alloc, size, coordinates)?;
+        let row = line(alloc, size, *coordinates)?;
         constraints.push(constraint(row, kind))?;
     }
     Ok(())
