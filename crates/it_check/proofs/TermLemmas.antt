@@ -37,7 +37,8 @@ pub first_is_next : (from lo : ℕ) (ts : Terms) → Ascends lo ts → IsNextTer
 first_is_next from lo [] a = λ c k. refl
 first_is_next from lo (t ∷ ts) a = by_test (nat_lt t.0 from) refl (first_is_next from (t.0 + 1) ts a.3)
   where
-    by_test : (b : Bool) → nat_lt t.0 from ≡ b → IsNextTerm from ts (first_from from ts) → IsNextTerm from (t ∷ ts) (cond b (first_from from ts) (Some t))
+    by_test : (b : Bool) → nat_lt t.0 from ≡ b → IsNextTerm from ts (first_from from ts)
+        → IsNextTerm from (t ∷ ts) (cond b (first_from from ts) (Some t))
     by_test true e ih = passed from t ts (first_from from ts) (ltb-true t.0 from e) ih
     by_test false e ih = record {
       late = ltb-false t.0 from e;

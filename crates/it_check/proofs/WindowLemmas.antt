@@ -87,5 +87,6 @@ module _ (gs : List Generator) (target weights : Terms) (start : ℕ) (sums new 
     here = λ k l. added k l ∙ ap (λ o. plus_some o t.1 (column gs (start + k) t.0)) (s.here k l) ∙ sym (sum_at (start + k));
     later = omega (arith, s.later);
     left = λ c k l. s.left c k (omega arith);
-    right = λ c k l. sum_at c ∙ ap (plus_some (sum_within (pos 0) (take i weights) (column gs c)) t.1) (zero c k (omega arith)) ∙ s.right c k (omega arith);
+    right = λ c k l. sum_at c ∙ ap (plus_some (sum_within (pos 0) (take i weights) (column gs c)) t.1) (zero c k (omega arith))
+        ∙ s.right c k (omega arith);
   }
