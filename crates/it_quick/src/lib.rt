@@ -13,8 +13,12 @@
 
 mod closed;
 mod closures;
+mod constraints;
+mod costs;
+mod covers;
 mod lifting;
 mod numbers;
+mod pairs;
 mod places;
 mod pricing;
 mod programs;
@@ -22,5 +26,7 @@ mod proposing;
 mod resuming;
 mod rows;
 mod running;
+mod summands;
+mod symmetric;
 
 pub use proposing::{Proposal, QuickProblem};
