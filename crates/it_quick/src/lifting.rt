@@ -1,6 +1,7 @@
 //! From weights of summands over closed sets to a certificate over all sets.
 //!
-//! The inequality of closed sets A and B and of C below them is I(A;B|A∩B) plus h(A∩B) - h(C): a sum of elemental inequalities over all sets.
+//! The inequality of closed sets A and B and of C below them is I(A;B|A∩B) plus h(A∩B) - h(C): a sum of elemental inequalities over all
+//! sets.
 //! The excess that is left at a set is then moved to its closure by the dependences.
 ghost use Rattle.std.specs.Prelude.{◌≡◌, ◌<◌, ◌≤◌, ◌^◌, bit_and};
 ghost use Rattle.std.specs.Bool.{OnTrue};
