@@ -16,7 +16,7 @@ ghost use Rattle.it_question.specs.Cursors.{Parses, ParsesBy};
 ghost use Rattle.it_question.specs.QuestionForms as forms;
 ghost use Rattle.it_question.specs.Questions.{verb_view, Prove, Eliminate};
 ghost use Rattle.it_question.specs.QuestionForms.{region_flag};
-ghost use Rattle.it_question.specs.QuestionLimits.{most_names};
+ghost use Rattle.it_question.specs.QuestionLimits.{most_names, usual};
 ghost use Rattle.it_question.specs.ReaderSteps.{flag_if_large};
 
 use crate::bodies::Body;
@@ -165,9 +165,16 @@ fn questions(alloc: Global, cursor: &mut Cursor<'_>, limits: Limits) -> Result<V
     Ok(found)
 }
 
+/// The questions of a file, up to its end.
+pub fn bodies(alloc: Global, cursor: &mut Cursor<'_>) -> Result<Vec<Body>, Stop>
+    ensures { ParsesBy (λ x. map body_view x.items) result (forms.file usual) cursor.old cursor.new }
+{
+    bodies_within(alloc, cursor, Limits::usual())
+}
+
 /// The questions of a file whose questions have these limits, up to its end.
 #[tactic(auto, unfolding(crate::specs::QuestionForms::file, it_forms::specs::FormReading::read))]
-pub fn bodies(
+pub fn bodies_within(
     alloc: Global,
     cursor: &mut Cursor<'_>,
     limits: Limits,

@@ -10,7 +10,7 @@ ghost use Rattle.it_question.specs.QuestionLimits.{usual};
 ghost use Rattle.it_question.specs.Lines.{letters_of_lines};
 ghost use Rattle.it_syntax.specs.Lines.{most_text_bytes};
 
-use crate::asking::bodies;
+use crate::asking::bodies_within;
 use crate::cursor::{Cursor, Line};
 use crate::lines::file_lines;
 use crate::places::{count, letters_left, place};
@@ -80,7 +80,7 @@ pub fn questions_within(
 {
     let lines = file_lines(alloc, bytes)?;
     let mut cursor = Cursor::at(lines.as_slice());
-    match bodies(alloc, &mut cursor, limits) {
+    match bodies_within(alloc, &mut cursor, limits) {
         Ok(bodies) => {
             // named before it is answered, so that the contract of the call stands at the answer
             let questions = with_texts(alloc, lines, bodies)?;
