@@ -61,6 +61,7 @@ fn elimination(alloc: Global, cursor: &mut Cursor<'_>, names: &Names) -> Result<
 }
 
 /// Whether a question with these names has too many for a containment.
+#[tactic(auto, unfolding(crate::specs::QuestionForms::region_flag))]
 fn is_too_wide(names: &Names) -> bool
     ensures flag { region_flag names.now ≡ flag_if_large result }
     ensures few { OnFalse result (length names.now.variables ≤ most_names) }
