@@ -117,7 +117,12 @@ fn question(alloc: Global, cursor: &mut Cursor<'_>, limits: Limits) -> Result<Bo
     ensures { ParsesBy body_view result (forms.question limits) cursor.old cursor.new }
 {
     let mut names = Names::new(alloc);
-    names_to_end(cursor, &mut names, NameSort::Variable, limits.variables as usize)?;
+    names_to_end(
+        cursor,
+        &mut names,
+        NameSort::Variable,
+        limits.variables as usize,
+    )?;
     names_line(cursor, &mut names, NameSort::Rate, MOST_RATES, RATES)?;
     let lines = own_lines(alloc, cursor, &names, MOST_LINES, MOST_LINES)?;
     let verb = verb(alloc, cursor, &names, &lines, limits)?;
