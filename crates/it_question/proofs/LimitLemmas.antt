@@ -408,9 +408,9 @@ verb_keeps limits own v = (
 -- ---- questions
 
 -- within the limits, with a table that isn't too large
-pub record IsRead (limits : Limits) (q : BodyView) : Type 0 where
-  pub limits : IsQuestionWithin limits q
-  pub small : HasTableWithin limits q
+pub record IsRead (allowed : Limits) (q : BodyView) : Type 0 where
+  pub limits : IsQuestionWithin allowed q
+  pub small : HasTableWithin allowed q
 
 -- a question within limits that a space meets, as those of all files
 pub within_any : (limits : Limits) (q : BodyView) → limits.variables ≤ most_variables → IsQuestionWithin limits q → IsQuestion q
