@@ -1,19 +1,19 @@
 -- Rows kept up to a number of them, row after row.
-use Rattle.std.proofs.Common.{◌≡◌, ◌⊎◌, inl, inr, ◌↔◌, ℕ, ◌+◌, ◌<◌, ◌≤◌, ℤ, arith, pos, refl, sym, ap, ap₂, subst, List, [], ◌∷◌, ◌++◌, map, length, drop, get_or, Bool, true, false, cond, if◌then◌else◌}
+use Rattle.std.proofs.Common.{◌≡◌, ◌⊎◌, inl, inr, ◌↔◌, ℕ, ◌+◌, ◌<◌, ◌≤◌, ℤ, ◌<ℤ◌, arith, pos, refl, sym, ap, subst, ◌∙◌, append_assoc, List, [], ◌∷◌, ◌++◌, length, drop, get_or, false}
 use Rattle.std.specs.List.{flat_map, AllByRecursion as Every}
 use Rattle.std.specs.Global.{Vec}
-use Rattle.std.specs.Prelude.{filter}
+use Rattle.std.specs.Prelude.{not, Contains}
+use Rattle.std.specs.Ordering.{int_eq}
+use Rattle.std.proofs.lemmas.Int.{ints}
 use Rattle.std.proofs.lemmas.List.{length-map}
+use Rattle.std.proofs.lemmas.List.Elements.{filter-append}
 use Rattle.it_space.proofs.ListLemmas.{drop_item}
 use Rattle.it_space.specs.Rows.{Terms, IsCanonical, coefficient}
 use Rattle.it_space.specs.Divisors.{lowest_terms}
-use Rattle.it_space.specs.Cancelling.{cancelled_row}
-use Rattle.it_eliminate.proofs.MemberLemmas.{member_of, contains_of, every_member, member_every}
-use Rattle.it_eliminate.proofs.StepLemmas.{test_from_zero}
-use Rattle.it_eliminate.specs.Elimination.{with_row, with_lowest_rows, is_positive_at, is_negative_at, is_zero_at, pairs_of, results, next_list, PairsFit}
-use Rattle.it_eliminate.specs.Gathering.{flat_of, pair_of, up_pairs, DownFits, UpFits, IsKeptList, Gathers, rows_of}
-
--- ---- one row
+use Rattle.it_eliminate.proofs.MemberLemmas.{Member, member_of, contains_of, every_member, member_every, member-filter, member_filtered}
+use Rattle.it_eliminate.proofs.ResultLemmas.{results_are}
+use Rattle.it_eliminate.specs.Elimination.{with_row, with_lowest_rows, is_zero_at, next_list, PairsFit}
+use Rattle.it_eliminate.specs.Gathering.{flat_of, up_pairs, DownFits, UpFits, IsKeptList, Gathers, rows_of, rows_with}
 
 -- ---- many rows
 
@@ -29,14 +29,21 @@ gathers_both most xs ys old mid new f g = record {
 }
 
 -- what is still to come leads from what is there to an end
-abbrev pub Leads : ℕ → (Terms → List Terms) → List Terms → ℕ → List Terms → List Terms → Type 0
-Leads most g rows i first now = (s : List Terms) → Gathers most (flat_map g (drop i rows)) now s → Gathers most (flat_map g rows) first s
+abbrev pub Leads : ℕ → (Terms → List Terms) → List Terms → List Terms → List Terms → List Terms → Type 0
+Leads most g rest rows first now = (s : List Terms) → Gathers most (flat_map g rest) now s → Gathers most (flat_map g rows) first s
 
-pub leads_more : (most : ℕ) (g : Terms → List Terms) (rows : List Terms) (i : ℕ) (row : Terms) (first now new : List Terms)
-    → i < length rows → row ≡ get_or rows i row
-    → Gathers most (g row) now new → Leads most g rows i first now → Leads most g rows (i + 1) first new
-leads_more most g rows i row first now new h e f l s k = l s (subst (λ (rs : List Terms). Gathers most (flat_map g rs) now s) (sym (drop_item rows i row h e))
-    (gathers_both most (g row) (flat_map g (drop (i + 1) rows)) now new s f k))
+pub leads_more : (most : ℕ) (g : Terms → List Terms) (rest rows : List Terms) (row : Terms) (later first now new : List Terms) → rest ≡ row ∷ later
+    → Gathers most (g row) now new → Leads most g rest rows first now → Leads most g later rows first new
+leads_more most g rest rows row later first now new e f l s k = l s (subst (λ (rs : List Terms). Gathers most (flat_map g rs) now s) (sym e)
+    (gathers_both most (g row) (flat_map g later) now new s f k))
+
+-- the rows that have the coordinate: those so far, and those still to come
+pub others_more : (at : ℕ) (rest all : List Terms) (row : Terms) (later old new : List Terms) → rest ≡ row ∷ later
+    → new ≡ old ++ rows_with at (row ∷ []) → old ++ rows_with at rest ≡ all → new ++ rows_with at later ≡ all
+others_more at rest all row later old new e f is = ap (λ (rs : List Terms). rs ++ rows_with at later) f
+    ∙ append_assoc old (rows_with at (row ∷ [])) (rows_with at later)
+    ∙ ap (λ (rs : List Terms). old ++ rs) (sym (filter-append (λ r. not (is_zero_at at r)) (row ∷ []) later)
+    ∙ sym (ap (rows_with at) e)) ∙ is
 
 -- what holds of each still to come holds of all
 abbrev pub Rests : (Terms → Type 0) → List Terms → ℕ → Type 0
@@ -53,68 +60,43 @@ module _ (P : Terms → Type 0) (rows : List Terms) (i : ℕ) (row : Terms) (h :
         (subst (λ (rs : List Terms). Every P rs) row_is_first (r.1 a)).1,
   )
 
--- ---- the list of results, row by row
+-- ---- the whole list, from nothing
 
-filter_is : (test : Terms → Bool) (rows : List Terms) → filter test rows ≡ flat_map (λ (r : Terms). if test r then r ∷ [] else []) rows
-filter_is test [] = refl
-filter_is test (r ∷ rows) = by_test (test r) (filter_is test rows)
-  where
-    by_test : (b : Bool) → filter test rows ≡ flat_map (λ (r : Terms). if test r then r ∷ [] else []) rows
-        → cond b (r ∷ filter test rows) (filter test rows) ≡ (if b then r ∷ [] else []) ++ flat_map (λ (r : Terms). if test r then r ∷ [] else []) rows
-    by_test true ih = ap (λ rs. r ∷ rs) ih
-    by_test false ih = ih
-
-map_filter_is : (f : Terms → Terms) (test : Terms → Bool) (rows : List Terms)
-    → map f (filter test rows) ≡ flat_map (λ (r : Terms). if test r then f r ∷ [] else []) rows
-map_filter_is f test [] = refl
-map_filter_is f test (r ∷ rows) = by_test (test r) (map_filter_is f test rows)
-  where
-    by_test : (b : Bool) → map f (filter test rows) ≡ flat_map (λ (r : Terms). if test r then f r ∷ [] else []) rows
-        → map f (cond b (r ∷ filter test rows) (filter test rows)) ≡ (if b then f r ∷ [] else [])
-        ++ flat_map (λ (r : Terms). if test r then f r ∷ [] else []) rows
-    by_test true ih = ap (λ rs. f r ∷ rs) ih
-    by_test false ih = ih
-
-flat_filter_is : (f g : Terms → List Terms) (test : Terms → Bool) (rows : List Terms) → ((r : Terms) → f r ≡ g r)
-    → flat_map f (filter test rows) ≡ flat_map (λ (r : Terms). if test r then g r else []) rows
-flat_filter_is f g test [] h = refl
-flat_filter_is f g test (r ∷ rows) h = by_test (test r) (flat_filter_is f g test rows h)
-  where
-    by_test : (b : Bool) → flat_map f (filter test rows) ≡ flat_map (λ (r : Terms). if test r then g r else []) rows
-        → flat_map f (cond b (r ∷ filter test rows) (filter test rows)) ≡ (if b then g r else []) ++ flat_map (λ (r : Terms). if test r then g r else []) rows
-    by_test true ih = ap₂ (λ xs ys. xs ++ ys) (h r) ih
-    by_test false ih = ih
-
-pub results_is : (at : ℕ) (rows : List Terms) → results at rows ≡ flat_map (flat_of at) rows ++ flat_map (up_pairs at rows) rows
-unfolding results
-results_is at rows = ap₂ (λ xs ys. xs ++ ys) (filter_is (is_zero_at at) rows)
-    (flat_filter_is (λ up. pairs_of at up rows) (λ up. flat_map (pair_of at up) rows) (is_positive_at at) rows
-    (λ up. map_filter_is (cancelled_row at up) (is_negative_at at) rows))
-
--- the whole list, from nothing
-pub next_kept : (most at : ℕ) (rows none mid new : List Terms) → none ≡ [] → Gathers most (flat_map (flat_of at) rows) none mid
-    → Gathers most (flat_map (up_pairs at rows) rows) mid new → IsKeptList most (next_list at rows) new
-next_kept most at rows none mid new e f g = subst (λ (rs : List Terms). IsKeptList most (with_lowest_rows [] rs) new) (sym (results_is at rows))
-    ((gathers_both most (flat_map (flat_of at) rows) (flat_map (up_pairs at rows) rows) none mid new f g).keeps []
+pub next_kept : (most at : ℕ) (rows others none mid new : List Terms) → none ≡ [] → others ≡ rows_with at rows
+    → Gathers most (flat_map (flat_of at) rows) none mid → Gathers most (flat_map (up_pairs at others) others) mid new
+    → IsKeptList most (next_list at rows) new
+next_kept most at rows others none mid new e o f g = subst (λ (rs : List Terms). IsKeptList most (with_lowest_rows [] rs) new)
+    (sym (results_are at rows others o))
+    ((gathers_both most (flat_map (flat_of at) rows) (flat_map (up_pairs at others) others) none mid new f g).keeps []
     (record { is = inl e; canonical = subst (λ (rs : List Terms). Every IsCanonical rs) (sym e) tt }))
-
-pub gathers_flat : (most at : ℕ) (row same : Terms) (old new : List Terms) → coefficient row at ≡ pos 0 → same ≡ row
-    → Gathers most (same ∷ []) old new → Gathers most (flat_of at row) old new
-gathers_flat most at row same old new e f g = subst (λ (b : Bool). Gathers most (if b then row ∷ [] else []) old new)
-    (sym (test_from_zero at row e)) (subst (λ (r : Terms). Gathers most (r ∷ []) old new) f g)
 
 -- ---- the pairs
 
-pub pairs_fit : (at : ℕ) (rows : List Terms) → Every (UpFits at rows) rows → PairsFit at rows
-pairs_fit at rows f up down m n h k = every_member (DownFits at up) rows down
-    (every_member (UpFits at rows) rows up f (member_of rows up m) h) (member_of rows down n) k
+module _ (at : ℕ) (rows others : List Terms) (is : others ≡ rows_with at rows) where
+  other : (row : Terms) → Contains rows row → is_zero_at at row ≡ false → Member row others
+  other row m e = subst (λ (rs : List Terms). Member row rs) (sym is)
+      (member-filter (λ r. not (is_zero_at at r)) row rows (member_of rows row m) (ap not e))
 
-pub fit_pairs : (at : ℕ) (rows : List Terms) → PairsFit at rows → Every (UpFits at rows) rows
-fit_pairs at rows f = member_every (UpFits at rows) rows (λ up m h. member_every (DownFits at up) rows
-    (λ down n k. f up down (contains_of rows up m) (contains_of rows down n) h k))
+  row_of : (row : Terms) → Member row others → Contains rows row
+  row_of row m = contains_of rows row (member_filtered (λ r. not (is_zero_at at r)) row rows (subst (λ (rs : List Terms). Member row rs) is m)).0
 
-pub wide_pair : {W : Type 0} (at : ℕ) (rows : List Terms) → (W → ¬ (Every (UpFits at rows) rows)) → W → ¬ (PairsFit at rows)
-wide_pair at rows f w p = f w (fit_pairs at rows p)
+  pub pairs_fit : Every (UpFits at others) others → PairsFit at rows
+  pairs_fit f up down m n h k = every_member (DownFits at up) others down
+      (every_member (UpFits at others) others up f (other up m (some_is_not_zero (coefficient up at) h)) h)
+      (other down n (negative_is_not_zero (coefficient down at) k)) k
+    where
+      some_is_not_zero : (z : ℤ) → pos 0 <ℤ z → int_eq z (pos 0) ≡ false
+      some_is_not_zero z e = grind (arith, ints)
+
+      negative_is_not_zero : (z : ℤ) → z <ℤ pos 0 → int_eq z (pos 0) ≡ false
+      negative_is_not_zero z e = grind (arith, ints)
+
+  pub fit_pairs : PairsFit at rows → Every (UpFits at others) others
+  fit_pairs f = member_every (UpFits at others) others (λ up m h. member_every (DownFits at up) others
+      (λ down n k. f up down (row_of up m) (row_of down n) h k))
+
+  pub wide_pair : {W : Type 0} → (W → ¬ (Every (UpFits at others) others)) → W → ¬ (PairsFit at rows)
+  wide_pair f w p = f w (fit_pairs p)
 
 -- ---- how many there are
 

@@ -5,6 +5,7 @@ pub mod OrderLemmas
 pub mod StepLemmas
 pub mod RateLemmas
 pub mod KeyLemmas
+pub mod ResultLemmas
 pub mod KeptLemmas
 pub mod EndLemmas
 pub mod SpaceLemmas

@@ -1,5 +1,5 @@
 -- No public clause cites this module: the list after one rate gathered row by row.
-use Rattle.std.specs.Prelude.{◌≡◌, ◌⊎◌, ℕ, ℤ, pos, ◌<◌, ◌<ℤ◌, List, [], ◌∷◌, length, map, if◌then◌else◌}
+use Rattle.std.specs.Prelude.{◌≡◌, ◌⊎◌, ℕ, ℤ, pos, ◌<◌, ◌<ℤ◌, List, [], ◌∷◌, length, map, filter, not, if◌then◌else◌}
 use Rattle.std.specs.Global.{Vec}
 use Rattle.std.specs.List.{flat_map, AllByRecursion as Every}
 use Rattle.it_space.specs.Rows.{Terms, IsCanonical, coefficient}
@@ -13,6 +13,10 @@ rows_of vs = map (λ v. v.items) vs
 -- a row if it lacks the coordinate, else none
 abbrev pub flat_of : ℕ → Terms → List Terms
 flat_of at row = if is_zero_at at row then row ∷ [] else []
+
+-- the rows that have the coordinate, in order
+abbrev pub rows_with : ℕ → List Terms → List Terms
+rows_with at rows = filter (λ row. not (is_zero_at at row)) rows
 
 -- the row that cancels the coordinate between up and down, if down is negative there
 abbrev pub pair_of : ℕ → Terms → Terms → List Terms

@@ -65,7 +65,7 @@ pub fn rows_after(
     let ordered = ordered_rows(alloc, rows)?;
     let mut current = row_list(alloc, ordered)?;
     for rate in rates {
-        current = after_rate(alloc, current.as_slice(), space, *rate, most)?;
+        current = after_rate(alloc, current, space, *rate, most)?;
     }
     Ok(current)
 }
@@ -73,14 +73,14 @@ pub fn rows_after(
 /// The rows in order after the elimination of `rate`, if they are at most `most`.
 fn after_rate(
     alloc: Global,
-    rows: &[Row],
+    rows: Vec<Row>,
     space: Space,
     rate: u8,
     most: usize,
 ) -> Result<Vec<Row>, Stop>
     requires { IsSpace space }
-    ensures rows { IfOk result (λ v. EliminationEnds (2 ^ space.variables) most rows.now (rate ∷ []) (RegionOf v.items)) }
-    ensures stop { IfErr result (StopsBy (EliminationEnds (2 ^ space.variables) most rows.now (rate ∷ []))) }
+    ensures rows { IfOk result (λ v. EliminationEnds (2 ^ space.variables) most rows.items (rate ∷ []) (RegionOf v.items)) }
+    ensures stop { IfErr result (StopsBy (EliminationEnds (2 ^ space.variables) most rows.items (rate ∷ []))) }
 {
     let list = match next_list(alloc, rows, coordinate(space, rate), most) {
         Ok(list) => list,

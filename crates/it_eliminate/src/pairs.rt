@@ -1,47 +1,52 @@
 //! The list of rows after the elimination of one rate. To gather a row is to append it in lowest terms, unless it is zero or there
 //! already, as long as there are at most `most` rows.
-ghost use Rattle.std.specs.Prelude.{◌≡◌, pos, ◌<ℤ◌, OnOk, IfOk, IfErr};
+ghost use Rattle.std.specs.Prelude.{◌≡◌, pos, ◌<ℤ◌, [], ◌∷◌, ◌++◌, OnOk, IfOk, IfErr};
 ghost use Rattle.it_space.specs.Rows.{coefficient};
 ghost use Rattle.it_space.specs.declared.faults.RowFault.TheVariants.{Wide as IsTooWide};
 ghost use Rattle.it_eliminate.specs.Elimination.{next_list, PairsFit};
 ghost use Rattle.std.specs.List.{AllByRecursion as Every, flat_map};
-ghost use Rattle.it_eliminate.specs.Gathering.{rows_of, pair_of, up_pairs, flat_of, DownFits, UpFits, Gathers, IsKeptList};
+ghost use Rattle.it_eliminate.specs.Gathering.{rows_of, rows_with, pair_of, up_pairs, flat_of, DownFits, UpFits, Gathers, IsKeptList};
 
 use crate::ordered::gather;
 use indexmap::IndexSet;
 use it_space::{Row, RowFault, cancel};
 use std::alloc::{AllocError, Global};
 
-/// Gathers `row` if it lacks coordinate `at`.
+/// Gathers `row` if it lacks coordinate `at`, else appends it to `others`.
 fn gather_flat(
-    alloc: Global,
     list: &mut IndexSet<Vec<(u32, i128)>>,
-    row: &Row,
+    others: &mut Vec<Row>,
+    row: Row,
     at: u32,
     most: usize,
 ) -> Result<(), AllocError>
-    ensures { OnOk result (Gathers most (flat_of at row.now) (rows_of list.old.keys) (rows_of list.new.keys)) }
+    ensures flat { OnOk result (Gathers most (flat_of at row) (rows_of list.old.keys) (rows_of list.new.keys)) }
+    ensures others { OnOk result (others.new.items ≡ others.old.items ++ rows_with at (row ∷ [])) }
 {
     if row.coefficient(at) == 0 {
-        gather(list, row.copy(alloc)?, most)?;
+        gather(list, row, most)?;
+    } else {
+        others.push(row)?;
     }
     Ok(())
 }
 
-/// Gathers the rows without coordinate `at`, in order.
+/// Gathers the rows without coordinate `at`, in order, and returns the others, in order.
 fn gather_flats(
     alloc: Global,
     list: &mut IndexSet<Vec<(u32, i128)>>,
-    rows: &[Row],
+    rows: Vec<Row>,
     at: u32,
     most: usize,
-) -> Result<(), AllocError>
-    ensures { OnOk result (Gathers most (flat_map (flat_of at) rows.now) (rows_of list.old.keys) (rows_of list.new.keys)) }
+) -> Result<Vec<Row>, AllocError>
+    ensures flats { OnOk result (Gathers most (flat_map (flat_of at) rows.items) (rows_of list.old.keys) (rows_of list.new.keys)) }
+    ensures others { IfOk result (λ v. v.items ≡ rows_with at rows.items) }
 {
+    let mut others = Vec::new(alloc);
     for row in rows {
-        gather_flat(alloc, list, row, at, most)?;
+        gather_flat(list, &mut others, row, at, most)?;
     }
-    Ok(())
+    Ok(others)
 }
 
 /// Gathers the row that cancels coordinate `at` between `up`, which is positive there, and `down`, if that is negative there.
@@ -126,16 +131,16 @@ fn gather_ups(
 /// `most` too, but may lack some of them.
 pub fn next_list(
     alloc: Global,
-    rows: &[Row],
+    rows: Vec<Row>,
     at: u32,
     most: usize,
 ) -> Result<IndexSet<Vec<(u32, i128)>>, RowFault>
-    ensures list { IfOk result (λ s. IsKeptList most (next_list at rows.now) (rows_of s.keys)) }
-    ensures fits { OnOk result (PairsFit at rows.now) }
-    ensures wide { IfErr result (λ fault. fault ≡ IsTooWide → ¬ (PairsFit at rows.now)) }
+    ensures list { IfOk result (λ s. IsKeptList most (next_list at rows.items) (rows_of s.keys)) }
+    ensures fits { OnOk result (PairsFit at rows.items) }
+    ensures wide { IfErr result (λ fault. fault ≡ IsTooWide → ¬ (PairsFit at rows.items)) }
 {
     let mut list = IndexSet::new(alloc);
-    gather_flats(alloc, &mut list, rows, at, most)?;
-    gather_ups(alloc, &mut list, rows, at, most)?;
+    let others = gather_flats(alloc, &mut list, rows, at, most)?;
+    gather_ups(alloc, &mut list, others.as_slice(), at, most)?;
     Ok(list)
 }

@@ -9,7 +9,7 @@ use it_space::Row;
 use std::alloc::{AllocError, Global};
 
 /// `row` as the constraint of the `row` line number `line`, counted from 1.
-pub fn row_constraint(alloc: Global, line: usize, row: &Row) -> Result<Constraint, AllocError>
+fn row_constraint(alloc: Global, line: usize, row: &Row) -> Result<Constraint, AllocError>
     requires { line ≤ most_system_rows }
     ensures { IfOk result (λ c. c ∷ [] ≡ row_constraints line (row.now ∷ [])) }
 {

@@ -1,7 +1,9 @@
 -- Rows that are taken out of the constraints of a problem, and put back.
 use Rattle.std.proofs.Common.{◌≡◌, ℕ, suc, ◌+◌, List, [], ◌∷◌, ◌++◌, length, take, drop, refl, sym, ap, ap₂, subst, ◌∙◌, arith, append_assoc, length-append}
-use Rattle.std.proofs.Math.Seq.{take-append_seam, drop-append_seam}
+use Rattle.std.specs.Prelude.{get_or}
+use Rattle.std.proofs.Math.Seq.{take-append_seam, drop-append_seam, get_or-append_seam}
 use Rattle.it_problems.specs.declared.problems.Constraint.{Constraint}
+use Rattle.it_problems.specs.declared.problems.Kind.{Kind}
 use Rattle.it_problems.specs.declared.problems.Kind.TheVariants.{Inequality}
 use Rattle.it_problems.specs.declared.problems.Origin.TheVariants.{Rate}
 use Rattle.it_space.specs.Rows.{Terms}
@@ -32,12 +34,12 @@ module _ (before : List Constraint) (place : ℕ) (place_is : length before ≡ 
   after_next : (c : Constraint) (cs : List Constraint) → drop (suc place) (before ++ c ∷ cs) ≡ cs
   after_next c cs = ap (λ (n : ℕ). drop n (before ++ c ∷ cs)) (let e : suc place ≡ place + 1 = omega arith in e) ∙ after_is c cs
 
-  front_with : (c : Constraint) (cs : List Constraint) → take (place + 1) (before ++ c ∷ cs) ≡ before ++ c ∷ []
-  front_with c cs = subst (λ (n : ℕ). take n (before ++ c ∷ cs) ≡ before ++ c ∷ []) e
-      (ap (take (length (before ++ c ∷ []))) (sym (append_assoc before (c ∷ []) cs)) ∙ take-append_seam (before ++ c ∷ []) cs)
-    where
-      e : length (before ++ c ∷ []) ≡ place + 1
-      e = let n = length-append before (c ∷ []) in omega (arith, n, place_is)
+  -- the constraint at the place
+  pub row_at : (old : List Constraint) (line : ℕ) (row : Terms) (rows : List Terms) (c : Constraint) → old ≡ before ++ row_constraints line (row ∷ rows)
+      → c ≡ get_or old place c → c ≡ record { row = row; kind = Inequality; origin = Rate line }
+  row_at old line row rows c o e = e ∙ ap (λ (cs : List Constraint). get_or cs place c) o
+      ∙ ap (λ (n : ℕ). get_or (before ++ row_constraints line (row ∷ rows)) n c) (sym place_is)
+      ∙ get_or-append_seam before record { row = row; kind = Inequality; origin = Rate line } (row_constraints (line + 1) rows) c
 
   -- a row that was taken out
   pub row_removed : (old gone new : List Constraint) (line : ℕ) (row : Terms) (rows : List Terms) → old ≡ before ++ row_constraints line (row ∷ rows)
@@ -51,14 +53,13 @@ module _ (before : List Constraint) (place : ℕ) (place_is : length before ≡ 
       (ap (numbered line) (ap (drop place) gone_is ∙ rest_is rest) ∙ numbered_rows line (line + 1) rows)
 
   -- a row that was put in
-  pub row_inserted : (old more new : List Constraint) (line : ℕ) (row : Terms) (rows : List Terms) (c : Constraint)
-      → c ∷ [] ≡ row_constraints line (row ∷ []) → old ≡ before ++ row_constraints line rows
-      → more ≡ take place old ++ c ∷ drop place old → new ≡ take (place + 1) more ++ numbered (line + 1) (drop (place + 1) more)
-      → new ≡ before ++ row_constraints line (row ∷ rows)
-  row_inserted old more new line row rows c is o m n =
+  pub row_inserted : (old more new : List Constraint) (line : ℕ) (rows : List Terms) (c : Constraint) → c.kind ≡ Inequality
+      → old ≡ before ++ row_constraints line rows → more ≡ take place old ++ c ∷ drop place old
+      → new ≡ take place more ++ numbered line (drop place more) → new ≡ before ++ row_constraints line (c.row ∷ rows)
+  row_inserted old more new line rows c is o m n =
       let rest = row_constraints line rows in
       let more_is : more ≡ before ++ c ∷ rest = m ∙ ap₂ (λ (xs ys : List Constraint). xs ++ c ∷ ys) (ap (take place) o ∙ front_is rest)
       (ap (drop place) o ∙ rest_is rest) in
-      n ∙ ap₂ (λ (xs ys : List Constraint). xs ++ ys) (ap (take (place + 1)) more_is ∙ front_with c rest)
-      (ap (numbered (line + 1)) (ap (drop (place + 1)) more_is ∙ after_is c rest) ∙ numbered_rows (line + 1) line rows)
-      ∙ append_assoc before (c ∷ []) (row_constraints (line + 1) rows) ∙ ap (λ (cs : List Constraint). before ++ (cs ++ row_constraints (line + 1) rows)) is
+      n ∙ ap₂ (λ (xs ys : List Constraint). xs ++ ys) (ap (take place) more_is ∙ front_is (c ∷ rest))
+      (ap (numbered line) (ap (drop place) more_is ∙ rest_is (c ∷ rest))
+      ∙ ap₂ (λ (k : Kind) (cs : List Constraint). record { row = c.row; kind = k; origin = Rate line } ∷ cs) is (numbered_rows (line + 1) line rows))

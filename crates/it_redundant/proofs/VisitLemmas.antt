@@ -1,9 +1,11 @@
 -- Rows visited one after the other.
-use Rattle.std.proofs.Common.{◌≡◌, ◌⊎◌, inl, inr, ℕ, ◌+◌, ◌<◌, ◌≤◌, List, [], ◌∷◌, ◌++◌, map, length, drop, refl, sym, ap, subst, ◌∙◌, arith, append_assoc, append-nil, length-append}
+use Rattle.std.proofs.Common.{◌≡◌, ◌⊎◌, inl, inr, ℕ, ◌+◌, ◌<◌, ◌≤◌, List, [], ◌∷◌, ◌++◌, map, length, drop, get_or, refl, sym, ap, subst, ◌∙◌, arith, append_assoc, append-nil, length-append}
 use Rattle.std.proofs.lemmas.List.{length-map}
 use Rattle.std.proofs.lemmas.List.Elements.{All-append, All-cons, All-nil}
 use Rattle.it_space.specs.Answers.{CertificateView}
 use Rattle.it_problems.specs.declared.problems.Constraint.{Constraint}
+use Rattle.it_problems.specs.declared.problems.Kind.TheVariants.{Inequality}
+use Rattle.it_problems.specs.declared.problems.Origin.TheVariants.{Rate}
 use Rattle.it_problems.specs.Problems.{ProblemView, IsProblem}
 use Rattle.it_space.specs.Rows.{Terms, IsOver}
 use Rattle.it_space.specs.Spaces.{size_of}
@@ -18,6 +20,7 @@ use Rattle.it_redundant.specs.ReductionSteps.{AreRowsUpTo}
 use Rattle.it_eliminate.proofs.RowLemmas.{problem_limits, row_count, row_parts}
 use Rattle.it_redundant.proofs.ReductionLemmas.{few_kept, rows_of_parts, some_keep}
 use Rattle.it_redundant.proofs.ClosedLemmas.{closed_after}
+use Rattle.it_redundant.proofs.NumberedLemmas.{row_at}
 
 -- the rows of what stays, by its needs as they are kept
 pub rows_kept : (ks : List (Terms × Need)) → kept_rows (map (λ k. (k.0, need_view k.1)) ks) ≡ map (λ k. k.0) ks
@@ -137,6 +140,12 @@ module _ (givens : ProblemView) (kept : List (Terms × Need)) (line place : ℕ)
     pub lines_within : p ≡ with_rows givens (xs ++ row ∷ after) → length kept + length after < 65535 → line + length p.constraints ≤ 65536 + place
     lines_within is few = let n = rows_count is in omega (arith, n, few, line_is)
 
+    -- the row's constraint
+    pub own_constraint : (c : Constraint) → p ≡ with_rows givens (xs ++ row ∷ after) → c ≡ get_or p.constraints place c
+        → c ≡ record { row = row; kind = Inequality; origin = Rate line }
+    own_constraint c is e = row_at before place before_place p.constraints line row after c
+        (ap (λ (q : ProblemView). q.constraints) is ∙ in_parts (row ∷ after)) e
+
     -- without the row
     pub taken_out : (cs : List Constraint) → p ≡ with_rows givens (xs ++ row ∷ after)
         → ((before : List Constraint) (row : Terms) (rows : List Terms) → length before ≡ place
@@ -154,12 +163,14 @@ module _ (givens : ProblemView) (kept : List (Terms × Need)) (line place : ℕ)
         in (omega (arith, e, n, r, b), λ few. omega (arith, e, n, r, b, few, line_is))
 
     -- with the row again
-    pub put_back : (cs : List Constraint) → p ≡ with_rows givens (xs ++ after)
+    pub put_back : (c : Constraint) (cs : List Constraint) → c ≡ record { row = row; kind = Inequality; origin = Rate line }
+        → p ≡ with_rows givens (xs ++ after)
         → ((before : List Constraint) (rows : List Terms) → length before ≡ place → p.constraints ≡ before ++ row_constraints line rows
-        → cs ≡ before ++ row_constraints line (row ∷ rows))
+        → cs ≡ before ++ row_constraints line (c.row ∷ rows))
         → record { space = p.space; constraints = cs } ≡ with_rows givens ((xs ++ row ∷ []) ++ after)
-    put_back cs is in_place = ap (λ (q : ProblemView). record { space = q.space; constraints = cs }) is
-        ∙ as_problem cs (row ∷ after) (in_place before after before_place (ap (λ (q : ProblemView). q.constraints) is ∙ in_parts after))
+    put_back c cs own is in_place = ap (λ (q : ProblemView). record { space = q.space; constraints = cs }) is
+        ∙ as_problem cs (row ∷ after) (in_place before after before_place (ap (λ (q : ProblemView). q.constraints) is ∙ in_parts after)
+        ∙ ap (λ (d : Constraint). before ++ row_constraints line (d.row ∷ after)) own)
         ∙ ap (with_rows givens) (sym (append_assoc xs (row ∷ []) after))
 
 -- with the row again the limits are kept

@@ -1,12 +1,11 @@
 //! The problem under which a row is judged, from one row to the next: the givens, and all other rows that are still in the list.
-ghost use Rattle.std.specs.Prelude.{◌≡◌, ◌++◌, ◌+◌, ◌<◌, ◌≤◌, drop, length, take, OnErr, OnOk};
+ghost use Rattle.std.specs.Prelude.{◌≡◌, ◌++◌, ◌+◌, ◌<◌, ◌≤◌, drop, get_or, length, take, OnErr, OnOk};
+ghost use Rattle.it_problems.specs.declared.problems.Kind.TheVariants.{Inequality};
 ghost use Rattle.it_redundant.specs.ReductionSteps.{IsInserted, IsRemoved, numbered};
 ghost use Rattle.it_space.specs.Rows.{most_system_rows};
 
-use it_eliminate::row_constraint;
 use it_problems::{Constraint, Origin};
-use it_space::Row;
-use std::alloc::{AllocError, Global};
+use std::alloc::AllocError;
 
 /// Numbers the constraints from `place` on as `row` lines, from number `line` on.
 fn number_from(constraints: &mut Vec<Constraint>, place: usize, line: usize)
@@ -21,31 +20,33 @@ fn number_from(constraints: &mut Vec<Constraint>, place: usize, line: usize)
     }
 }
 
-/// Removes the row at `place`, which is `row` line number `line`; the numbers of those after it go down by one.
-pub fn remove_row(constraints: &mut Vec<Constraint>, place: usize, line: usize)
+/// Removes the row at `place`, which is `row` line number `line`, and returns its constraint; the numbers of those after it go down by
+/// one.
+pub fn remove_row(constraints: &mut Vec<Constraint>, place: usize, line: usize) -> Constraint
     requires place { place < length constraints.old.items }
     requires few { line + length constraints.old.items ≤ most_system_rows + 1 + place }
-    ensures { IsRemoved place line constraints.old.items constraints.new.items }
+    ensures row { result ≡ get_or constraints.old.items place result }
+    ensures rest { IsRemoved place line constraints.old.items constraints.new.items }
 {
-    constraints.remove(place);
+    let constraint = constraints.remove(place);
     number_from(constraints, place, line);
+    constraint
 }
 
-/// Inserts `row` at `place`, as `row` line number `line`; the numbers of those from there on go up by one.
+/// Inserts the row of `constraint` at `place`, as `row` line number `line`; the numbers of those from there on go up by one.
 pub fn insert_row(
-    alloc: Global,
     constraints: &mut Vec<Constraint>,
     place: usize,
     line: usize,
-    row: &Row,
+    constraint: Constraint,
 ) -> Result<(), AllocError>
     requires place { place ≤ length constraints.old.items }
     requires few { line + length constraints.old.items ≤ most_system_rows + place }
-    ensures put { OnOk result (IsInserted place line row.now constraints.old.items constraints.new.items) }
+    requires kind { constraint.kind ≡ Inequality }
+    ensures put { OnOk result (IsInserted place line constraint.row constraints.old.items constraints.new.items) }
     ensures stays { OnErr result (constraints.new.items ≡ constraints.old.items) }
 {
-    let constraint = row_constraint(alloc, line, row)?;
     constraints.insert(place, constraint)?;
-    number_from(constraints, place + 1, line + 1);
+    number_from(constraints, place, line);
     Ok(())
 }

@@ -51,7 +51,8 @@ pub fn reduce(
     Ok(reduced)
 }
 
-/// Like `reduce`, without the claims about the rows that are kept.
+/// Like `reduce`, without the claims about the rows that are kept. The caller keeps its rows, so each is copied twice: into the problem
+/// under which the others are judged, and into the result.
 fn reduced_rows(
     alloc: Global,
     rows: &[Row],
@@ -109,11 +110,11 @@ fn visit(
     reduction.givens.facts();
     let line = reduced.kept.len() + 1;
     let place = reduction.givens.constraints().len() + reduced.kept.len();
-    remove_row(&mut problem.constraints, place, line);
+    let constraint = remove_row(&mut problem.constraints, place, line);
     let proof = closed.prove(alloc, problem, rest.next, reduction.effort)?;
     put(alloc, reduced, rest.next, proof)?;
     if reduced.kept.len() == line {
-        insert_row(alloc, &mut problem.constraints, place, line, rest.next)?;
+        insert_row(&mut problem.constraints, place, line, constraint)?;
     }
     Ok(())
 }

@@ -7,13 +7,13 @@ use Rattle.it_eliminate.proofs.elimination.rows_after.Goals as goal
 pub returns-in_err-current-2-clause-stop : goal.returns-in_err-current-2-clause-stop
 returns-in_err-current-2-clause-stop c =
     let stops = stops_on (2 ^ c.args.space.variables) c.args.most _ c.loop-rate.current.items c.args.rates.now
-    c.loop-rate.rate-index c.loop-rate.invariant c.as_slice.result.now _ c.as_slice.ensures.value refl
+    c.loop-rate.rate-index c.loop-rate.invariant c.loop-rate.current.items _ refl refl
     c.loop-rate-test.true c.in_err-current-2.field-0.0 c.in_err-current-2.ensures.stop in
     search (rules, stops)
 
 pub loop-rate-preserved : goal.loop-rate-preserved
 loop-rate-preserved c = leads_on (2 ^ c.args.space.variables) c.args.most _ c.loop-rate.current.items c.args.rates.now
-    c.loop-rate.rate-index c.loop-rate.invariant c.as_slice.result.now _ c.as_slice.ensures.value refl
+    c.loop-rate.rate-index c.loop-rate.invariant c.loop-rate.current.items _ refl refl
     c.loop-rate-test.true c.in_ok-current-2.current.items c.in_ok-current-2.ensures.rows
 
 pub returns-clause-ends : goal.returns-clause-ends
