@@ -4,9 +4,9 @@ use Rattle.std.proofs.lemmas.List.{drop_all, get_or-map, length-map}
 use Rattle.std.proofs.lemmas.List.Elements.{All-head, All-tail}
 use Rattle.it_number.specs.Limit.{IsWithin}
 use Rattle.it_space.specs.Rows.{Terms, Ascends, coefficient, single_term}
+use Rattle.it_space.proofs.SpaceLemmas.{few_coordinates}
 use Rattle.it_space.proofs.TermLemmas.{ascends-single_term, ascends_lower}
 use Rattle.it_elemental.specs.Generators.{Generator}
-use Rattle.std.proofs.Math.Pow.{pow_mono}
 use Rattle.it_problems.specs.Problems.{ProblemView, IsProblem}
 use Rattle.it_space.specs.Spaces.{size_of}
 use Rattle.it_elemental.specs.Generators.{generators}
@@ -16,6 +16,7 @@ use Rattle.it_problems.specs.declared.problems.Kind.TheVariants.{Equation}
 use Rattle.it_polymatroid.specs.Elementals.{span}
 use Rattle.it_best.specs.declared.unknowns.Unknown.{Unknown}
 use Rattle.it_best.specs.Phases.{bounded_unknown, free_unknown, unknown_views, counterweight, first_phase, coordinate_terms, coordinate_row, coordinate_unknown, slacks, third_phase, left_equation, right_equation}
+use Rattle.it_best.specs.PhaseSteps.{most_equations}
 use Rattle.it_best.proofs.WalkLemmas.{piece_more, piece_end}
 
 -- the rows as those of generators
@@ -121,10 +122,8 @@ row_ascends size gs left right c w l r =
 
 -- ---- how many equations there are
 
-pub few_equations : (q : ProblemView) → IsProblem q → size_of q.space + length (generators q) + 2 < 2 ^ 22
-few_equations q k =
-    let power : 2 ^ q.space.variables ≤ 2 ^ 10 = pow_mono {i = q.space.variables} {j = 10} k.space.few in
-    omega (arith, few_generators q k, power, k.space.few_rates)
+pub few_equations : (q : ProblemView) → IsProblem q → size_of q.space + length (generators q) + 2 ≤ most_equations
+few_equations q k = omega (arith, few_generators q k, few_coordinates q.space k.space)
 
 -- ---- the phases as the code puts them together
 

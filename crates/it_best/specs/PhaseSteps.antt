@@ -4,10 +4,11 @@ use Rattle.it_rational.specs.Rational.{Rational, plus, minus}
 use Rattle.it_problems.specs.declared.problems.Kind.{Kind}
 use Rattle.it_problems.specs.Problems.{ProblemView, IsProblem}
 use Rattle.it_space.specs.Rows.{Terms, IsOver, ValueFits, point_of, negated_terms, value}
-use Rattle.it_space.specs.Spaces.{size_of}
+use Rattle.it_space.specs.Spaces.{most_coordinates, size_of}
 use Rattle.it_polymatroid.specs.Certificates.{IsCertificate}
 use Rattle.it_polymatroid.specs.Elementals.{span}
 use Rattle.it_elemental.specs.Generators.{Generator, generators, generators_of}
+use Rattle.it_elemental.specs.Places.{most_generators}
 use Rattle.it_tableau.specs.Operations.{rationals}
 use Rattle.it_tableau.specs.Problems.{feasibility_problem}
 use Rattle.it_run.specs.Readings.{Separates, SumsUp}
@@ -69,6 +70,10 @@ PhaseIsRight m us target solved = IsRightSolved (span 1 m) (columns us) target s
 -- the last equation of the third phase
 abbrev pub last_equation : ProblemView → ℕ
 last_equation q = right_equation (size_of q.space) (generators q)
+
+-- the greatest number that it may have
+abbrev pub most_equations : ℕ
+most_equations = most_coordinates + most_generators + 2
 
 -- the target of the third phase
 abbrev pub last_target : SidesView → Terms

@@ -1,10 +1,10 @@
 //! The unknowns of the three phases.
-ghost use Rattle.std.specs.Prelude.{◌≡◌, ◌≢◌, ◌<◌, ◌+◌, ◌^◌, ◌++◌, ◌∷◌, [], pos, List, length, map, All, IfOk, OnOk};
+ghost use Rattle.std.specs.Prelude.{◌≡◌, ◌≢◌, ◌<◌, ◌≤◌, ◌+◌, ◌^◌, ◌++◌, ◌∷◌, [], pos, List, length, map, All, IfOk, OnOk};
 ghost use Rattle.it_number.specs.Limit.{IsWithin};
 ghost use Rattle.it_space.specs.Rows.{coefficient};
 ghost use Rattle.it_space.specs.Spaces.{size_of};
 ghost use Rattle.it_elemental.specs.Generators.{Generator, generators, generator_at};
-ghost use Rattle.it_best.specs.PhaseSteps.{IsCoordinateKind, all_slacks, all_values, first_unknowns, row_at, third_unknowns};
+ghost use Rattle.it_best.specs.PhaseSteps.{IsCoordinateKind, all_slacks, all_values, first_unknowns, most_equations, row_at, third_unknowns};
 ghost use Rattle.it_best.specs.Phases.{coordinate_terms, counterweight, left_equation, right_equation, slack_by, unknown_view, unknown_views};
 
 use crate::sides::Sides;
@@ -96,7 +96,7 @@ fn generator_rows(alloc: Global, problem: &Problem) -> Result<Vec<Row>, AllocErr
 /// The number of the equation of the left side's value at the point, which is 1.
 pub fn left_equation(sides: &Sides<'_>) -> u32
     ensures value { result ≡ left_equation (size_of sides.now.problem.space) (generators sides.now.problem) }
-    ensures few { result < 2 ^ 22 }
+    ensures few { result ≤ most_equations }
 {
     sides.facts();
     sides.size() + sides.generator_count() + 1
@@ -105,7 +105,7 @@ pub fn left_equation(sides: &Sides<'_>) -> u32
 /// The number of the equation of the right side's value at the point, which is the factor.
 pub fn right_equation(sides: &Sides<'_>) -> u32
     ensures value { result ≡ right_equation (size_of sides.now.problem.space) (generators sides.now.problem) }
-    ensures few { result < 2 ^ 22 }
+    ensures few { result ≤ most_equations }
 {
     sides.facts();
     sides.size() + sides.generator_count() + 2

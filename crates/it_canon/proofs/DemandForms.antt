@@ -5,6 +5,7 @@ use Rattle.std.proofs.Math.Nat.{div-le_self, mul-le-mul_left}
 use Rattle.std.proofs.lemmas.Int.{ints}
 use Rattle.std.proofs.lemmas.Nat.{or_lt, pow_pos}
 use Rattle.it_number.proofs.Integers.{zring}
+use Rattle.it_space.specs.Bounds.{most_mass}
 use Rattle.it_space.proofs.EveryLemmas.{every_of, every-append}
 use Rattle.it_polymatroid.specs.Certificates.{Form}
 use Rattle.it_syntax.specs.declared.types.Atom.{Atom}
@@ -114,10 +115,10 @@ module _ (n m : ℕ) where
   plus_negation : (x y : ℤ) → x +ℤ neg_ℤ y ≡ x -ℤ y
   plus_negation x y = omega (arith, ints)
 
-  difference_up_to : (r : RelationView) → IsRelationOf n m r → HasSmallNumbers r → IsFormUpTo last_coordinate (2 ^ 106) (λ p. difference_at n p r)
+  difference_up_to : (r : RelationView) → IsRelationOf n m r → HasSmallNumbers r → IsFormUpTo last_coordinate most_mass (λ p. difference_at n p r)
   difference_up_to r h k =
       let both = common_denominator r in
-      form_same last_coordinate (length r.left * 2 ^ 98 + length r.right * 2 ^ 98) (2 ^ 106)
+      form_same last_coordinate (length r.left * 2 ^ 98 + length r.right * 2 ^ 98) most_mass
       (λ p. side_at n p both r.left +ℤ neg_ℤ (side_at n p both r.right)) (λ p. difference_at n p r) (omega (arith, h.few))
       (λ p. plus_negation (side_at n p both r.left) (side_at n p both r.right))
       (form-add last_coordinate (length r.left * 2 ^ 98) (length r.right * 2 ^ 98) (λ p. side_at n p both r.left) (negation (λ p. side_at n p both r.right))
@@ -127,44 +128,44 @@ module _ (n m : ℕ) where
 
   -- each side alone
   pub sides_up_to : (r : RelationView) → IsRelationOf n m r → HasSmallNumbers r
-      → IsFormUpTo last_coordinate (2 ^ 106) (left_form n r) × IsFormUpTo last_coordinate (2 ^ 106) (right_form n r)
+      → IsFormUpTo last_coordinate most_mass (left_form n r) × IsFormUpTo last_coordinate most_mass (right_form n r)
   sides_up_to r h k =
       let both = common_denominator r in (
-        form_same last_coordinate (length r.left * 2 ^ 98) (2 ^ 106) (left_form n r) (left_form n r) (omega (arith, h.few)) (λ p. refl)
+        form_same last_coordinate (length r.left * 2 ^ 98) most_mass (left_form n r) (left_form n r) (omega (arith, h.few)) (λ p. refl)
             (side_up_to both h.small_multiple r.left (every_of (λ (t : Term). IsAtomOf n m t.atom) r.left h.left) k.0),
-        form_same last_coordinate (length r.right * 2 ^ 98) (2 ^ 106) (right_form n r) (right_form n r) (omega (arith, h.few)) (λ p. refl)
+        form_same last_coordinate (length r.right * 2 ^ 98) most_mass (right_form n r) (right_form n r) (omega (arith, h.few)) (λ p. refl)
             (side_up_to both h.small_multiple r.right (every_of (λ (t : Term). IsAtomOf n m t.atom) r.right h.right) k.1),
       )
 
-  relation_up_to : (r : RelationView) → IsRelationOf n m r → HasSmallNumbers r → IsFormUpTo last_coordinate (2 ^ 106) (form_of n r)
+  relation_up_to : (r : RelationView) → IsRelationOf n m r → HasSmallNumbers r → IsFormUpTo last_coordinate most_mass (form_of n r)
   relation_up_to r h k = by_sign r.sign (difference_up_to r h k)
     where
-      by_sign : (sign : Sign) → IsFormUpTo last_coordinate (2 ^ 106) (λ p. difference_at n p r)
-          → IsFormUpTo last_coordinate (2 ^ 106) (λ p. signed_difference sign (difference_at n p r))
+      by_sign : (sign : Sign) → IsFormUpTo last_coordinate most_mass (λ p. difference_at n p r)
+          → IsFormUpTo last_coordinate most_mass (λ p. signed_difference sign (difference_at n p r))
       by_sign AtLeast x = x
-      by_sign AtMost x = form-negation last_coordinate (2 ^ 106) (λ p. difference_at n p r) x
+      by_sign AtMost x = form-negation last_coordinate most_mass (λ p. difference_at n p r) x
       by_sign Equal x = x
 
   -- and so of its targets
-  pub targets_up_to : (r : RelationView) → IsRelationOf n m r → HasSmallNumbers r → Every (IsFormUpTo last_coordinate (2 ^ 106)) (targets n r)
+  pub targets_up_to : (r : RelationView) → IsRelationOf n m r → HasSmallNumbers r → Every (IsFormUpTo last_coordinate most_mass) (targets n r)
   targets_up_to r h k = by_sign r.sign (form_of n r) (relation_up_to r h k)
     where
-      by_sign : (sign : Sign) (f : Form) → IsFormUpTo last_coordinate (2 ^ 106) f
-          → Every (IsFormUpTo last_coordinate (2 ^ 106)) (inequalities_of (kind_of sign) f)
+      by_sign : (sign : Sign) (f : Form) → IsFormUpTo last_coordinate most_mass f
+          → Every (IsFormUpTo last_coordinate most_mass) (inequalities_of (kind_of sign) f)
       by_sign AtLeast f x = (x, tt)
       by_sign AtMost f x = (x, tt)
-      by_sign Equal f x = (x, (form-negation last_coordinate (2 ^ 106) f x, tt))
+      by_sign Equal f x = (x, (form-negation last_coordinate most_mass f x, tt))
 
   -- ---- givens
 
   abbrev pub AreDemandsUpTo : List Demand → Type 0
-  AreDemandsUpTo ds = Every (λ (d : Demand). IsFormUpTo last_coordinate (2 ^ 106) d.form) ds
+  AreDemandsUpTo ds = Every (λ (d : Demand). IsFormUpTo last_coordinate most_mass d.form) ds
 
   links_up_to : (past : ℕ) (sets : List ℕ) → past < 2 ^ n → Every (λ (s : ℕ). s < 2 ^ n) sets → AreDemandsUpTo (equations n (links_from past sets))
   links_up_to past [] h a = tt
   links_up_to past (here ∷ []) h a = tt
   links_up_to past (here ∷ next ∷ sets) h a = (
-    form_same last_coordinate 4 (2 ^ 106) (λ p. atom_at n p (Mutual past next here)) (λ p. atom_at n p (Mutual past next here))
+    form_same last_coordinate 4 most_mass (λ p. atom_at n p (Mutual past next here)) (λ p. atom_at n p (Mutual past next here))
         (omega arith) (λ p. refl) (once_up_to (Mutual past next here) (h, a.1.0, a.0)),
     links_up_to (bit_or past here) (next ∷ sets) (or_lt n past here h a.0) a.1,
   )
@@ -183,11 +184,11 @@ module _ (n m : ℕ) where
       (once_up_to (Entropy x given) (a.0, h)) (sum_up_to xs given h a.1))
 
   independence_up_to : (members : List ℕ) (given : ℕ) → AreSetsOf n 2 16 members → given < 2 ^ n
-      → IsFormUpTo last_coordinate (2 ^ 106) (independence_form n members given)
+      → IsFormUpTo last_coordinate most_mass (independence_form n members given)
   independence_up_to members given h k =
       let all = every_of (λ (s : ℕ). s < 2 ^ n) members h.within in
       let joint : Atom = Entropy (union_of members) given in
-      form_same last_coordinate (length members * 4 + 4) (2 ^ 106) (λ p. sum_of_conditionals n p members given +ℤ neg_ℤ (atom_at n p joint))
+      form_same last_coordinate (length members * 4 + 4) most_mass (λ p. sum_of_conditionals n p members given +ℤ neg_ℤ (atom_at n p joint))
       (independence_form n members given) (omega (arith, h.few)) (λ p. plus_negation (sum_of_conditionals n p members given)
       (atom_at n p joint))
       (form-add last_coordinate (length members * 4) 4 (λ p. sum_of_conditionals n p members given) (negation (λ p. atom_at n p joint))
@@ -199,7 +200,7 @@ module _ (n m : ℕ) where
   given_up_to (Markov sets) h k = chain_up_to sets (every_of (λ (s : ℕ). s < 2 ^ n) sets h.within)
   given_up_to (Independent members given) h k = (independence_up_to members given h.0 h.1, tt)
   given_up_to (Function value argument) h k = (
-    form_same last_coordinate 4 (2 ^ 106) (λ p. atom_at n p (Entropy value argument))
+    form_same last_coordinate 4 most_mass (λ p. atom_at n p (Entropy value argument))
         (λ p. atom_at n p (Entropy value argument)) (omega arith) (λ p. refl) (once_up_to (Entropy value argument) h),
     tt,
   )
@@ -208,7 +209,7 @@ module _ (n m : ℕ) where
 
   pub given_lines_up_to : (gs : List GivenView) → Every (IsGivenOf n) gs → Every GivenHasSmallNumbers gs → AreDemandsUpTo (flat_map (demands n) gs)
   given_lines_up_to [] h k = tt
-  given_lines_up_to (g ∷ gs) h k = every-append (λ (d : Demand). IsFormUpTo last_coordinate (2 ^ 106) d.form) (demands n g)
+  given_lines_up_to (g ∷ gs) h k = every-append (λ (d : Demand). IsFormUpTo last_coordinate most_mass d.form) (demands n g)
       (flat_map (demands n) gs) (given_up_to g h.0 k.0) (given_lines_up_to gs h.1 k.1)
 
   pub row_lines_up_to : (rs : List RelationView) → Every (IsRelationOf n m) rs → Every HasSmallNumbers rs → AreDemandsUpTo (map (demand_of n) rs)
@@ -217,6 +218,6 @@ module _ (n m : ℕ) where
 
   pub lines_up_to : (own : OwnLinesView) → Every (IsGivenOf n) own.givens → Every (IsRelationOf n m) own.rows → LinesHaveSmallNumbers own
       → AreDemandsUpTo (line_demands n own)
-  lines_up_to own givens rows small = every-append (λ (d : Demand). IsFormUpTo last_coordinate (2 ^ 106) d.form)
+  lines_up_to own givens rows small = every-append (λ (d : Demand). IsFormUpTo last_coordinate most_mass d.form)
       (flat_map (demands n) own.givens) (map (demand_of n) own.rows)
       (given_lines_up_to own.givens givens small.0) (row_lines_up_to own.rows rows small.1)

@@ -1,12 +1,13 @@
 -- A question of a file poses a problem, and one about a relation the rows of its targets.
-use Rattle.std.proofs.Common.{◌≡◌, ℕ, ◌^◌, List, [], ◌∷◌, map, length, length-append, flat_map, All, refl, sym, ap, subst, arith}
+use Rattle.std.proofs.Common.{◌≡◌, ℕ, List, [], ◌∷◌, map, length, length-append, flat_map, All, refl, sym, ap, subst, arith}
 use Rattle.std.specs.List.{AllByRecursion as Every}
 use Rattle.it_space.specs.declared.spaces.Space.{Space}
 use Rattle.it_problems.specs.declared.problems.Constraint.{Constraint}
 use Rattle.it_problems.specs.declared.problems.Origin.{Origin}
 use Rattle.it_problems.specs.Problems.{ProblemView}
 use Rattle.it_space.specs.Rows.{Terms}
-use Rattle.it_space.specs.Spaces.{IsSpace, size_of}
+use Rattle.it_space.specs.Bounds.{most_mass}
+use Rattle.it_space.specs.Spaces.{size_of}
 use Rattle.it_space.proofs.EveryLemmas.{every_of, all_of, every-append}
 use Rattle.it_polymatroid.specs.Certificates.{Form}
 use Rattle.it_syntax.specs.Givens.{IsRelationOf, IsGivenOf}
@@ -36,7 +37,7 @@ use Rattle.it_canon.specs.Theorems.{QuestionHasProblem, RelationHasRows}
 use Rattle.it_canon.proofs.DemandForms.{AreDemandsUpTo, lines_up_to, sides_up_to, targets_up_to}
 use Rattle.it_canon.proofs.PosesLemmas.{one_problem}
 use Rattle.it_canon.proofs.ProblemLemmas.{question_problem}
-use Rattle.it_canon.proofs.QuestionLemmas.{space_is, shared_givens, shared_rows}
+use Rattle.it_canon.proofs.QuestionLemmas.{shared_givens, shared_rows}
 use Rattle.it_canon.proofs.SmallForms.{IsFormUpTo, row_there}
 
 -- there is an origin for each demand
@@ -51,22 +52,22 @@ origins_length n own = omega (
 
 -- ---- constraints and rows
 
-module _ (s : Space) (k : IsSpace s) where
+module _ (s : Space) where
   constraints_there : (places : List Origin) (ds : List Demand) → length places ≡ length ds
-      → Every (λ (d : Demand). IsFormUpTo (size_of s) (2 ^ 106) d.form) ds → (cs : List Constraint) × AreStated s places ds cs
+      → Every (λ (d : Demand). IsFormUpTo (size_of s) most_mass d.form) ds → (cs : List Constraint) × AreStated s places ds cs
   constraints_there [] [] e h = ([], record { placed = tt; stated = tt })
   constraints_there [] (d ∷ ds) e h = absurd (omega (arith, e))
   constraints_there (place ∷ places) [] e h = absurd (omega (arith, e))
   constraints_there (place ∷ places) (d ∷ ds) e h =
-      let one = row_there s k d.form h.0 in
+      let one = row_there s d.form h.0 in
       let rest = constraints_there places ds (omega (arith, e)) h.1 in
       let c : Constraint = record { row = one.0; kind = d.kind; origin = place } in
       (c ∷ rest.0, record { placed = (refl, rest.1.placed); stated = (record { row = one.1; kind = refl }, rest.1.stated) })
 
-  pub rows_there : (fs : List Form) → Every (IsFormUpTo (size_of s) (2 ^ 106)) fs → (ts : List Terms) × AreRowsOf s fs ts
+  pub rows_there : (fs : List Form) → Every (IsFormUpTo (size_of s) most_mass) fs → (ts : List Terms) × AreRowsOf s fs ts
   rows_there [] h = ([], tt)
   rows_there (f ∷ fs) h =
-      let one = row_there s k f h.0 in
+      let one = row_there s f h.0 in
       let rest = rows_there fs h.1 in
       (one.0 ∷ rest.0, (one.1, rest.1))
 
@@ -101,7 +102,7 @@ module _ (q : BodyView) (k : IsQuestion q) (small : QuestionHasSmallNumbers q) w
 
   pub question_poses : IsProblemOf q (problem_of q)
   question_poses =
-      let cs = constraints_there own_space (space_is q k) (question_origins q) (question_demands q)
+      let cs = constraints_there own_space (question_origins q) (question_demands q)
       (origins_length (variable_count q) (problem_lines q)) problem_up_to in
       let p : ProblemView = record { space = own_space; constraints = cs.0 } in
       let is : IsProblemOf q p = record { space = refl; limits = question_problem q p k refl cs.1; constraints = cs.1 } in
@@ -114,7 +115,7 @@ module _ (q : BodyView) (k : IsQuestion q) (small : QuestionHasSmallNumbers q) w
       let own : IsRelationOf (length q.names.variables) (length q.names.rates) r = subst (IsVerbOver q.names) about k.verb in
       let over : IsRelationOf own_space.variables own_space.rates r = subst
       (λ (v : NamesView). IsRelationOf (length v.variables) (length v.rates) r) (sym (ap (names_under q.names) about)) own in
-      let rows = rows_there own_space (space_is q k) (targets (variable_count q) r)
+      let rows = rows_there own_space (targets (variable_count q) r)
       (targets_up_to own_space.variables own_space.rates r over (subst VerbHasSmallNumbers about small.1)) in
       subst (AreRowsOf own_space (targets (variable_count q) r)) (rows_are_terms_of_forms own_space (targets (variable_count q) r) rows.0 rows.1) rows.1
 
@@ -129,20 +130,20 @@ module _ (q : BodyView) (k : IsQuestion q) (small : QuestionHasSmallNumbers q) w
       let up = sides_up_to own_space.variables own_space.rates r over (subst VerbHasSmallNumbers about small.1) in
       (row_of_form (left_form (variable_count q) r) up.0, row_of_form (right_form (variable_count q) r) up.1)
     where
-      row_of_form : (f : Form) → IsFormUpTo (size_of own_space) (2 ^ 106) f → IsRowOf own_space f (terms_in q f)
-      row_of_form f up = let row = row_there own_space (space_is q k) f up in subst (IsRowOf own_space f) (row_is_terms_of_form own_space f row.0 row.1) row.1
+      row_of_form : (f : Form) → IsFormUpTo (size_of own_space) most_mass f → IsRowOf own_space f (terms_in q f)
+      row_of_form f up = let row = row_there own_space f up in subst (IsRowOf own_space f) (row_is_terms_of_form own_space f row.0 row.1) row.1
 
   -- the rows of its `row` lines
   system_up_to : (rs : List RelationView) → Every (IsRelationOf own_space.variables own_space.rates) rs → Every HasSmallNumbers rs
-      → Every (IsFormUpTo (size_of own_space) (2 ^ 106)) (system_forms own_space.variables rs)
+      → Every (IsFormUpTo (size_of own_space) most_mass) (system_forms own_space.variables rs)
   system_up_to [] h e = tt
-  system_up_to (r ∷ rs) h e = every-append (IsFormUpTo (size_of own_space) (2 ^ 106)) (targets own_space.variables r) (system_forms own_space.variables rs)
+  system_up_to (r ∷ rs) h e = every-append (IsFormUpTo (size_of own_space) most_mass) (targets own_space.variables r) (system_forms own_space.variables rs)
       (targets_up_to own_space.variables own_space.rates r h.0 e.0) (system_up_to rs h.1 e.1)
 
   pub system_rows : AreRowsOf own_space (system_forms (variable_count q) q.lines.rows) (map (terms_in q) (system_forms (variable_count q) q.lines.rows))
   system_rows =
       let fs = system_forms (variable_count q) q.lines.rows in
-      let rows = rows_there own_space (space_is q k) fs (system_up_to q.lines.rows
+      let rows = rows_there own_space fs (system_up_to q.lines.rows
       (every_of (IsRelationOf own_space.variables own_space.rates) q.lines.rows (shared_rows q own_space k refl)) small.0.1) in
       subst (AreRowsOf own_space fs) (rows_are_terms_of_forms own_space fs rows.0 rows.1) rows.1
 

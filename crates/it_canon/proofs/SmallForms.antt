@@ -1,26 +1,24 @@
 -- The rows of forms: a form that is the value of few terms with small coefficients has its canonical row.
-use Rattle.std.proofs.Common.{◌≡◌, ℕ, zero, suc, ◌+◌, ◌-◌, ◌<◌, ◌≤◌, ◌^◌, ℤ, pos, neg_ℤ, ◌+ℤ◌, ◌*ℤ◌, unsigned_abs, Bool, true, false, cond, nat_eq, List, [], ◌∷◌, ◌++◌, map, length, refl, sym, ap, ap₂, subst, ◌∙◌, arith, lit<}
+use Rattle.std.proofs.Common.{◌≡◌, ℕ, zero, suc, ◌+◌, ◌-◌, ◌<◌, ◌≤◌, ◌^◌, ℤ, pos, neg_ℤ, ◌+ℤ◌, ◌*ℤ◌, unsigned_abs, Bool, true, false, cond, nat_eq, List, [], ◌∷◌, ◌++◌, map, length, refl, sym, ap, ap₂, subst, ◌∙◌, arith, lit<, ne_eqb}
 use Rattle.std.specs.List.{AllByRecursion as Every}
-use Rattle.std.proofs.Math.Nat.{pow-le-pow_right}
 use Rattle.std.proofs.lemmas.Int.{ints}
-use Rattle.std.proofs.lemmas.List.Elements.{All-weaker}
+use Rattle.std.proofs.lemmas.Bool.{eqb-true}
 use Rattle.std.proofs.Math.IntN.{+ℤ_idr, +ℤ_idl}
-use Rattle.it_number.proofs.SignLemmas.{size_negated}
 use Rattle.it_space.specs.declared.spaces.Space.{Space}
-use Rattle.it_space.specs.Bounds.{IsSmall}
+use Rattle.it_space.specs.Bounds.{IsSmall, most_mass}
 use Rattle.it_space.specs.Rows.{Terms, IsCanonical, IsOver, one_at, value, negated_terms, row_mass}
-use Rattle.it_space.specs.Spaces.{IsSpace, size_of}
+use Rattle.it_space.specs.Spaces.{size_of}
 use Rattle.it_space.specs.Sums.{terms_from}
 use Rattle.it_space.proofs.EveryLemmas.{every-append}
-use Rattle.it_space.proofs.TermLemmas.{value-append, value-negated_terms}
+use Rattle.it_space.proofs.TermLemmas.{mass-append, mass-negated_terms, value-append, value-negated_terms}
 use Rattle.it_polymatroid.specs.Certificates.{Form, dot, IsLinear}
 use Rattle.it_polymatroid.specs.Elementals.{span}
 use Rattle.it_polymatroid.proofs.Forms.{linear_at, linear_zero, linear-add, linear-scale}
 use Rattle.it_polymatroid.proofs.Spans.{length-map-span}
 use Rattle.it_demand.specs.Canonical.{IsRowOf}
-use Rattle.it_demand.specs.Coefficients.{dense_form_from, largest, IsNoLarger}
+use Rattle.it_demand.specs.Coefficients.{dense_form_from, mass}
 use Rattle.it_demand.specs.Targets.{negation}
-use Rattle.it_demand.proofs.TermLemmas.{row_canonical, row-value, row_up_to, row_no_larger}
+use Rattle.it_demand.proofs.TermLemmas.{row_canonical, row-value, row-mass, row_up_to}
 
 -- the form is the value of terms with coordinates up to `size`, whose coefficients are `bound` together at most
 pub record IsFormUpTo (size bound : ℕ) (form : Form) : Type 0 where
@@ -30,14 +28,6 @@ pub record IsFormUpTo (size bound : ℕ) (form : Form) : Type 0 where
   pub small : row_mass terms ≤ bound
 
 -- ---- how forms are made
-
-mass-append : (xs ys : Terms) → row_mass (xs ++ ys) ≡ row_mass xs + row_mass ys
-mass-append [] ys = let e : row_mass ys ≡ 0 + row_mass ys = omega arith in e
-mass-append (x ∷ xs) ys = omega (arith, mass-append xs ys)
-
-mass-negated : (xs : Terms) → row_mass (negated_terms xs) ≡ row_mass xs
-mass-negated [] = refl
-mass-negated (x ∷ xs) = ap₂ (λ (a b : ℕ). a + b) (size_negated x.1) (mass-negated xs)
 
 every-negated : (size : ℕ) (xs : Terms) → Every (λ (t : ℕ × ℤ). t.0 ≤ size) xs → Every (λ (t : ℕ × ℤ). t.0 ≤ size) (negated_terms xs)
 every-negated size [] e = tt
@@ -59,7 +49,7 @@ form-negation size a f x = record {
   terms = negated_terms x.terms;
   same = λ p. value-negated_terms x.terms p ∙ ap neg_ℤ (x.same p);
   coordinates = every-negated size x.terms x.coordinates;
-  small = omega (arith, mass-negated x.terms, x.small);
+  small = omega (arith, mass-negated_terms x.terms, x.small);
 }
 
 -- a form with the same values, and a greater bound
@@ -74,18 +64,6 @@ value_linear size (t ∷ ts) e =
     linear-add (size + 1) (λ p. t.1 *ℤ p t.0) (value ts) (linear-scale (size + 1) t.1 (λ p. p t.0)
     (linear_at (size + 1) t.0 (omega (arith, e.0)))) (value_linear size ts e.1)
 
--- a coefficient is no greater than all together
-value-small : (ts : Terms) (c : ℕ) → unsigned_abs (value ts (one_at c)) ≤ row_mass ts
-value-small [] c = omega arith
-value-small (t ∷ ts) c = sum-small (t.1 *ℤ one_at c t.0) t.1 (value ts (one_at c)) (row_mass ts) (by_test t.1 (nat_eq t.0 c)) (value-small ts c)
-  where
-    by_test : (x : ℤ) (b : Bool) → unsigned_abs (x *ℤ cond b (pos 1) (pos 0)) ≤ unsigned_abs x
-    by_test x true = omega (arith, ints)
-    by_test x false = omega (arith, ints)
-
-    sum-small : (x y z : ℤ) (m : ℕ) → unsigned_abs x ≤ unsigned_abs y → unsigned_abs z ≤ m → unsigned_abs (x +ℤ z) ≤ unsigned_abs y + m
-    sum-small x y z m h k = omega (arith, ints, h, k)
-
 -- the coefficients from a coordinate on
 dense_is : (first count : ℕ) (f p : ℕ → ℤ) → dot first f p +ℤ dense_form_from first (map f (span first count)) p ≡ dot (first + count) f p
 dense_is first zero f p = let e : first ≡ first + 0 = omega arith in +ℤ_idr (dot first f p) ∙ ap (λ (n : ℕ). dot n f p) e
@@ -98,9 +76,41 @@ dense_is first (suc count) f p =
     sum-swap : (x y z : ℤ) → x +ℤ (y +ℤ z) ≡ (y +ℤ x) +ℤ z
     sum-swap x y z = omega (arith, ints)
 
-largest_below : (f : ℕ → ℤ) (m : ℕ) → ((c : ℕ) → unsigned_abs (f c) ≤ m) → (cs : List ℕ) → largest (map f cs) ≤ m
-largest_below f m h [] = omega arith
-largest_below f m h (c ∷ cs) = omega (arith, h c, largest_below f m h cs)
+-- all coefficients together are no more than the terms
+module _ (t : ℕ × ℤ) (f : ℕ → ℤ) where
+  abbrev with_term : ℕ → ℤ
+  with_term c = t.1 *ℤ one_at c t.0 +ℤ f c
+
+  at_term : (b : Bool) (y : ℤ) → unsigned_abs (t.1 *ℤ cond b (pos 1) (pos 0) +ℤ y) ≤ unsigned_abs t.1 + unsigned_abs y
+  at_term true y = omega (arith, ints)
+  at_term false y = omega (arith, ints)
+
+  past_term : (first count : ℕ) → t.0 < first → mass (map with_term (span first count)) ≡ mass (map f (span first count))
+  past_term first zero l = refl
+  past_term first (suc count) l = ap₂ (λ (a b : ℕ). a + b) (ap unsigned_abs elsewhere) (past_term (first + 1) count (omega (arith, l)))
+    where
+      elsewhere : with_term first ≡ f first
+      elsewhere = ap (λ b. t.1 *ℤ cond b (pos 1) (pos 0) +ℤ f first) (ne_eqb t.0 first (λ e. omega (arith, e, l))) ∙ omega (arith, ints)
+
+  mass-with_term : (first count : ℕ) → mass (map with_term (span first count)) ≤ unsigned_abs t.1 + mass (map f (span first count))
+  mass-with_term first zero = omega arith
+  mass-with_term first (suc count) = by_test (nat_eq t.0 first) refl (mass-with_term (first + 1) count)
+    where
+      by_test : (b : Bool) → nat_eq t.0 first ≡ b
+          → mass (map with_term (span (first + 1) count)) ≤ unsigned_abs t.1 + mass (map f (span (first + 1) count))
+          → mass (map with_term (span first (suc count))) ≤ unsigned_abs t.1 + mass (map f (span first (suc count)))
+      by_test true e rest = omega (arith, at_term (nat_eq t.0 first) (f first), past_term (first + 1) count (omega (arith, eqb-true t.0 first e)))
+      by_test false e rest =
+          let elsewhere : with_term first ≡ f first = ap (λ b. t.1 *ℤ cond b (pos 1) (pos 0) +ℤ f first) e ∙ omega (arith, ints) in
+          omega (arith, ap unsigned_abs elsewhere, rest)
+
+mass-coefficients : (ts : Terms) (first count : ℕ) → mass (map (λ c. value ts (one_at c)) (span first count)) ≤ row_mass ts
+mass-coefficients [] first zero = omega arith
+mass-coefficients [] first (suc count) = omega (arith, mass-coefficients [] (first + 1) count)
+mass-coefficients (t ∷ ts) first count =
+    let one : mass (map (λ c. value (t ∷ ts) (one_at c)) (span first count)) ≤ unsigned_abs t.1 + mass (map (λ c. value ts (one_at c)) (span first count)) =
+    mass-with_term t (λ c. value ts (one_at c)) first count in
+    omega (arith, one, mass-coefficients ts first count)
 
 module _ (s : Space) (bound : ℕ) (within : bound < 2 ^ 127) (form : Form) (x : IsFormUpTo (size_of s) bound form) where
   -- its value at the map that is 1 at a coordinate
@@ -113,8 +123,10 @@ module _ (s : Space) (bound : ℕ) (within : bound < 2 ^ 127) (form : Form) (x :
   abbrev pub row : Terms
   row = terms_from 1 (map coefficient_at (span 1 (size_of s)))
 
-  all_small : largest coefficients ≤ bound
-  all_small = largest_below coefficient_at bound (λ c. omega (arith, value-small x.terms c, x.small)) (span 0 (suc (size_of s)))
+  all_small : mass coefficients ≤ bound
+  all_small =
+      let all : mass coefficients ≤ row_mass x.terms = mass-coefficients x.terms 0 (suc (size_of s)) in
+      omega (arith, all, x.small)
 
   pub row_same : (p : ℕ → ℤ) → p 0 ≡ pos 0 → value row p ≡ form p
   row_same p z =
@@ -129,38 +141,26 @@ module _ (s : Space) (bound : ℕ) (within : bound < 2 ^ 127) (form : Form) (x :
   pub row_is_canonical : IsCanonical row
   row_is_canonical = row_canonical coefficients row refl (omega (arith, all_small, within))
 
-module _ (s : Space) (k : IsSpace s) (form : Form) (x : IsFormUpTo (size_of s) (2 ^ 106) form) where
-  size_few : size_of s + 1 ≤ 1040
-  size_few = omega (arith, k.few_rates, powers s.variables k.few)
-    where
-      powers : (n : ℕ) → n ≤ 10 → 2 ^ n ≤ 2 ^ 10
-      powers n h = pow-le-pow_right (lit< tt) h
-
-  within : 2 ^ 106 < 2 ^ 127
+module _ (s : Space) (form : Form) (x : IsFormUpTo (size_of s) most_mass form) where
+  within : most_mass < 2 ^ 127
   within = lit< tt
 
   abbrev own_row : Terms
-  own_row = row s (2 ^ 106) within form x
+  own_row = row s most_mass within form x
 
   row_is_small : IsSmall own_row
   row_is_small =
-      let coefficients = coefficients s (2 ^ 106) within form x in
-      let fit : IsNoLarger coefficients own_row = row_no_larger coefficients own_row refl in
-      let small = all_small s (2 ^ 106) within form x in
-      record {
-        few = omega (arith, fit.few, length-map-span (coefficient_at s (2 ^ 106) within form x) 0 (suc (size_of s)), size_few);
-        each = All-weaker (λ (t : ℕ × ℤ). unsigned_abs t.1 ≤ largest coefficients) (λ (t : ℕ × ℤ). unsigned_abs t.1 ≤ 2 ^ 106)
-            (λ t h. omega (arith, h, small)) own_row fit.each;
-      }
+      let coefficients = coefficients s most_mass within form x in
+      omega (arith, row-mass coefficients own_row refl, all_small s most_mass within form x)
 
   -- the form has its canonical row
   pub row_there : (ts : Terms) × IsRowOf s form ts
   row_there = (
     own_row,
     record {
-      same = row_same s (2 ^ 106) within form x;
-      coordinates = row_coordinates s (2 ^ 106) within form x;
-      canonical = row_is_canonical s (2 ^ 106) within form x;
+      same = row_same s most_mass within form x;
+      coordinates = row_coordinates s most_mass within form x;
+      canonical = row_is_canonical s most_mass within form x;
       small = row_is_small;
     },
   )

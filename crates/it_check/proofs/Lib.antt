@@ -1,4 +1,6 @@
 pub mod SumLemmas
+pub mod TermLemmas
+pub mod WindowLemmas
 pub mod YesSteps
 pub mod NoSteps
 pub mod FindingLemmas

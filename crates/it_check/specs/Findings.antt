@@ -9,4 +9,5 @@ use Rattle.it_check.specs.declared.verdicts.Verdict.{Verdict}
 
 -- the fault at a problem's generator i: its value at the point is wide, or violates its kind
 abbrev pub of_generator : ProblemView → ℕ → (ℕ → ℤ) → Option Verdict
-of_generator q i p = of_value (length (elementals q.space.variables)) i (generator_at (generators q) i).kind (sum_within (pos 0) (generator_at (generators q) i).row p)
+of_generator q i p =
+    of_value (length (elementals q.space.variables)) i (generator_at (generators q) i).kind (sum_within (pos 0) (generator_at (generators q) i).row p)

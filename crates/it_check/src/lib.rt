@@ -3,8 +3,10 @@
 
 mod laws;
 mod no;
+mod terms;
 mod values;
 mod verdicts;
+mod windows;
 mod yes;
 
 pub use laws::{valid_met, valid_no, valid_yes, yes_is_true};

@@ -1,17 +1,20 @@
 //! The verdict on a certificate.
-ghost use Rattle.std.specs.Prelude.{◌≡◌, ◌<◌, ◌≤◌, ℤ, length, All, OkIff, None, ◌*ℤ◌};
+ghost use Rattle.std.specs.Prelude.{◌≡◌, ◌<◌, ◌≤◌, ◌+◌, ◌-◌, ℤ, length, min, All, OkIff, None, ◌*ℤ◌};
 ghost use Rattle.it_number.specs.Limit.{IsWithin};
 ghost use Rattle.it_space.specs.Answers.{certificate_view};
-ghost use Rattle.it_space.specs.Rows.{IsOver, IsValueOrWide, coefficient};
+ghost use Rattle.it_space.specs.Rows.{IsOver, coefficient};
 ghost use Rattle.it_space.specs.Spaces.{size_of};
 ghost use Rattle.it_elemental.specs.Generators.{generators};
-ghost use Rattle.it_check.specs.Verdicts.{column, of_scale, of_weight, of_weights, of_coordinate, of_coordinates, yes_verdict};
+ghost use Rattle.it_check.specs.Windows.{AreSums, window_length};
+ghost use Rattle.it_check.specs.Sums.{product_within};
+ghost use Rattle.it_check.specs.Verdicts.{of_scale, of_weight, of_weights, of_numbers, of_coordinates, yes_verdict};
 
 use crate::verdicts::Verdict;
-use it_elemental::{coefficient_at, generator_count, is_equation};
+use crate::windows::{WINDOW_LENGTH, Window, window_from};
+use it_elemental::{generator_count, is_equation};
 use it_fraction::{Wide, signed_product};
 use it_problems::Problem;
-use it_space::{Certificate, Row, with_product};
+use it_space::{Certificate, Row};
 
 /// The fault of the scale; `None` if it has none.
 fn of_scale(certificate: &Certificate) -> Option<Verdict>
@@ -58,36 +61,20 @@ fn left_number(target: &Row, certificate: &Certificate, at: u32) -> Result<i128,
     signed_product(certificate.scale, target.coefficient(at))
 }
 
-/// The sum of the weights times the generators' coefficients at `coordinate`; `Wide` if a product or a partial sum passes the limit.
-fn right_number(problem: &Problem, weights: &[(u32, i128)], coordinate: u32) -> Result<i128, Wide>
-    requires listed { All (λ w. w.0 < length (generators problem.now)) weights.now }
-    requires from_one { 1 ≤ coordinate }
-    requires of_space { coordinate ≤ size_of problem.now.space }
-    ensures { IsValueOrWide weights.now (column (generators problem.now) coordinate) result }
-{
-    let mut sum: i128 = 0;
-    for (index, weight) in weights {
-        sum = with_product(sum, *weight, coefficient_at(problem, *index, coordinate))?;
-    }
-    Ok(sum)
-}
-
-/// The fault at `coordinate`: the two sides differ, or one of them is wide; `None` if there is none.
+/// The fault at `coordinate`, where `right` is the sum of weights times coefficients, `None` if it is wide: the two sides differ, or one
+/// of them is wide; `None` if there is none.
 fn of_coordinate(
-    problem: &Problem,
     target: &Row,
     certificate: &Certificate,
     coordinate: u32,
+    right: Option<i128>,
 ) -> Option<Verdict>
-    requires listed { All (λ w. w.0 < length (generators problem.now)) certificate.now.weights.items }
-    requires from_one { 1 ≤ coordinate }
-    requires of_space { coordinate ≤ size_of problem.now.space }
-    ensures { result ≡ of_coordinate (generators problem.now) target.now (certificate_view certificate.now) coordinate }
+    ensures { result ≡ of_numbers coordinate (product_within certificate.now.scale (coefficient target.now coordinate)) right }
 {
     let Ok(left) = left_number(target, certificate, coordinate) else {
         return Some(Verdict::Width { place: coordinate });
     };
-    let Ok(right) = right_number(problem, certificate.weights.as_slice(), coordinate) else {
+    let Some(right) = right else {
         return Some(Verdict::Width { place: coordinate });
     };
     if left == right {
@@ -100,16 +87,43 @@ fn of_coordinate(
     })
 }
 
-/// The fault at the first coordinate that has one; `None` if none has.
+/// The fault at the first coordinate of a window, up to `size`, that has one; `None` if none has.
+fn of_window(
+    problem: &Problem,
+    target: &Row,
+    certificate: &Certificate,
+    window: &Window,
+) -> Option<Verdict>
+    requires within { window.now.start ≤ size_of problem.now.space }
+    requires sums { AreSums (generators problem.now) target.now certificate.now.weights.items window.now.start window.now.sums window.now.next }
+    ensures { result ≡ of_coordinates (generators problem.now) target.now (certificate_view certificate.now) window.now.start (min window_length (size_of problem.now.space + 1 - window.now.start)) }
+{
+    problem.facts();
+    let start = window.start;
+    let end = (start + WINDOW_LENGTH as u32).min(problem.size() + 1);
+    for coordinate in start..end {
+        let right = window.sums[(coordinate - start) as usize];
+        if let Some(verdict) = of_coordinate(target, certificate, coordinate, right) {
+            return Some(verdict);
+        }
+    }
+    None
+}
+
+/// The fault at the first coordinate that has one; `None` if none has. Coordinates between windows have none, since both sides are 0.
 fn of_coordinates(problem: &Problem, target: &Row, certificate: &Certificate) -> Option<Verdict>
     requires listed { All (λ w. w.0 < length (generators problem.now)) certificate.now.weights.items }
     ensures { result ≡ of_coordinates (generators problem.now) target.now (certificate_view certificate.now) 1 (size_of problem.now.space) }
 {
     problem.facts();
-    for coordinate in 1..problem.size() + 1 {
-        if let Some(verdict) = of_coordinate(problem, target, certificate, coordinate) {
+    let size = problem.size();
+    let mut start = 1;
+    while start <= size {
+        let window = window_from(problem, target, certificate.weights.as_slice(), start);
+        if let Some(verdict) = of_window(problem, target, certificate, &window) {
             return Some(verdict);
         }
+        start = window.next;
     }
     None
 }

@@ -16,10 +16,11 @@ use Rattle.it_answer.specs.Shows.{ShowsContained}
 use Rattle.it_report.proofs.CountLemmas.{obligations_counted}
 use Rattle.it_cli.proofs.JsonLemmas.{proofs_scaled, all_numbered, all_counted}
 use Rattle.it_question.specs.Limits.{IsQuestion, IsVerbOver}
+use Rattle.it_question.specs.QuestionLimits.{most_names}
 
 module _ (q : BodyView) (k : IsQuestion q) (posed : IsProblemOf q (problem_of q)) (first second : RegionView) (tries : List (List ℕ))
     (about : q.verb ≡ Contain first second tries) where
-  few_variables : length first.names.variables ≤ 10
+  few_variables : length first.names.variables ≤ most_names
   few_variables = (subst (IsVerbOver q.names) about k.verb).0.few_variables
 
   pub contained_fits : (budgets : Budgets) (plans : List Plan) (parts : List ℕ) (ws : List CertificateView) (found : List Candidate)
@@ -29,7 +30,7 @@ module _ (q : BodyView) (k : IsQuestion q) (posed : IsProblemOf q (problem_of q)
       let forms = obligations q first second parts in
       let scaled = proofs_scaled (problem_of q) budgets.effort _ ws due.proofs.proofs in
       let small : (s : ℕ) → s < 2 ^ length first.names.variables
-      → s < 2 ^ 32 = λ s h. omega (arith, h, pow_mono {i = length first.names.variables} {j = 10} few_variables) in
+      → s < 2 ^ 32 = λ s h. omega (arith, h, pow_mono {i = length first.names.variables} {j = most_names} few_variables) in
       record {
         each = shown.are_parts.count;
         sets = All-weaker (λ s. s < 2 ^ length first.names.variables) (λ s. (s < 2 ^ 32) × (s < 2 ^ length first.names.variables))

@@ -10,9 +10,10 @@ use Rattle.it_space.specs.Answers.{AnswerView, CertificateView, IfRate, is_nonze
 use Rattle.it_space.specs.Answers.AnswerView.{Yes, No, Undecided, Region, Contained, Open}
 use Rattle.it_problems.specs.Problems.{ProblemView, IsProblem}
 use Rattle.it_space.specs.Rows.{Terms, Ascends, IsCanonical, coefficient}
-use Rattle.it_space.specs.Spaces.{size_of}
+use Rattle.it_space.specs.Spaces.{most_variables, size_of}
 use Rattle.it_polymatroid.specs.Certificates.{Form}
 use Rattle.it_polymatroid.specs.Elementals.{elementals, span}
+use Rattle.it_elemental.specs.Places.{most_elementals}
 use Rattle.it_elemental.proofs.GeneratorLemmas.{few_elementals}
 use Rattle.it_closure.specs.Reading.{dependences_of}
 use Rattle.it_run.specs.Runs.{RunEndView, EndsAs, EndsBy, clip_number}
@@ -202,8 +203,8 @@ module _ (q : BodyView) (p : ProblemView) (space : p.space ≡ space_of (problem
       let same = zip-length (States p.space) (question_demands q) p.constraints stated in
       omega (arith, same, limits.few)
 
-  few_variables : variable_count q ≤ 10
-  few_variables = subst (λ (s : Space). s.variables ≤ 10) space limits.space.few
+  few_variables : variable_count q ≤ most_variables
+  few_variables = subst (λ (s : Space). s.variables ≤ most_variables) space limits.space.few
 
   few_generators : length (all_demands (variable_count q) (question_demands q)) ≤ 2 ^ 32
   unfolding all_demands
@@ -212,7 +213,7 @@ module _ (q : BodyView) (p : ProblemView) (space : p.space ≡ space_of (problem
       let es = map (demand_of_elemental (variable_count q)) (elementals (variable_count q)) in
       let sum = length-append es (question_demands q) in
       let first = length-map (elementals (variable_count q)) (demand_of_elemental (variable_count q)) in
-      let e : 20000 + 2 ^ 20 ≤ 2 ^ 32 = lit≤ tt in
+      let e : most_elementals + 2 ^ 20 ≤ 2 ^ 32 = lit≤ tt in
       omega (arith, sum, first, few_elementals (variable_count q) few_variables, demands_counted, e)
 
   -- certificates by the text, of such a shape, are numbered

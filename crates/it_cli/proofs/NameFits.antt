@@ -34,12 +34,12 @@ use Rattle.it_forms.specs.Forms.{Keyword, Punctuation, Give, Then}
 use Rattle.it_forms.specs.Words.{limit_flag}
 use Rattle.it_forms.proofs.FormParts.{Fact, OfEach, Always, always_weaker, loop_keeps}
 use Rattle.it_question.specs.QuestionForms.{count, new_name, more_new, new_names, names_line, own_lines, verb, question, more_questions, file}
-use Rattle.it_question.specs.QuestionLimits.{most_questions, most_lines}
+use Rattle.it_question.specs.QuestionLimits.{most_lines, most_names, most_questions}
 use Rattle.it_question.specs.Questions.{BodyView, QuestionView}
 use Rattle.it_question.proofs.QuestionOutlines.{file_has}
 use Rattle.it_question.proofs.WholeFileLemmas.{said}
 use Rattle.it_forms.proofs.FormFacts.{always_any, always_said}
-use Rattle.it_space.specs.Spaces.{most_variables, most_rates}
+use Rattle.it_space.specs.Spaces.{most_rates}
 
 -- ---- words begin with a letter
 
@@ -161,13 +161,13 @@ names_line_keeps sort most keyword p v s = (
 question_keeps : Always question (λ p q. IfSound p q.names)
 unfolding Always question
 question_keeps =
-    always_weaker (new_names Variable most_variables no_names) (λ p v. IfSound p v) _ (λ p v h.
+    always_weaker (new_names Variable most_names no_names) (λ p v. IfSound p v) _ (λ p v h.
     always_weaker (names_line Rate most_rates (codes "rates") v) (λ q w. IfSound (p ++ q) w) _ (λ q w k.
     always_any (own_lines most_lines most_lines w) _ (λ r own.
     always_any (verb own w) _ (λ t aim all. k (every_front IsSound (p ++ q) (r ++ (t ++ []))
     (subst (Every IsSound) (sym (append_assoc p q (r ++ (t ++ [])))) all)))))
     (names_line_keeps Rate most_rates (codes "rates") p v h))
-    (new_names_keep Variable most_variables [] no_names (λ all. no_names_good))
+    (new_names_keep Variable most_names [] no_names (λ all. no_names_good))
 
 -- the names of questions
 abbrev IfSoundAll : Fact (List BodyView)

@@ -24,6 +24,7 @@ use Rattle.it_space.proofs.TermLemmas.{rises-cancelled_row, coefficient-cancelle
 use Rattle.it_polymatroid.specs.Certificates.{Form}
 use Rattle.it_question.specs.Questions.{BodyView}
 use Rattle.it_question.specs.Limits.{IsQuestion}
+use Rattle.it_question.specs.QuestionLimits.{most_names}
 use Rattle.it_demand.specs.SystemForms.{AreRowsOf, system_forms}
 use Rattle.it_demand.specs.QuestionSpaces.{space_of}
 use Rattle.it_question.specs.ProblemLines.{problem_names}
@@ -172,7 +173,7 @@ rows_fit size (r ∷ rows) few up canonical =
     (rows_fit size rows few (All-tail (IsOver size) r.1 (region_rows rows) up) canonical.1)
 
 few_coordinates : (q : BodyView) → IsQuestion q → size_of (space_of q.names) < 2 ^ 32
-few_coordinates q k = omega (arith, pow_mono {i = length q.names.variables} {j = 10} k.few, k.few_rates)
+few_coordinates q k = omega (arith, pow_mono {i = length q.names.variables} {j = most_names} k.few, k.few_rates)
 
 pub right_region_fits : (budgets : Budgets) (q : BodyView) (rates : List ℕ) (rows : List (Mark × Terms)) → IsQuestion q → HasSystemRows q
     → IsExactRegion q rates rows → IsDueElimination budgets q rates (Region rows)

@@ -4,7 +4,6 @@ use Rattle.std.proofs.lemmas.Nat.{or_lt, pow_pos, and_le_r}
 use Rattle.it_space.specs.Sets.{IsInside}
 use Rattle.it_closure.specs.declared.dependences.Dependence.{Dependence}
 use Rattle.it_closure.specs.Closures.{closure, IsClosureOf, first_open}
-use Rattle.std.proofs.Math.Pow.{pow_mono}
 use Rattle.it_closure.specs.DependencesViews.{DependencesView, AreOfSpace}
 use Rattle.it_closure.specs.Collapse.{AreDependences}
 use Rattle.it_closure.proofs.Insides.{inside-refl, inside-trans, inside-antisym, or_inside, inside_left, inside_all, grows}
@@ -55,9 +54,6 @@ closure_among n m ds s k b l =
           (inside_all n (get_or ds i d).to (b i d h))))
           (meet_left a all);
     })
-
-pub powers : (n : ℕ) → n ≤ 10 → 2 ^ n ≤ 2 ^ 16
-powers n h = omega (arith, pow_mono {i = n} {j = 10} h)
 
 -- the dependences of a problem
 pub of_space : (d : DependencesView) → AreOfSpace d → AreDependences d.space.variables d.list

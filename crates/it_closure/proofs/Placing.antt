@@ -7,7 +7,6 @@ use Rattle.std.proofs.lemmas.List.{length-replicate}
 use Rattle.std.proofs.lemmas.List.Elements.{All-replicate}
 use Rattle.std.proofs.Math.IntN.{+ℤ_assoc}
 use Rattle.it_number.specs.Limit.{IsWithin}
-use Rattle.it_number.proofs.Shifts.{shift_is_power}
 use Rattle.it_space.proofs.ListLemmas.{drop_item}
 use Rattle.it_space.specs.declared.spaces.Space.{Space}
 use Rattle.it_space.specs.Rows.{Terms, coefficient}
@@ -18,16 +17,11 @@ use Rattle.it_closure.specs.Placings.{IsPutAtPlace, ArePlaced}
 use Rattle.it_closure.specs.DependencesViews.{DependencesView, AreOfSpace}
 use Rattle.it_space.specs.Spaces.{size_of}
 use Rattle.it_space.specs.Sums.{number_at, plus_at, IsAdded}
+use Rattle.it_space.proofs.SpaceLemmas.{above_shift, below_shift}
 use Rattle.it_space.proofs.SumLemmas.{at-zeros}
 use Rattle.it_closure.proofs.ClosingLoop.{of_space}
 use Rattle.it_closure.proofs.Meets.{closure_is}
 use Rattle.it_closure.proofs.Places.{place-rate, place-null, place-set, null_or_not}
-
-pub below_shift : (m v : ℕ) → m < 1 * 2 ^ v % 4294967296 → v ≤ 10 → m < 2 ^ v
-below_shift m v h f = omega (arith, shift_is_power v 4294967296 f (lit< tt))
-
-pub above_shift : (m v : ℕ) → 1 * 2 ^ v % 4294967296 ≤ m → v ≤ 10 → 2 ^ v ≤ m
-above_shift m v h f = omega (arith, shift_is_power v 4294967296 f (lit< tt))
 
 -- the closures that the code compares
 record Compared (d : DependencesView) (m x y : ℕ) : Type 0 where

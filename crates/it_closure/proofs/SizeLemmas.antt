@@ -12,6 +12,7 @@ use Rattle.std.proofs.lemmas.List.Sums.{length-filter, count_by-le-length}
 use Rattle.it_problems.specs.declared.problems.Kind.{Kind}
 use Rattle.it_problems.specs.declared.problems.Kind.TheVariants.{Inequality, Equation}
 use Rattle.it_problems.specs.declared.problems.Constraint.{Constraint}
+use Rattle.it_space.specs.Spaces.{most_coordinates, most_rates}
 use Rattle.it_space.proofs.ListLemmas.{drop_item}
 use Rattle.it_closure.specs.Sizes.{column_count, constraint_columns}
 
@@ -30,7 +31,7 @@ pub counted_done : (cs : List Constraint) (i columns : ℕ) → length cs ≤ i 
 counted_done cs i columns l a = let rest : constraint_columns (drop i cs) ≡ 0 = ap constraint_columns (drop_all i cs l) in omega (arith, a.same, rest)
 
 -- a table has at most as many rows as there are nonempty sets and rates
-pub rows-few : (n m rates : ℕ) (ds : List Dependence) → n ≤ m → rates ≤ 16 → length (closed_coordinates n rates ds) ≤ 2 ^ m + 15
+pub rows-few : (n m rates : ℕ) (ds : List Dependence) → n ≤ m → rates ≤ most_rates → length (closed_coordinates n rates ds) ≤ 2 ^ m - 1 + most_rates
 rows-few n m rates ds h k =
     let all = span 1 (2 ^ n - 1) in
     let sets = filter (has_row n ds) all in
@@ -58,5 +59,5 @@ columns-few (c ∷ cs) = omega (arith, by_kind c.kind, columns-few cs)
     by_kind Equation = omega arith
 
 -- and rows times columns are few enough for a count
-pub product-few : (a b : ℕ) → a ≤ 1039 → b < 2 ^ 33 → a * b < 2 ^ 64
+pub product-few : (a b : ℕ) → a ≤ most_coordinates → b < 2 ^ 33 → a * b < 2 ^ 64
 product-few a b h k = omega (arith, mul-le-mul_right b h, k)

@@ -26,11 +26,11 @@ fn closed_sets(alloc: Global, dependences: &Dependences) -> Result<Vec<u32>, All
 {
     let space = dependences.space();
     let mut sets = Vec::new(alloc);
-    for number in 1..1u16 << space.variables {
+    for number in 1..1u32 << space.variables {
         push_if(
             &mut sets,
-            has_row(dependences, VarSet::from_number(number)),
-            number as u32,
+            has_row(dependences, VarSet::from_number(number as u16)),
+            number,
         )?;
     }
     Ok(sets)

@@ -1,8 +1,8 @@
 //! Rows over closed sets.
-ghost use Rattle.std.specs.Prelude.{◌≡◌, ◌<◌, ◌≤◌, ◌+◌, ◌^◌, ◌+ℤ◌, length, IfOk, IfErr, OnOk, OnErr};
+ghost use Rattle.std.specs.Prelude.{◌≡◌, ◌<◌, ◌≤◌, ◌+◌, ◌+ℤ◌, length, IfOk, IfErr, OnOk, OnErr};
 ghost use Rattle.it_number.specs.Limit.{IsWithin};
 ghost use Rattle.it_space.specs.Rows.{IsOver, coefficient};
-ghost use Rattle.it_space.specs.Spaces.{size_of};
+ghost use Rattle.it_space.specs.Spaces.{most_coordinates, size_of};
 ghost use Rattle.it_space.specs.Sums.{number_at};
 ghost use Rattle.it_closure.specs.Collapse.{AreSumsByPlace, CollapseFits, IsCollapseOf, place};
 ghost use Rattle.it_closure.specs.Placings.{ArePlaced, IsPutAtPlace};
@@ -48,7 +48,7 @@ impl Dependences {
 fn placed_sums(alloc: Global, dependences: &Dependences, row: &Row) -> Result<Sums, RowFault>
     requires { IsOver (size_of dependences.now.space) row.now }
     ensures placed { IfOk result (ArePlaced dependences.now.space.variables dependences.now.list row.now (size_of dependences.now.space + 1)) }
-    ensures few { IfOk result (λ s. length s ≤ 2 ^ 11) }
+    ensures few { IfOk result (λ s. length s ≤ most_coordinates + 1) }
     ensures wide { IfErr result (λ fault. fault ≡ RowFault.Wide → ¬ (CollapseFits dependences.now.space.variables dependences.now.list row.now)) }
 {
     let mut sums = Sums::zeros(alloc, dependences.space().size() as usize + 1)?;

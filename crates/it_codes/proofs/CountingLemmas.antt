@@ -2,7 +2,8 @@
 use Rattle.std.proofs.Common.{◌≡◌, ◌<◌, ◌+◌, ◌*◌, ◌/◌, ◌%◌, ◌^◌, ◌∙◌, ℕ, ◌≤◌, cond, List, length, map, drop, get_or, subst, sym, ap, arith}
 use Rattle.std.proofs.Math.Nat.{mod-add-mod, mod-eq_of_lt, mod-lt, mul-add, mul_assoc, mul-zero, add_assoc, add-zero, pow-suc}
 use Rattle.std.proofs.Math.Numerals.{suc-eq-add-one}
-use Rattle.std.proofs.Math.Pow.{pow_mono}
+use Rattle.it_space.specs.Spaces.{most_variables}
+use Rattle.it_space.proofs.SpaceLemmas.{few_sets}
 use Rattle.std.proofs.lemmas.List.{at_drop_more, drop_all, get_or-map}
 use Rattle.std.proofs.lemmas.List.Folds.{list_all-map}
 use Rattle.std.specs.List.{list_all}
@@ -66,9 +67,9 @@ set_end q m variables i set place total le inv =
     ∙ ap (λ vs. set + place * zero_set q m vs) (sym (drop_all i variables le))
     ∙ inv
 
--- the places of ten variables
-pub small_place : (i place : ℕ) → i < 10 → place ≡ 2 ^ i → place ≤ 512
-small_place i place lt is = let le : i ≤ 9 = omega arith in let power : 2 ^ i ≤ 2 ^ 9 = pow_mono {i = i} {j = 9} le in subst (λ n. n ≤ 512) (sym is) power
+-- the places of the variables, and the place behind the last one
+pub small_place : (i place : ℕ) → i ≤ most_variables → place ≡ 2 ^ i → place ≤ 2 ^ most_variables
+small_place i place few is = subst (λ n. n ≤ 2 ^ most_variables) (sym is) (few_sets i few)
 
 -- and the place behind one
 pub next_place : (i place : ℕ) → place ≡ 2 ^ i → place * 2 ≡ 2 ^ (i + 1)

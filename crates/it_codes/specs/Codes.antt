@@ -94,7 +94,7 @@ LackEntropy code = (s : ℕ) × (1 ≤ s) × (s < 2 ^ variables_of code) × ((h 
 abbrev pub most_messages : ℕ
 most_messages = 4096
 
--- the codes that functions accept: of 1 to 10 variables, with at most most_messages messages
+-- the codes that functions accept: of at least one variable, and no more than a space has, with at most most_messages messages
 pub record IsCode (code : CodeView) : Type 0 where
   pub some : 1 ≤ variables_of code
   pub few : variables_of code ≤ most_variables

@@ -43,9 +43,9 @@ fn vanishes(size: u32, message: u32, variable: &Variable) -> bool
 }
 
 /// `set` with the variable of place value `place` added if `is_member`.
-fn with_place(set: u16, place: u16, is_member: bool) -> u16
+fn with_place(set: u32, place: u32, is_member: bool) -> u32
     requires set { set < place }
-    requires place { place ≤ 512 }
+    requires place { place ≤ 2 ^ most_variables }
     ensures value { result ≡ set + place * cond is_member 1 0 }
     ensures below { result < 2 * place }
 {
@@ -59,13 +59,13 @@ fn zero_set(size: u32, message: u32, variables: &[Variable]) -> u16
     requires variables { length variables.now ≤ most_variables }
     ensures { result ≡ zero_set size message (map functions_of variables.now) }
 {
-    let mut set = 0;
-    let mut place = 1;
+    let mut set: u32 = 0;
+    let mut place: u32 = 1;
     for variable in variables {
         set = with_place(set, place, vanishes(size, message, variable));
         place *= 2;
     }
-    set
+    set as u16
 }
 
 /// The set of the variables that are 0 at each of the first `count` messages.

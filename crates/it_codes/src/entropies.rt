@@ -81,9 +81,9 @@ fn first_other_of(code: &LinearCode, sets: &[u16], times: u64, point: &Point) ->
     requires complete { 2 ^ variables_of code.now - 1 ≤ length point.now }
     ensures { FirstOtherIs code.now times point.now result }
 {
-    for set in 1..1u16 << code.variable_count() {
-        if !has_entropy(code, sets, times, point, set) {
-            return Some(set);
+    for set in 1..1u32 << code.variable_count() {
+        if !has_entropy(code, sets, times, point, set as u16) {
+            return Some(set as u16);
         }
     }
     None
@@ -117,8 +117,8 @@ pub fn entropies_of(alloc: Global, code: &LinearCode) -> Result<Option<Point>, A
         rates: 0,
     };
     let mut values = Vec::with_capacity(alloc, space.size() as usize)?;
-    for set in 1..1u16 << space.variables {
-        match entropy(code, sets.as_slice(), set) {
+    for set in 1..1u32 << space.variables {
+        match entropy(code, sets.as_slice(), set as u16) {
             Some(h) => values.push(h as i128)?,
             None => return Ok(None),
         }

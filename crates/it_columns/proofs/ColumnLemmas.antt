@@ -1,5 +1,5 @@
 -- The rows of the columns, their number, and the points that meet them.
-use Rattle.std.proofs.Common.{◌≡◌, ℕ, suc, ◌*◌, ◌<◌, ◌≤◌, ◌^◌, ℤ, pos, neg_ℤ, ◌≤ℤ◌, List, [], ◌∷◌, ◌++◌, length, get_or, arith}
+use Rattle.std.proofs.Common.{◌≡◌, ℕ, suc, ◌*◌, ◌<◌, ◌≤◌, ℤ, pos, neg_ℤ, ◌≤ℤ◌, List, [], ◌∷◌, ◌++◌, length, get_or, arith}
 use Rattle.std.specs.List.{flat_map, AllByRecursion as Every}
 use Rattle.std.proofs.lemmas.Int.{ints}
 use Rattle.it_problems.specs.declared.problems.Kind.{Kind}
@@ -9,6 +9,7 @@ use Rattle.it_space.specs.Rows.{Terms, value, negated_terms}
 use Rattle.it_space.proofs.EveryLemmas.{every-flat_map, every_flat_mapped, every-same}
 use Rattle.it_space.proofs.TermLemmas.{value-negated_terms}
 use Rattle.it_elemental.specs.Generators.{Generator, generators}
+use Rattle.it_elemental.specs.Places.{most_generators}
 use Rattle.it_elemental.proofs.GeneratorLemmas.{length-listed, few_elementals}
 use Rattle.it_columns.specs.Columns.{columns_by, columns}
 
@@ -56,5 +57,5 @@ few_columns (g ∷ gs) = by_kind g.kind (few_columns gs)
     by_kind Inequality h = omega arith
     by_kind Equation h = omega arith
 
-pub few_generators : (q : ProblemView) → IsProblem q → length (generators q) ≤ 2 ^ 21
+pub few_generators : (q : ProblemView) → IsProblem q → length (generators q) ≤ most_generators
 few_generators q k = omega (arith, length-listed q.space.variables q.constraints, few_elementals q.space.variables k.space.few, k.few)

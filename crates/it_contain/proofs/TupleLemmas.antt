@@ -9,7 +9,7 @@ use Rattle.std.proofs.lemmas.Grind.{flat_map-append}
 use Rattle.std.proofs.lemmas.Simd.{map-map}
 use Rattle.it_polymatroid.specs.Elementals.{span}
 use Rattle.it_polymatroid.proofs.Spans.{length-span, get_or-span, length-map-span}
-use Rattle.it_contain.specs.Shapes.{tuples, small_sets, all_sets}
+use Rattle.it_contain.specs.Shapes.{all_sets, most_shape_variables, small_sets, tuples}
 use Rattle.it_contain.specs.Digits.{digits, tuple_at}
 
 cons_inside : (xs : List ℕ) (x : ℕ) (ts : List (List ℕ))
@@ -105,11 +105,11 @@ at_all_sets n d lt = let e = get_or-span 0 (2 ^ n) d 0 lt in omega (arith, e)
 pub first_set : (n : ℕ) → get_or (all_sets n) 0 0 ≡ 0
 first_set n = at_all_sets n 0 (pow_pos n)
 
-pub few_sets : (n : ℕ) → n ≤ 10 → 2 ^ n ≤ 1024
+pub few_sets : (n : ℕ) → n ≤ most_shape_variables → 2 ^ n ≤ 2 ^ most_shape_variables
 few_sets n le = pow-le-pow_right (lit< tt) le
 
-pub few_tuples : (m a : ℕ) → m ≤ 1024 → a ≤ 4 → m ^ a < 2 ^ 64
+pub few_tuples : (m a : ℕ) → m ≤ 2 ^ most_shape_variables → a ≤ 4 → m ^ a < 2 ^ 64
 few_tuples m a few parts =
-    let base : m ^ a ≤ 1024 ^ a = pow-le-pow_left few a in
-    let whole : 1024 ^ a ≤ 1024 ^ 4 = pow-le-pow_right (lit< tt) parts in
+    let base : m ^ a ≤ (2 ^ most_shape_variables) ^ a = pow-le-pow_left few a in
+    let whole : (2 ^ most_shape_variables) ^ a ≤ (2 ^ most_shape_variables) ^ 4 = pow-le-pow_right (lit< tt) parts in
     omega (arith, base, whole)

@@ -1,7 +1,7 @@
 -- Tuples by their number. No public clause cites this module: it serves the proofs of `Tuples`.
 use Rattle.std.specs.Prelude.{ℕ, suc, zero, ◌≤◌, ◌<◌, ◌/◌, ◌%◌, List, [], ◌∷◌, ◌++◌, map, length, get_or}
 use Rattle.it_contain.specs.declared.types.Shape.{Shape}
-use Rattle.it_space.specs.Spaces.{most_variables}
+use Rattle.it_contain.specs.Shapes.{most_shape_variables}
 
 -- the last `parts` digits of `number` to base m, the last one at the end
 abbrev pub digits : ℕ → ℕ → ℕ → List ℕ
@@ -14,7 +14,7 @@ tuple_at xs parts number = map (λ d. get_or xs d 0) (digits (length xs) parts n
 
 -- a shape that a proposer may keep, also that of no variables, before it is begun
 abbrev pub IsShapeWithin : Shape → Type 0
-IsShapeWithin s = (s.variables ≤ most_variables) × (s.parts ≤ 4)
+IsShapeWithin s = (s.variables ≤ most_shape_variables) × (s.parts ≤ 4)
 
 -- four digits below m
 abbrev pub AreBelow : ℕ → List ℕ → Type 0

@@ -6,12 +6,15 @@ use Rattle.it_region.specs.declared.types.Pair.{Pair}
 use Rattle.it_region.specs.declared.types.Candidate.{Candidate}
 use Rattle.it_region.specs.Pulling.{singles}
 use Rattle.it_contain.specs.declared.types.Shape.{Shape}
-use Rattle.it_space.specs.Spaces.{most_variables}
 
--- 1 to 10 variables, and at most 4 parts
+-- the most variables of a shape: tuples of four of their sets then have numbers of 64 bits
+abbrev pub most_shape_variables : ℕ
+most_shape_variables = 10
+
+-- at least one variable, no more than that, and at most 4 parts
 pub record IsShape (s : Shape) : Type 0 where
   pub some : 1 ≤ s.variables
-  pub few : s.variables ≤ most_variables
+  pub few : s.variables ≤ most_shape_variables
   pub parts : s.parts ≤ 4
 
 -- the shape of a pair: the number of the first region's variables, and that of the parts

@@ -2,7 +2,7 @@
 ghost use Rattle.std.specs.Prelude.{◌≡◌, ◌≤◌, [], None};
 ghost use Rattle.std.specs.Option.{option_to_list};
 ghost use Rattle.it_contain.specs.Recents.{last_of, is_of_shape, recent_candidates};
-ghost use Rattle.it_space.specs.Spaces.{most_variables};
+ghost use Rattle.it_contain.specs.Shapes.{most_shape_variables};
 
 use crate::proposer::Proposer;
 use crate::types::Shape;
@@ -11,7 +11,7 @@ use it_region::{Candidate, are_below};
 /// Whether a candidate has as many parts as the shape, each a set of its variables.
 #[tactic(auto, unfolding(crate::specs::Recents::is_of_shape))]
 fn is_of_shape(shape: Shape, candidate: &Candidate) -> bool
-    requires { shape.variables ≤ most_variables }
+    requires { shape.variables ≤ most_shape_variables }
     ensures { result ≡ is_of_shape shape candidate.now }
 {
     candidate.count == shape.parts
@@ -24,7 +24,7 @@ fn is_of_shape(shape: Shape, candidate: &Candidate) -> bool
 
 /// The kept candidate, if there is one of this shape.
 fn of_shape(shape: Shape, kept: &Option<Candidate>) -> Option<Candidate>
-    requires { shape.variables ≤ most_variables }
+    requires { shape.variables ≤ most_shape_variables }
     ensures { option_to_list result ≡ recent_candidates shape kept.now }
 {
     match kept {

@@ -1,8 +1,7 @@
 //! The proposers of all tuples of sets, which come by their number.
-ghost use Rattle.std.specs.Prelude.{◌≡◌, ◌<◌, ◌≤◌, ◌++◌, ◌∷◌, ℕ, List, [], length, get_or, take, drop};
+ghost use Rattle.std.specs.Prelude.{◌≡◌, ◌<◌, ◌≤◌, ◌^◌, ◌++◌, ◌∷◌, ℕ, List, [], length, get_or, take, drop};
 ghost use Rattle.it_contain.specs.Digits.{digits, tuple_at, AreBelow, IsShapeWithin};
-ghost use Rattle.it_contain.specs.Shapes.{candidate_of, tuple_candidates};
-ghost use Rattle.it_space.specs.Spaces.{most_variables};
+ghost use Rattle.it_contain.specs.Shapes.{candidate_of, most_shape_variables, tuple_candidates};
 
 use crate::proposer::Proposer;
 use crate::types::Shape;
@@ -17,15 +16,15 @@ pub trait PartSets {
 
     /// The number of sets in the list.
     fn count(variables: u8) -> u64
-        requires { variables ≤ most_variables }
+        requires { variables ≤ most_shape_variables }
         ensures value { result ≡ length (sets variables) }
         ensures some { 0 < result }
-        ensures few { result ≤ 1024 }
+        ensures few { result ≤ 2 ^ most_shape_variables }
         ensures empty_first { get_or (sets variables) 0 0 ≡ 0 };
 
     /// Set number `number` of the list, counted from 0.
     fn set_at(variables: u8, number: u64) -> VarSet
-        requires few { variables ≤ most_variables }
+        requires few { variables ≤ most_shape_variables }
         requires within { number < length (sets variables) }
         ensures { result ≡ get_or (sets variables) number 0 };
 }

@@ -7,13 +7,12 @@ use Rattle.it_syntax.specs.NamesViews.{NamesView, index_of}
 use Rattle.it_syntax.specs.Givens.{GivenView}
 use Rattle.it_question.specs.NewNames.{Variable, is_taken, with_name}
 use Rattle.it_question.specs.Questions.{VerbView, Prove, Eliminate, Contain, BodyView}
-use Rattle.it_question.specs.QuestionLimits.{most_lines}
+use Rattle.it_question.specs.QuestionLimits.{most_lines, most_names}
 use Rattle.it_question.specs.TableSizes.{HasSmallTable}
 use Rattle.it_copy.specs.declared.types.CopyFault.{CopyFault}
 use Rattle.it_copy.specs.declared.types.CopyFault.TheVariants as faults
 use Rattle.it_copy.specs.CopyLines.{CopyView}
 use Rattle.it_copy.specs.Equations.{copy_equations}
-use Rattle.it_space.specs.Spaces.{most_variables}
 
 -- the set s with the variables of these names; none if a name isn't that of a variable
 abbrev pub set_with : List (List ℕ) → ℕ → List (List ℕ) → Option ℕ
@@ -31,7 +30,7 @@ named_parts v c = option_and_then (λ a. option_and_then (unless_member a) (set_
 -- The variable that a copy is of and the set that it is over, by their numbers; none where the copy can't be made: its name is taken, a
 -- name isn't that of a variable, the variable is in the set, or there are as many variables as are allowed.
 unfoldable pub placed : NamesView → CopyView → Option (ℕ × ℕ)
-placed v c = if is_taken v c.fresh || nat_le most_variables (length v.variables) then None else named_parts v c
+placed v c = if is_taken v c.fresh || nat_le most_names (length v.variables) then None else named_parts v c
 
 -- the names with that of a copy as the next variable
 abbrev pub with_copy : NamesView → CopyView → NamesView

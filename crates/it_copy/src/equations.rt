@@ -131,7 +131,7 @@ fn before(fresh: u8) -> VarSet
     requires { fresh ≤ most_variables }
     ensures { result ≡ 2 ^ fresh - 1 }
 {
-    VarSet::from_number((1u16 << fresh) - 1)
+    VarSet::from_number(((1u32 << fresh) - 1) as u16)
 }
 
 /// Appends the equations of the variable `fresh`, a copy of the variable `old` over the set `over`.

@@ -8,18 +8,17 @@ ghost use Rattle.it_question.specs.Limits.{IsQuestion};
 ghost use Rattle.it_question.specs.NewNames.{Variable, is_taken, with_name};
 ghost use Rattle.it_question.specs.TableSizes.{most_entries};
 ghost use Rattle.it_question.specs.Questions.{Prove};
-ghost use Rattle.it_question.specs.QuestionLimits.{most_lines};
+ghost use Rattle.it_question.specs.QuestionLimits.{most_lines, most_names};
 ghost use Rattle.it_copy.specs.CopyLines.{AreNamed, copy_view};
 ghost use Rattle.it_copy.specs.Extensions.{IsExtension, IsMisfit, equations_of, extended, first_unplaced, named_parts, placed, set_with, unless_member, with_copies, equations_at};
 ghost use Rattle.it_copy.specs.ExtensionSteps.{IsLarge, IsLargeBy, IsPastLimits, IsUnplaced};
-ghost use Rattle.it_space.specs.Spaces.{most_variables};
 
 use crate::equations::add_equations;
 use crate::types::{CopyFault, CopyLine};
 use it_canon::problem;
 use it_closure::size;
 use it_problems::Problem;
-use it_question::readers::{Body, MOST_ENTRIES, MOST_LINES, MOST_VARIABLES};
+use it_question::readers::{Body, MOST_ENTRIES, MOST_LINES, MOST_NAMES};
 use it_question::types::{OwnLines, Question, Verb};
 use it_space::VarSet;
 use it_syntax::types::{Given, Relation};
@@ -36,9 +35,9 @@ fn is_taken(names: &Names, name: &[u8]) -> bool
 
 /// Whether there are as many variables as are allowed.
 fn is_full(names: &Names) -> bool
-    ensures { result ≡ nat_le most_variables (length names.now.variables) }
+    ensures { result ≡ nat_le most_names (length names.now.variables) }
 {
-    MOST_VARIABLES <= usize::from(names.space().variables)
+    MOST_NAMES <= usize::from(names.space().variables)
 }
 
 /// `set` with the variable `i`.
@@ -106,7 +105,7 @@ fn add_copy(
     requires new { is_taken names.old fresh.now ≡ false }
     requires some { 1 ≤ length fresh.now }
     requires short { length fresh.now ≤ 16 }
-    requires room { length names.old.variables < most_variables }
+    requires room { length names.old.variables < most_names }
     requires old { place.0 < 16 }
     requires inside { place.1 < 2 ^ length names.old.variables }
     ensures names { OnOk result (names.new ≡ with_name Variable names.old fresh.now) }

@@ -5,19 +5,19 @@ use Rattle.it_number.proofs.Integers.{zring}
 use Rattle.it_polymatroid.specs.Certificates.{Form}
 use Rattle.it_space.specs.Sums.{number_at, IsAdded}
 use Rattle.it_space.proofs.SumLemmas.{added-set}
-use Rattle.it_demand.specs.Coefficients.{dense_form_from, dense_form, largest, IsFormAdded}
+use Rattle.it_demand.specs.Coefficients.{dense_form_from, dense_form, mass, IsFormAdded}
 
--- no coefficient is above the largest
-pub get-largest : (xs : List ℤ) (i : ℕ) → unsigned_abs (get_or xs i (pos 0)) ≤ largest xs
-get-largest [] i = omega arith
-get-largest (x ∷ xs) zero = omega arith
-get-largest (x ∷ xs) (suc i) = omega (arith, get-largest xs i)
+-- no coefficient is above the sum of the absolute values
+pub get-mass : (xs : List ℤ) (i : ℕ) → unsigned_abs (get_or xs i (pos 0)) ≤ mass xs
+get-mass [] i = omega arith
+get-mass (x ∷ xs) zero = omega arith
+get-mass (x ∷ xs) (suc i) = omega (arith, get-mass xs i)
 
 -- one coefficient more by y
-set-largest : (xs : List ℤ) (i : ℕ) (y : ℤ) → largest (set xs i (get_or xs i (pos 0) +ℤ y)) ≤ largest xs + unsigned_abs y
-set-largest [] i y = omega arith
-set-largest (x ∷ xs) zero y = omega (arith, ints)
-set-largest (x ∷ xs) (suc i) y = omega (arith, set-largest xs i y)
+set-mass : (xs : List ℤ) (i : ℕ) (y : ℤ) → mass (set xs i (get_or xs i (pos 0) +ℤ y)) ≤ mass xs + unsigned_abs y
+set-mass [] i y = omega arith
+set-mass (x ∷ xs) zero y = omega (arith, ints)
+set-mass (x ∷ xs) (suc i) y = omega (arith, set-mass xs i y)
 
 set-total : (first : ℕ) (xs : List ℤ) (i : ℕ) (y : ℤ) (p : ℕ → ℤ) → i < length xs
     → dense_form_from first (set xs i (get_or xs i (pos 0) +ℤ y)) p ≡ dense_form_from first xs p +ℤ y *ℤ p (first + i)
@@ -36,7 +36,7 @@ set-total first (x ∷ xs) (suc i) y p h =
 with_set : (xs : List ℤ) (i : ℕ) (y : ℤ) → i < length xs → IsFormAdded xs (set xs i (get_or xs i (pos 0) +ℤ y)) (unsigned_abs y) (λ p. y *ℤ p i)
 with_set xs i y h = record {
   complete = length-set xs i (get_or xs i (pos 0) +ℤ y);
-  small = set-largest xs i y;
+  small = set-mass xs i y;
   sum = λ p. set-total 0 xs i y p h ∙ ap (λ n. dense_form xs p +ℤ y *ℤ p n) (omega arith);
 }
 
@@ -56,13 +56,13 @@ form_added xs ys i y h a =
     subst (λ (zs : List ℤ). IsFormAdded xs zs (unsigned_abs y) (λ p. y *ℤ p i)) (sym e) (with_set xs i y h)
 
 -- the sum stays within 128 bits
-pub room-fits : (xs : List ℤ) (i : ℕ) (y : ℤ) → largest xs + unsigned_abs y < 2 ^ 127 → unsigned_abs (get_or xs i (pos 0) +ℤ y) < 2 ^ 127
-room-fits xs i y h = omega (arith, ints, get-largest xs i)
+pub room-fits : (xs : List ℤ) (i : ℕ) (y : ℤ) → mass xs + unsigned_abs y < 2 ^ 127 → unsigned_abs (get_or xs i (pos 0) +ℤ y) < 2 ^ 127
+room-fits xs i y h = omega (arith, ints, get-mass xs i)
 
 -- coefficients that are all 0
-pub zeros-largest : (n : ℕ) → largest (replicate n (pos 0)) ≡ 0
-zeros-largest zero = refl
-zeros-largest (suc n) = omega (arith, zeros-largest n)
+pub zeros-mass : (n : ℕ) → mass (replicate n (pos 0)) ≡ 0
+zeros-mass zero = refl
+zeros-mass (suc n) = omega (arith, zeros-mass n)
 
 pub zeros-total : (first n : ℕ) (p : ℕ → ℤ) → dense_form_from first (replicate n (pos 0)) p ≡ pos 0
 zeros-total first zero p = refl

@@ -6,12 +6,12 @@ use Rattle.it_space.proofs.ListLemmas.{drop_item}
 use Rattle.it_polymatroid.specs.Certificates.{Form}
 use Rattle.it_syntax.specs.declared.types.Term.{Term}
 use Rattle.it_syntax.specs.Meaning.{atom_at, side_at, multiplicity}
-use Rattle.it_demand.specs.Coefficients.{dense_form, largest, signed_by, IsFormAdded}
+use Rattle.it_demand.specs.Coefficients.{dense_form, mass, signed_by, IsFormAdded}
 
--- the first i items are added, each changing no coefficient by more than a bound, and the form of the rest is still to add
+-- the first i items are added, each of which adds at most a bound to the sum of the absolute values, and the form of the rest is still to add
 pub record IsUnderWay {X : Type 0} (form : List X → Form) (bound : ℕ) (old now : List ℤ) (items : List X) (i : ℕ) : Type 0 where
   pub complete : length now ≡ length old
-  pub small : largest now ≤ largest old + bound * i
+  pub small : mass now ≤ mass old + bound * i
   pub sum : (p : ℕ → ℤ) → dense_form now p +ℤ form (drop i items) p ≡ dense_form old p +ℤ form items p
 
 -- one item further

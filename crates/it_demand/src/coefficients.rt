@@ -1,10 +1,10 @@
 //! The coefficients of a linear form while it is added up.
 ghost use Rattle.std.specs.Prelude.{◌≡◌, ◌+◌, ◌*◌, ◌-◌, ◌^◌, ◌<◌, ◌≤◌, ℕ, ℤ, pos, ◌-ℤ◌, ◌*ℤ◌, neg_ℤ, unsigned_abs, bit_or, length, All, IfOk};
-ghost use Rattle.it_space.specs.Rows.{IsCanonical, IsOver, value};
-ghost use Rattle.it_space.specs.Spaces.{IsSpace, size_of};
+ghost use Rattle.it_space.specs.Rows.{IsCanonical, IsOver, row_mass, value};
+ghost use Rattle.it_space.specs.Spaces.{IsSpace, most_coordinates, size_of};
 ghost use Rattle.it_syntax.specs.declared.types.Atom.TheVariants.{Mutual};
 ghost use Rattle.it_syntax.specs.Meaning.{IsAtomOf, atom_at, side_at, multiplicity};
-ghost use Rattle.it_demand.specs.Coefficients.{dense_form, largest, IsFormAdded, IsNoLarger, signed_by};
+ghost use Rattle.it_demand.specs.Coefficients.{dense_form, mass, IsFormAdded, signed_by};
 
 use it_space::{Row, Space, Sums, VarSet};
 use it_syntax::types::{Atom, Term};
@@ -31,8 +31,8 @@ impl Coefficients {
     pub fn new(alloc: Global, space: Space) -> Result<Coefficients, AllocError>
         requires { IsSpace space }
         ensures complete { IfOk result (λ s. length s ≡ size_of space + 1) }
-        ensures few { IfOk result (λ s. length s ≤ 1040) }
-        ensures small { IfOk result (λ s. largest s ≡ 0) }
+        ensures few { IfOk result (λ s. length s ≤ most_coordinates + 1) }
+        ensures small { IfOk result (λ s. mass s ≡ 0) }
         ensures zero { IfOk result (λ s. (p : ℕ → ℤ) → dense_form s p ≡ pos 0) }
     {
         let sums = Sums::zeros(alloc, space.size() as usize + 1)?;
@@ -42,7 +42,7 @@ impl Coefficients {
     /// Adds `times` times the value at `coordinate`.
     pub fn add(&mut self, coordinate: usize, times: i128)
         requires within { coordinate < length self.old }
-        requires room { largest self.old + unsigned_abs times < 2 ^ 127 }
+        requires room { mass self.old + unsigned_abs times < 2 ^ 127 }
         ensures { IsFormAdded self.old self.new (unsigned_abs times) (λ p. times *ℤ p coordinate) }
     {
         // There is room for the sum.
@@ -54,7 +54,7 @@ impl Coefficients {
     /// Adds `times` times the entropy of `set`.
     fn add_set(&mut self, set: VarSet, times: i128)
         requires within { set < length self.old }
-        requires room { largest self.old + unsigned_abs times < 2 ^ 127 }
+        requires room { mass self.old + unsigned_abs times < 2 ^ 127 }
         ensures { IsFormAdded self.old self.new (unsigned_abs times) (λ p. times *ℤ p set) }
     {
         self.add(set.number() as usize, times);
@@ -63,7 +63,7 @@ impl Coefficients {
     /// Subtracts `times` times the entropy of `set`.
     fn take_set(&mut self, set: VarSet, times: i128)
         requires within { set < length self.old }
-        requires room { largest self.old + unsigned_abs times < 2 ^ 127 }
+        requires room { mass self.old + unsigned_abs times < 2 ^ 127 }
         ensures { IsFormAdded self.old self.new (unsigned_abs times) (λ p. neg_ℤ times *ℤ p set) }
     {
         self.add_set(set, -times);
@@ -74,7 +74,7 @@ impl Coefficients {
         requires space { IsSpace space }
         requires atom { IsAtomOf space.variables space.rates atom }
         requires complete { length self.old ≡ size_of space + 1 }
-        requires room { largest self.old + 4 * unsigned_abs times < 2 ^ 127 }
+        requires room { mass self.old + 4 * unsigned_abs times < 2 ^ 127 }
         ensures { IsFormAdded self.old self.new (4 * unsigned_abs times) (λ p. times *ℤ atom_at space.variables p atom) }
     {
         match atom {
@@ -89,7 +89,7 @@ impl Coefficients {
     fn add_entropy(&mut self, of: VarSet, given: VarSet, times: i128)
         requires of { bit_or of given < length self.old }
         requires given { given < length self.old }
-        requires room { largest self.old + 2 * unsigned_abs times < 2 ^ 127 }
+        requires room { mass self.old + 2 * unsigned_abs times < 2 ^ 127 }
         ensures { IsFormAdded self.old self.new (2 * unsigned_abs times) (λ p. times *ℤ (p (bit_or of given) -ℤ p given)) }
     {
         self.add_set(of.union(given), times);
@@ -102,7 +102,7 @@ impl Coefficients {
         requires right { bit_or right given < length self.old }
         requires both { bit_or (bit_or left right) given < length self.old }
         requires given { given < length self.old }
-        requires room { largest self.old + 4 * unsigned_abs times < 2 ^ 127 }
+        requires room { mass self.old + 4 * unsigned_abs times < 2 ^ 127 }
         ensures { IsFormAdded self.old self.new (4 * unsigned_abs times) (λ p. times *ℤ atom_at 0 p (Mutual left right given)) }
     {
         self.add_set(left.union(given), times);
@@ -118,7 +118,7 @@ impl Coefficients {
         requires denominators { All (λ t. 1 ≤ t.denominator) terms.now }
         requires small { multiple ≤ 2 ^ 32 }
         requires complete { length self.old ≡ size_of space + 1 }
-        requires room { largest self.old + 2 ^ 98 * length terms.now < 2 ^ 127 }
+        requires room { mass self.old + 2 ^ 98 * length terms.now < 2 ^ 127 }
         ensures { IsFormAdded self.old self.new (2 ^ 98 * length terms.now) (λ p. signed_by negative (side_at space.variables p multiple terms.now)) }
     {
         for term in terms {
@@ -128,12 +128,12 @@ impl Coefficients {
 
     /// The row with these coefficients. The one of the empty set is left out.
     pub fn into_row(self, alloc: Global) -> Result<Row, AllocError>
-        requires complete { length self ≤ 1040 }
-        requires small { largest self < 2 ^ 127 }
+        requires complete { length self ≤ most_coordinates + 1 }
+        requires small { mass self < 2 ^ 127 }
         ensures same { IfOk result (λ row. (p : ℕ → ℤ) → p 0 ≡ pos 0 → value row p ≡ dense_form self p) }
         ensures coordinates { IfOk result (IsOver (length self - 1)) }
         ensures canonical { IfOk result IsCanonical }
-        ensures bounded { IfOk result (IsNoLarger self) }
+        ensures bounded { IfOk result (λ row. row_mass row ≤ mass self) }
     {
         Ok(Row::new(self.sums.terms(alloc, 1)?))
     }

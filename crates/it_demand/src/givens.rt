@@ -7,7 +7,7 @@ ghost use Rattle.it_syntax.specs.Meaning.{IsAtomOf, atom_at};
 ghost use Rattle.it_demand.specs.Canonical.{IsRowOf};
 ghost use Rattle.it_demand.specs.Demands.{demands, independence_form, kind_of};
 ghost use Rattle.it_demand.specs.Origins.{AreParts};
-ghost use Rattle.it_demand.specs.Coefficients.{IsFormAdded, largest};
+ghost use Rattle.it_demand.specs.Coefficients.{IsFormAdded, mass};
 
 use crate::coefficients::Coefficients;
 use crate::relations::canon;
@@ -166,7 +166,7 @@ fn add_members(sums: &mut Coefficients, space: Space, members: &[VarSet], given:
     requires within { AreSetsOf space.variables 2 16 members.now }
     requires given { given < 2 ^ space.variables }
     requires complete { length sums.old ≡ size_of space + 1 }
-    requires small { largest sums.old ≡ 0 }
+    requires small { mass sums.old ≡ 0 }
     ensures { IsFormAdded sums.old sums.new (4 * length members.now) (λ p. sum_of_conditionals space.variables p members.now given) }
 {
     for member in members {

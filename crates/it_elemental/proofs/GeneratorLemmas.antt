@@ -1,14 +1,15 @@
 -- The list of generators, by number.
 use Rattle.std.proofs.Common.{◌≡◌, ℕ, zero, suc, ◌+◌, ◌-◌, ◌*◌, ◌/◌, ◌^◌, ◌<◌, ◌≤◌, ℤ, pos, List, [], ◌∷◌, length, map, get_or, refl, sym, ap, subst, ◌∙◌, arith, length-append, All}
 use Rattle.std.proofs.lemmas.List.{get_or_default, get_or-map, get_or_append_left, get_or-append_right, length-map}
-use Rattle.std.proofs.Math.Pow.{pow_mono}
 use Rattle.it_problems.specs.declared.problems.Kind.TheVariants.{Inequality}
 use Rattle.it_problems.specs.declared.problems.Constraint.{Constraint}
 use Rattle.it_space.specs.Rows.{Terms, coefficient, IsOver}
+use Rattle.it_space.specs.Spaces.{most_variables}
+use Rattle.it_space.proofs.SpaceLemmas.{few_sets}
 use Rattle.std.proofs.lemmas.List.Elements.{All-head, All-tail}
 use Rattle.it_space.proofs.CanonicalRows.{other_is}
 use Rattle.it_polymatroid.specs.Elementals.{Conditional, elementals, elemental_at}
-use Rattle.it_elemental.specs.Places.{index_pairs}
+use Rattle.it_elemental.specs.Places.{index_pairs, most_elementals, most_pairs, most_sets_without_two}
 use Rattle.it_elemental.proofs.PairLemmas.{length-index_pairs}
 use Rattle.std.specs.List.{AllByRecursion as Every}
 use Rattle.it_space.proofs.EveryLemmas.{every_of, every-append, every-map}
@@ -37,12 +38,12 @@ after_is_constraint n cs i d h l =
     ∙ get_or-map of_constraint cs (i - length (elementals n)) d (record { kind = Inequality; row = [] }) (omega (arith, length-listed n cs, l))
 
 -- there are few elemental inequalities
-pub few_elementals : (n : ℕ) → n ≤ 10 → length (elementals n) ≤ 20000
+pub few_elementals : (n : ℕ) → n ≤ most_variables → length (elementals n) ≤ most_elementals
 few_elementals n h =
-    let power : 2 ^ n ≤ 2 ^ 10 = pow_mono {i = n} {j = 10} h in
-    let square : n * (n - 1) ≤ 10 * 10 = product n (n - 1) 10 10 h (omega arith) in
-    let both : length (index_pairs n) * (2 ^ n / 4) ≤ 50 * 256 = product (length (index_pairs n)) (2 ^ n / 4) 50 256
-    (omega (arith, length-index_pairs n)) (omega arith) in
+    let power : 2 ^ n ≤ 2 ^ most_variables = few_sets n h in
+    let square : n * (n - 1) ≤ most_variables * (most_variables - 1) = product n (n - 1) most_variables (most_variables - 1) h (omega arith) in
+    let both : length (index_pairs n) * (2 ^ n / 4) ≤ most_pairs * most_sets_without_two =
+    product (length (index_pairs n)) (2 ^ n / 4) most_pairs most_sets_without_two (omega (arith, length-index_pairs n)) (omega arith) in
     omega (arith, length-elementals n)
   where
     product : (a b c d : ℕ) → a ≤ c → b ≤ d → a * b ≤ c * d

@@ -1,5 +1,5 @@
 -- The combined column weighs no more than the bounds on rows allow, so that its entries in rows that stay behind are short.
-use Rattle.std.proofs.Common.{◌≡◌, ◌⊎◌, inl, inr, ℕ, zero, suc, ◌+◌, ◌*◌, ◌<◌, ◌≤◌, ◌^◌, ◌++◌, ◌∷◌, Bool, true, false, cond, ℤ, pos, negsuc, ◌*ℤ◌, neg_ℤ, unsigned_abs, List, [], length, slice_index_or, sym, ap, ap₂, subst, ◌∙◌, arith}
+use Rattle.std.proofs.Common.{◌≡◌, ◌⊎◌, inl, inr, ℕ, zero, suc, ◌+◌, ◌*◌, ◌<◌, ◌≤◌, ◌^◌, ◌∷◌, Bool, true, false, cond, ℤ, pos, negsuc, ◌*ℤ◌, neg_ℤ, unsigned_abs, List, [], length, slice_index_or, sym, ap, ap₂, subst, ◌∙◌, arith}
 use Rattle.std.proofs.lemmas.Bool.{cases_lt}
 use Rattle.std.proofs.lemmas.Int.{unsigned_abs-mul}
 use Rattle.std.proofs.lemmas.List.{get_or_past}
@@ -7,6 +7,7 @@ use Rattle.std.proofs.lemmas.Nat.{mul-le}
 use Rattle.it_number.proofs.SignLemmas.{size_negated}
 use Rattle.it_space.specs.Rows.{Terms, row_mass}
 use Rattle.it_space.specs.Sums.{number_at}
+use Rattle.it_space.proofs.TermLemmas.{mass-append}
 use Rattle.it_vectors.specs.Sizes.{AreAtMost}
 use Rattle.it_whole.specs.ColumnTerms.{multiple_of_terms, Suits}
 use Rattle.it_whole.specs.WholeRows.{WholeRowView}
@@ -25,13 +26,6 @@ mass_of_multiple factor (t ∷ ts) = ap₂ (λ x y. x + y) (unsigned_abs-mul t.1
   where
     in_one : (x y f : ℕ) → x * f + y * f ≡ (x + y) * f
     in_one x y f = omega arith
-
-mass_of_both : (left right : Terms) → row_mass (left ++ right) ≡ row_mass left + row_mass right
-mass_of_both [] right = omega arith
-mass_of_both (t ∷ ts) right = ap (λ x. unsigned_abs t.1 + x) (mass_of_both ts right) ∙ in_order (unsigned_abs t.1) (row_mass ts) (row_mass right)
-  where
-    in_order : (x y z : ℕ) → x + (y + z) ≡ x + y + z
-    in_order x y z = omega arith
 
 mass_of_share : (entry : ℤ) (share : ℕ) (d : Terms) → row_mass (multiple_of_terms (neg_ℤ (entry *ℤ pos share)) d) ≡ row_mass d * (unsigned_abs entry * share)
 mass_of_share entry share d = mass_of_multiple (neg_ℤ (entry *ℤ pos share)) d
@@ -61,7 +55,7 @@ module _ (columns : List Terms) (rows : List WholeRowView) (basis : List ℕ) (m
   mass_less zero = let w = mul-le (row_mass (slice_index_or columns c [])) multiple norm multiple (column_mass c) (omega arith) in
       let e = mass_of_multiple (pos multiple) (slice_index_or columns c []) in omega (arith, w, e)
   mass_less (suc k) = subst (λ (x : ℕ). x ≤ norm * multiple + norm * shares_of (suc k))
-      (sym (mass_of_both (column_less_moved columns rows basis moved entries multiple c k)
+      (sym (mass-append (column_less_moved columns rows basis moved entries multiple c k)
       (cond (has_moved moved k) (taken_terms (number_at entries k) (share_of multiple rows k) d) [])))
       (by_move (has_moved moved k) (mass_less k))
     where

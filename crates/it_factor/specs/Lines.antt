@@ -1,8 +1,9 @@
 -- The lines of mode `best`.
-use Rattle.std.specs.Prelude.{ℕ, ◌+◌, ◌<◌, ◌^◌, ℤ, List, ◌++◌, All, length, codes, decimal}
+use Rattle.std.specs.Prelude.{ℕ, ◌+◌, ◌<◌, ◌≤◌, ◌^◌, ℤ, List, ◌++◌, All, length, codes, decimal}
 use Rattle.std.specs.Fmt.{signed_decimal}
 use Rattle.it_space.specs.Answers.{CertificateView}
 use Rattle.it_space.specs.declared.answers.Certificate.{Certificate}
+use Rattle.it_space.specs.Spaces.{most_coordinates}
 use Rattle.it_problems.specs.declared.problems.Origin.{Origin}
 use Rattle.it_polymatroid.specs.Elementals.{elementals}
 use Rattle.it_syntax.specs.NamesViews.{NamesView}
@@ -52,7 +53,7 @@ IsThere n m c = All (λ w. w.0 < length (elementals n) + m) c.weights.items
 
 -- the values of a point are of the names' space
 abbrev pub AreValuesOf : NamesView → List ℤ → Type 0
-AreValuesOf v values = (length values < 2 ^ length v.variables + length v.rates) × (length values < 2 ^ 16)
+AreValuesOf v values = (length values < 2 ^ length v.variables + length v.rates) × (length values ≤ most_coordinates)
 
 -- what was found can be printed with m constraints: its generators are there, and its values are of the names' space
 abbrev pub IsBestPrintable : NamesView → ℕ → Best → Type 0

@@ -8,6 +8,7 @@ use Rattle.std.specs.Int.{bit_at}
 use Rattle.std.specs.Int.Bits.{or_zero_l}
 use Rattle.it_space.specs.Rows.{point_of}
 use Rattle.it_space.specs.Sets.{has_member, IsInside}
+use Rattle.it_space.specs.Spaces.{most_variables}
 use Rattle.it_space.proofs.SetLemmas.{bit_without, inside_below}
 use Rattle.it_polymatroid.specs.Polymatroid.{IsPolymatroid}
 use Rattle.it_polymatroid.proofs.Images.{inside_meet}
@@ -176,7 +177,7 @@ equal_settles n p s x y rest exchanged h j l m bits e is less v q k f agree =
     in let d = ap (λ t. bit_at t i) is in let g = bit_at_or rest (2 ^ x) i in let t = ap (λ t. bit_at t i) w.1 in omega arith) in
     sym own ∙ ap q both ∙ other ∙ agree exchanged less ∙ sym v
 
-pub independent_settles : (n : ℕ) (p : ℕ → ℤ) (s whole : ℕ) → n ≤ 10 → whole < 2 ^ n → IsInside s whole → ((i : ℕ) → i < n → s ≢ 2 ^ i)
+pub independent_settles : (n : ℕ) (p : ℕ → ℤ) (s whole : ℕ) → n ≤ most_variables → whole < 2 ^ n → IsInside s whole → ((i : ℕ) → i < n → s ≢ 2 ^ i)
     → p s ≡ sum_of_members n p s → Settles n p s (Independent whole)
 unfolding Settles
 independent_settles n p s whole few l i several v q k f agree =

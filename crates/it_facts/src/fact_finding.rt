@@ -95,8 +95,8 @@ fn set_fact(point: &Point, n: u8, set: VarSet) -> Fact
 fn put_set_facts(facts: &mut Vec<Fact>, point: &Point, space: Space) -> Result<(), AllocError>
     requires { IsSpace space }
 {
-    for number in 1..1u16 << space.variables {
-        let set = VarSet::from_number(number);
+    for number in 1..1u32 << space.variables {
+        let set = VarSet::from_number(number as u16);
         if !follows(facts.as_slice(), point, space, set) {
             facts.push(set_fact(point, space.variables, set))?;
         }

@@ -294,8 +294,8 @@ fn tell_sets(facts: &[Fact], point: &Point, space: Space) -> bool
     requires { IsSpace space }
     ensures { OnTrue result ((s : ℕ) → s < 2 ^ space.variables → Follows space.variables (point_of point.now) facts.now s) }
 {
-    for number in 0..1u16 << space.variables {
-        if !follows(facts, point, space, VarSet::from_number(number)) {
+    for number in 0..1u32 << space.variables {
+        if !follows(facts, point, space, VarSet::from_number(number as u16)) {
             return false;
         }
     }

@@ -27,12 +27,11 @@ use Rattle.it_syntax.specs.NamesViews.{NamesView}
 use Rattle.it_question.specs.Files.{IsFile}
 use Rattle.it_question.specs.NewNames.{Variable, no_names, with_name, is_taken, new_flag}
 use Rattle.it_question.specs.QuestionForms.{new_name, more_new, new_names, names_line, own_lines, more_own_lines, verb, question, more_questions, file}
-use Rattle.it_question.specs.QuestionLimits.{most_questions, most_lines}
+use Rattle.it_question.specs.QuestionLimits.{most_lines, most_names, most_questions}
 use Rattle.it_question.specs.OwnLines.{no_lines}
 use Rattle.it_question.specs.Questions.{BodyView, Prove}
 use Rattle.it_gen.proofs.SpelledForms.{IsLetter, IsWritten, letter_written, then_written, none_written, one_written}
 use Rattle.it_gen.proofs.PartTexts.{four_variables, relation_text, relation_written}
-use Rattle.it_space.specs.Spaces.{most_variables}
 
 -- ---- the lines of a question
 
@@ -41,8 +40,8 @@ unfolding is_word_byte
 keyword w h = writes_then (writes_word w h) writes_space (λ rest d. refl)
 
 new_written : (v : NamesView) (w : List ℕ) → IsText kinds.Word w
-    → new_flag (is_measure w) (is_taken v w) (most_variables - length v.variables) ≡ None
-    → IsWritten (Stops is_word_byte) w (new_name Variable most_variables v)
+    → new_flag (is_measure w) (is_taken v w) (most_names - length v.variables) ≡ None
+    → IsWritten (Stops is_word_byte) w (new_name Variable most_names v)
 unfolding new_name
 new_written v w h e = letter_written (record {
   letter = Word w;
@@ -60,7 +59,7 @@ abbrev variables_alone : List (List ℕ) → NamesView
 variables_alone names = record { variables = names; rates = [] }
 
 -- the names of the variables
-declared : IsWritten (Stops is_word_byte) (codes "A, B, C, D") (Then (new_name Variable most_variables no_names) (more_new Variable most_variables))
+declared : IsWritten (Stops is_word_byte) (codes "A, B, C, D") (Then (new_name Variable most_names no_names) (more_new Variable most_names))
 unfolding more_new is_word_byte is_taken new_written letter_written
 declared =
     let short : 1 ≤ 16 = omega arith in
@@ -142,7 +141,7 @@ end_says : (k : FlaggedLetters) → Spells line_end tt ((End, None) ∷ k) k
 unfolding Spells
 end_says k = (End, refl, refl, refl)
 
-names_say : (k : FlaggedLetters) → Spells (new_names Variable most_variables no_names) four_variables (declared.prefix ((End, None) ∷ k)) k
+names_say : (k : FlaggedLetters) → Spells (new_names Variable most_names no_names) four_variables (declared.prefix ((End, None) ∷ k)) k
 unfolding Spells new_names more_new declared new_written letter_written then_written one_written none_written
 names_say k = let d = declared.says ((End, None) ∷ k) in (d.0, d.1, d.2, (four_variables, (End, None) ∷ k, d.3, (tt, k, end_says k, (refl, refl))))
 

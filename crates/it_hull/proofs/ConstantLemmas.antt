@@ -7,7 +7,7 @@ use Rattle.it_problems.specs.declared.problems.Constraint.{Constraint}
 use Rattle.it_space.specs.declared.spaces.Space.{Space}
 use Rattle.it_problems.specs.Problems.{IsProblem}
 use Rattle.it_space.specs.Rows.{IsOver}
-use Rattle.it_space.specs.Spaces.{IsSpace, size_of}
+use Rattle.it_space.specs.Spaces.{IsSpace, most_variables, size_of}
 use Rattle.it_space.proofs.EveryLemmas.{all_of}
 use Rattle.it_hull.specs.Constants.{constant_line, constant_lines, constants}
 
@@ -34,7 +34,7 @@ constants_speak_of_sets s = all_of (λ (c : Constraint). IsOver (2 ^ s.variables
     (each_line (λ c. IsOver (2 ^ s.variables - 1) c.row) 0 s.variables (λ k l. line_over s.variables (2 ^ s.variables - 1) k
     (omega (arith, pow_pos s.variables)) (omega (arith, l))))
 
-pub few_constants : (s : Space) → IsSpace s → length (constants s).constraints ≤ 10
+pub few_constants : (s : Space) → IsSpace s → length (constants s).constraints ≤ most_variables
 few_constants s h = omega (arith, line_count 0 s.variables, h.few)
 
 pub constants_are_problem : (s : Space) → IsSpace s → IsProblem (constants s)

@@ -1,14 +1,15 @@
 -- The sum of the excesses of the sets that have the closure of the empty set.
-use Rattle.std.proofs.Common.{◌≡◌, ◌↔◌, ℕ, suc, ◌+◌, ◌-◌, ◌*◌, ◌%◌, ◌^◌, ◌<◌, ◌≤◌, ◌⊎◌, inl, inr, ℤ, pos, ◌+ℤ◌, ◌-ℤ◌, ◌*ℤ◌, List, [], ◌∷◌, Bool, true, false, cond, nat_eq, sym, ap, subst, ◌∙◌, arith, lit<}
+use Rattle.std.proofs.Common.{◌≡◌, ◌↔◌, ℕ, suc, ◌+◌, ◌-◌, ◌*◌, ◌%◌, ◌^◌, ◌<◌, ◌≤◌, ◌⊎◌, inl, inr, ℤ, pos, ◌+ℤ◌, ◌-ℤ◌, ◌*ℤ◌, List, [], ◌∷◌, Bool, true, false, cond, nat_eq, sym, ap, subst, ◌∙◌, arith}
 use Rattle.std.specs.List.{filter}
 use Rattle.std.proofs.lemmas.Int.{ints}
 use Rattle.std.proofs.lemmas.Bool.{cases_order}
 use Rattle.std.proofs.Math.IntN.{+ℤ_idr, +ℤ_assoc}
 use Rattle.it_number.specs.Limit.{IsWithin}
-use Rattle.it_number.proofs.Shifts.{shift_is_power}
 use Rattle.it_space.specs.Answers.{CertificateView}
 use Rattle.it_polymatroid.specs.Certificates.{Form, Generators, combination}
 use Rattle.it_space.specs.Rows.{one_at}
+use Rattle.it_space.specs.Spaces.{most_variables}
+use Rattle.it_space.proofs.SpaceLemmas.{below_shift}
 use Rattle.it_polymatroid.specs.Elementals.{span}
 use Rattle.it_closure.specs.declared.dependences.Dependence.{Dependence}
 use Rattle.it_closure.specs.Closures.{closure}
@@ -92,5 +93,5 @@ excess_within w target g s e = fall_ends_within (w.scale *ℤ target (one_at s))
     fall_ends_within sum (v ∷ vs) f h k = subst IsWithin (rest sum (v.1 *ℤ f v.0) (combination vs f)) (fall_ends_within (sum -ℤ v.1 *ℤ f v.0) vs f k.1 k.2)
 
 -- below the number of sets, as the code counts them
-pub number_below : (m v n : ℕ) → m < 1 * 2 ^ v % 65536 → v ≤ 10 → n ≡ v → m < 2 ^ n
-number_below m v n h f e = rw e (omega (arith, shift_is_power v 65536 f (lit< tt)))
+pub number_below : (m v n : ℕ) → m < 1 * 2 ^ v % 4294967296 → v ≤ most_variables → n ≡ v → m < 2 ^ n
+number_below m v n h few e = rw e (below_shift m v h few)

@@ -8,7 +8,6 @@ use Rattle.it_space.specs.Spaces.{size_of}
 use Rattle.it_polymatroid.specs.Elementals.{elementals, elemental_at, elemental_value}
 use Rattle.it_elemental.specs.Generators.{Generator, generators, generator_at, generators_of}
 use Rattle.it_elemental.proofs.GeneratorLemmas.{length-listed, front_is_elemental, after_is, rows_of_space, every_or}
-use Rattle.it_elemental.proofs.GeneratorLemmas as G
 use Rattle.it_elemental.proofs.RowLemmas.{value-row}
 
 pub total_is : (q : ProblemView) → (generators_of q).count ≡ length (elementals q.space.variables) + length q.constraints
@@ -31,7 +30,3 @@ pub row_of_space : (q : ProblemView) (i : ℕ) → IsProblem q → 2 ^ q.space.v
     → IsOver (size_of q.space) (generator_at (generators q) i).row
 row_of_space q i p s = every_or (λ (g : Generator). IsOver (size_of q.space) g.row) (generators q) i (record { kind = Inequality; row = [] })
     (rows_of_space q.space.variables (size_of q.space) q.constraints s p.rows) (λ k d h. absurd (omega arith))
-
--- there are few elemental inequalities
-pub few_elementals : (n : ℕ) → n ≤ 10 → length (elementals n) ≤ 2 ^ 20
-few_elementals n h = omega (arith, G.few_elementals n h)

@@ -82,8 +82,8 @@ pub fn empty_excess(
     problem.facts();
     let null = dependences.close(VarSet::empty());
     let mut total: i128 = 0;
-    for number in 1..1u16 << problem.space().variables {
-        let set = VarSet::from_number(number);
+    for number in 1..1u32 << problem.space().variables {
+        let set = VarSet::from_number(number as u16);
         let left = excess(problem, target, collapsed, set)?;
         total = plus_if(total, dependences.close(set) == null, left)?;
     }

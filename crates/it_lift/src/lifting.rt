@@ -111,8 +111,8 @@ fn add_others(
     ensures wide { IfErr result (AreSumsWide sums.old (nonempty_moves problem.now dependences.now target.now collapsed.now)) }
 {
     problem.facts();
-    for number in 1..1u16 << problem.space().variables {
-        let set = VarSet::from_number(number);
+    for number in 1..1u32 << problem.space().variables {
+        let set = VarSet::from_number(number as u16);
         let left = excess(problem, target, collapsed, set)?;
         add_moves(alloc, sums, dependences, set, left)?;
     }

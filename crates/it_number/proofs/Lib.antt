@@ -4,5 +4,4 @@ pub mod IntegerRing
 pub mod SignLemmas
 pub mod Divisors
 pub mod Quotients
-pub mod Shifts
 pub mod SignedDivisors

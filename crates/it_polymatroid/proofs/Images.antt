@@ -12,6 +12,7 @@ use Rattle.std.specs.Int.{bit_at}
 use Rattle.std.specs.Int.Bits.{or_self, or_zero_l, or_zero_r}
 use Rattle.it_space.proofs.ListLemmas.{drop_item}
 use Rattle.it_space.specs.Sets.{has_member, IsInside}
+use Rattle.it_space.specs.Spaces.{most_variables}
 use Rattle.it_space.proofs.SetLemmas.{or_assoc}
 use Rattle.it_polymatroid.specs.Polymatroid.{IsPolymatroid}
 use Rattle.it_polymatroid.specs.Substitutions.{union_from, union_of_images}
@@ -136,7 +137,7 @@ values-push values f n v e h is s l = by_cases (cases_lt s n)
         ap (λ m. get_or (values ++ v ∷ []) m (pos 0)) here ∙ get_or-append-add values (v ∷ []) 0 (pos 0) ∙ is ∙ ap f (sym same)
 
 -- the values pulled back are a table
-pub pulled_table : (f : SetFunction) (sets : List ℕ) (m : ℕ) (values : List ℤ) → IsTable f → m ≡ length sets → m ≤ 10
+pub pulled_table : (f : SetFunction) (sets : List ℕ) (m : ℕ) (values : List ℤ) → IsTable f → m ≡ length sets → m ≤ most_variables
     → length values ≡ 2 ^ length sets → All IsWithin values
     → ((s : ℕ) → s < 2 ^ length sets → get_or values s (pos 0) ≡ value_at f (union_of_images sets s)) → IsTable (record { variables = m; values = values })
 pulled_table f sets m values t e few complete within is = record {

@@ -12,7 +12,7 @@ pub record SetFunction : Type 0 where
 abbrev pub value_at : SetFunction → ℕ → ℤ
 value_at f s = slice_index_or f.values s (pos 0)
 
--- the functions that a table may have: of at most 10 variables, 0 at the empty set, all values within the limit
+-- the functions that a table may have: of at most `most_variables` variables, 0 at the empty set, all values within the limit
 pub record IsTable (f : SetFunction) : Type 0 where
   pub few : f.variables ≤ most_variables
   pub complete : length f.values ≡ 2 ^ f.variables

@@ -87,10 +87,10 @@ fn pulled_values(alloc: Global, table: &Table, by: &Substitution) -> Result<Vec<
     ensures table { OnOk result (IsTable table.now) }
     ensures values { IfOk result (λ v. (s : ℕ) → s < 2 ^ length by.now → slice_index_or v.items s (pos 0) ≡ value_at table.now (union_of_images by.now s)) }
 {
-    let count = 1u16 << by.len();
+    let count = 1u32 << by.len();
     let mut values = Vec::with_capacity(alloc, count as usize)?;
     for number in 0..count {
-        values.push(table.at(by.union_of_images(VarSet::from_number(number))))?;
+        values.push(table.at(by.union_of_images(VarSet::from_number(number as u16))))?;
     }
     Ok(values)
 }

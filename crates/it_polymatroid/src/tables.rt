@@ -57,8 +57,8 @@ impl Table {
 pub fn is_polymatroid(table: &Table) -> bool
     ensures { IsTrue result ↔ IsPolymatroid table.now.variables (value_at table.now) }
 {
-    for number in 0..1u16 << table.variables() {
-        if !pairs_hold_at(table, VarSet::from_number(number)) {
+    for number in 0..1u32 << table.variables() {
+        if !pairs_hold_at(table, VarSet::from_number(number as u16)) {
             return false;
         }
     }
@@ -71,8 +71,8 @@ fn pairs_hold_at(table: &Table, set: VarSet) -> bool
     ensures yes { OnTrue result (PairsHoldAt table.now.variables (value_at table.now) set) }
     ensures no { OnFalse result (¬ PairsHoldAt table.now.variables (value_at table.now) set) }
 {
-    for number in 0..1u16 << table.variables() {
-        if !pair_holds(table, set, VarSet::from_number(number)) {
+    for number in 0..1u32 << table.variables() {
+        if !pair_holds(table, set, VarSet::from_number(number as u16)) {
             return false;
         }
     }

@@ -6,7 +6,8 @@ use Rattle.std.specs.List.{slice_get}
 use Rattle.std.proofs.lemmas.List.{drop_more}
 use Rattle.std.proofs.lemmas.Option.{slice_get_within, get_or_from_slice_get}
 use Rattle.it_space.specs.Sets.{has_member}
-use Rattle.std.proofs.Math.Pow.{pow_mono}
+use Rattle.it_space.specs.Spaces.{most_variables}
+use Rattle.it_space.proofs.SpaceLemmas.{few_sets}
 use Rattle.std.proofs.lemmas.Nat.{pow_below}
 use Rattle.it_print.specs.Lines.{joined_texts, members_from, or_zero, sum_text, weight_text}
 
@@ -58,8 +59,8 @@ sum_step false true text rest out = simp (append_assoc, append-nil)
 sum_step true true text rest out = simp (append_assoc, append-nil)
 
 -- the set of the other variables doesn't go below 0
-pub others_fit : (i n : ℕ) → i < n → n ≤ 10 → 1 * 2 ^ i % 65536 ≤ 1 * 2 ^ n % 65536 - 1
-others_fit i n h k = omega (arith, pow_below i n h, pow_mono {i = n} {j = 10} k)
+pub others_fit : (i n : ℕ) → i < n → n ≤ most_variables → 1 * 2 ^ i % 4294967296 ≤ 1 * 2 ^ n % 4294967296 - 1
+others_fit i n h k = omega (arith, pow_below i n h, few_sets n k)
 
 -- one more name of a set
 pub set_step : (names : List (List ℕ)) (i set : ℕ) (name : List ℕ) (some : Bool) (out : List ℕ) → slice_get names i ≡ Some name

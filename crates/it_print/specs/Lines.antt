@@ -1,5 +1,5 @@
 -- The lines of an answer, as bytes.
-use Rattle.std.specs.Prelude.{◌≡◌, ℕ, ◌+◌, ◌-◌, ◌^◌, ◌<◌, ℤ, pos, unsigned_abs, int_lt, map, filter, flat_map, All, List, [], ◌∷◌, ◌++◌, length, Bool, true, false, if◌then◌else◌, ◌==◌, codes, decimal, drop, nat_lt, slice_index_or}
+use Rattle.std.specs.Prelude.{◌≡◌, ℕ, ◌+◌, ◌-◌, ◌^◌, ◌<◌, ◌≤◌, ℤ, pos, unsigned_abs, int_lt, map, filter, flat_map, All, List, [], ◌∷◌, ◌++◌, length, Bool, true, false, if◌then◌else◌, ◌==◌, codes, decimal, drop, nat_lt, slice_index_or}
 use Rattle.std.specs.Fmt.{signed_decimal}
 use Rattle.it_space.specs.Sets.{has_member}
 use Rattle.it_space.specs.Answers.{AnswerView, CertificateView, IfRate, is_nonzero_weight, mark_word}
@@ -11,6 +11,7 @@ use Rattle.it_space.specs.declared.answers.Cause.TheVariants.{Pivots, Width, Sca
 use Rattle.it_space.specs.declared.answers.Certificate.{Certificate}
 use Rattle.it_space.specs.declared.answers.Mark.{Mark}
 use Rattle.it_space.specs.Rows.{Terms}
+use Rattle.it_space.specs.Spaces.{most_coordinates}
 use Rattle.it_problems.specs.declared.problems.Constraint.{Constraint}
 use Rattle.it_problems.specs.declared.problems.Kind.{Kind}
 use Rattle.it_problems.specs.declared.problems.Kind.TheVariants.{Inequality, Equation}
@@ -198,7 +199,7 @@ AreListed n m proofs = All (λ c. All (λ w. w.0 < length (elementals n) + m) c.
 -- the rows are of the question's names, and there is a set for each auxiliary variable.
 abbrev pub IsPrintable : BodyView → ℕ → Answer → Type 0
 IsPrintable q m (answers.Yes proofs) = AreListed (variable_count q) m proofs.items
-IsPrintable q m (answers.No back point) = (length point < 2 ^ variable_count q + length (problem_names q).rates) × (length point < 2 ^ 16)
+IsPrintable q m (answers.No back point) = (length point < 2 ^ variable_count q + length (problem_names q).rates) × (length point ≤ most_coordinates)
 IsPrintable q m (answers.Undecided cause) = IsCauseOf (length (problem_names q).rates) cause
 IsPrintable q m (answers.Region rows) = All (λ row. IsRowOver (problem_names q) row.1) rows.items
 IsPrintable q m (answers.Contained parts proofs) = (length parts.items ≡ length (auxiliary_names q.names q.verb)) × AreListed (variable_count q) m proofs.items

@@ -63,7 +63,7 @@ fn other_variables(i: u8, variables: u8) -> VarSet
     requires few { variables ≤ most_variables }
     ensures { result ≡ 2 ^ variables - 1 - 2 ^ i }
 {
-    VarSet::from_number((1u16 << variables) - 1 - (1u16 << i))
+    VarSet::from_number(((1u32 << variables) - 1 - (1u32 << i)) as u16)
 }
 
 /// Appends `I(Xi;Xj|given)`.
@@ -94,7 +94,7 @@ fn variable_set(names: &Names, i: u8) -> VarSet
     requires { i < length names.now.variables }
     ensures { result ≡ 2 ^ i }
 {
-    // called for its clause, that there are at most ten variables
+    // called for its clause on the number of variables
     let _space = names.space();
     VarSet::single(i)
 }

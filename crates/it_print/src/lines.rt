@@ -1,6 +1,7 @@
 //! The lines of answers.
 ghost use Rattle.std.specs.Prelude.{◌≡◌, ◌≤◌, ◌<◌, ◌+◌, ◌^◌, ◌++◌, length, codes, decimal, OnOk, IfOk, All};
 ghost use Rattle.it_space.specs.Answers.{answer_view};
+ghost use Rattle.it_space.specs.Spaces.{most_coordinates};
 ghost use Rattle.it_canon.specs.TrueLines.{variable_count};
 ghost use Rattle.it_print.specs.Lines.{AreListed, IsCauseOf, IsPrintable, IsRowOver, answer_line, auxiliary_names, cause_text, contained_line, open_line, origins_of, undecided_line, values_text, region_lines};
 ghost use Rattle.it_print.specs.ByConstraints.{proofs_text_by};
@@ -63,7 +64,7 @@ fn yes_line(
 /// The line of the answer no.
 fn no_line(alloc: Global, k: usize, names: &Names, point: &Point) -> Result<Vec<u8>, AllocError>
     requires there { length point.now < 2 ^ length names.now.variables + length names.now.rates }
-    requires few { length point.now < 2 ^ 16 }
+    requires few { length point.now ≤ most_coordinates }
     ensures { IfOk result (λ t. t.items ≡ decimal k ++ codes " no " ++ values_text names.now point.now ++ codes "\n") }
 {
     let mut out = Vec::new(alloc);

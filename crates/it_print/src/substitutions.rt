@@ -37,7 +37,7 @@ fn write_parts(
     requires { length sets.now ≡ length (drop from second.now.variables) }
     ensures { OnOk result (out.new.items ≡ out.old.items ++ parts_for names.now.variables (drop from second.now.variables) sets.now) }
 {
-    // called for its clause, that there are at most ten variables
+    // called for its clause on the number of variables
     let _space = second.space();
     for (i, set) in sets.iter().enumerate() {
         write_part_for(out, names, second, from + i as u8, *set)?;

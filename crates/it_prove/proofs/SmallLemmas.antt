@@ -1,7 +1,6 @@
 -- If no coefficient is large the start fits, so a run doesn't end before step 0.
 use Rattle.std.proofs.Common.{◌≡◌, inl, inr, ℕ, zero, suc, ◌+◌, ◌*◌, ◌^◌, ◌<◌, ◌≤◌, ℤ, pos, neg_ℤ, ◌+ℤ◌, unsigned_abs, List, [], ◌∷◌, length, get_or, Bool, true, false, cond, eqb, ltb, refl, sym, ap, ap₂, subst, ◌∙◌, arith, min, Option, Some, None}
 use Rattle.std.proofs.lemmas.Int.{ints}
-use Rattle.std.proofs.Math.Pow.{pow_mono}
 use Rattle.it_number.specs.Limit.{IsWithin}
 use Rattle.it_number.proofs.Ring.{ring}
 use Rattle.it_number.proofs.Ring as S
@@ -11,11 +10,14 @@ use Rattle.it_rational.proofs.Field.{field_ℚ}
 use Rattle.it_fraction.specs.Fits.{IsNarrow}
 use Rattle.it_space.specs.declared.answers.Cause.TheVariants as causes
 use Rattle.it_space.specs.declared.answers.Cause.TheVariants.{Scale}
-use Rattle.it_space.specs.Bounds.{IsSmall}
+use Rattle.it_space.specs.Bounds.{IsSmall, most_mass}
 use Rattle.it_problems.specs.Problems.{ProblemView, IsProblem}
 use Rattle.it_space.specs.Rows.{Terms, coefficient}
+use Rattle.it_space.specs.Spaces.{most_coordinates}
 use Rattle.std.specs.List.{AllByRecursion as Every}
 use Rattle.it_space.proofs.EveryLemmas.{all_of, every-same, every-map}
+use Rattle.it_space.proofs.SpaceLemmas.{few_coordinates}
+use Rattle.it_space.proofs.TermLemmas.{coefficient-small}
 use Rattle.it_elemental.specs.Generators.{generators}
 use Rattle.it_elemental.proofs.GeneratorLemmas.{every_or}
 use Rattle.it_closure.specs.Collapse.{CollapseFits}
@@ -39,7 +41,7 @@ use Rattle.it_columns.specs.Columns.{columns}
 use Rattle.it_prove.specs.ProofViews.{Undecided, Follows, Runs, EndsByRun, AreSmall, NeverAtStart}
 use Rattle.it_prove.proofs.ClosedRows.{coords_rise}
 use Rattle.it_prove.proofs.LiftLemmas.{dependences_sound}
-use Rattle.it_prove.proofs.SmallRows.{abs_add, abs_neg, SmallRow, small_row, columns_small, collapse_fits, generators_small}
+use Rattle.it_prove.proofs.SmallRows.{abs_add, abs_neg, collapsed_small, columns_small, collapse_fits, generators_small}
 use Rattle.it_columns.proofs.Wholes.{whole_parts, whole_minus}
 
 -- ---- whole numbers up to a bound
@@ -73,44 +75,47 @@ below_is_narrow b x l h = subst IsNarrow (sym h.1) (
 
 pile : ℕ → ℕ
 pile zero = 0
-pile (suc k) = 1040 * 2 ^ 106 + pile k
+pile (suc k) = most_mass + pile k
 
-pile_is : (k : ℕ) → pile k ≡ k * 1040 * 2 ^ 106
+pile_is : (k : ℕ) → pile k ≡ k * most_mass
 unfolding pile
 pile_is zero = refl
 pile_is (suc k) = omega (arith, pile_is k)
 
-sum_below : (k : ℕ) (f : ℕ → Rational) → ((i : ℕ) → IsBelow (1040 * 2 ^ 106) (f i)) → IsBelow (pile k) (sum_to ring_ℚ k f)
+sum_below : (k : ℕ) (f : ℕ → Rational) → ((i : ℕ) → IsBelow most_mass (f i)) → IsBelow (pile k) (sum_to ring_ℚ k f)
 unfolding pile
 sum_below zero f h = below_null 0
-sum_below (suc k) f h = below_add (1040 * 2 ^ 106) (pile k) (f k) (sum_to ring_ℚ k f) (h k) (sum_below k f h)
+sum_below (suc k) f h = below_add most_mass (pile k) (f k) (sum_to ring_ℚ k f) (h k) (sum_below k f h)
 
 -- ---- the start
+
+small_at : (row : Terms) (c : ℕ) → IsSmall row → IsBelow most_mass (integer (coefficient row c))
+small_at row c s = (coefficient row c, refl, omega (arith, coefficient-small row c, s))
 
 rise_length : (from to : ℕ) (xs : List ℕ) → RiseTo from to xs → from + length xs ≤ to
 rise_length from to [] r = omega (arith, r)
 rise_length from to (x ∷ xs) r = omega (arith, r.0, rise_length (x + 1) to xs r.1)
 
-module _ (coords : List ℕ) (cols : List Terms) (t : Terms) (few : length coords ≤ 1040) (cs : Every SmallRow cols) (ts : SmallRow t) where
-  entry_below : (k j : ℕ) → IsBelow (1040 * 2 ^ 106) (start_row rationals (length coords) (length cols) (feasibility_problem coords cols t) k j)
+module _ (coords : List ℕ) (cols : List Terms) (t : Terms) (few : length coords ≤ most_coordinates) (cs : Every IsSmall cols) (ts : IsSmall t) where
+  entry_below : (k j : ℕ) → IsBelow most_mass (start_row rationals (length coords) (length cols) (feasibility_problem coords cols t) k j)
   entry_below k j = by_test (ltb j (length cols)) (eqb j (length cols + length coords)) (eqb j (length cols + k))
     where
-      column : IsBelow (1040 * 2 ^ 106) (integer (coefficient (get_or cols j []) (get_or coords k 0)))
-      column = (coefficient (get_or cols j []) (get_or coords k 0), refl, every_or SmallRow cols j [] cs (λ c. omega arith) (get_or coords k 0))
+      column : IsBelow most_mass (integer (coefficient (get_or cols j []) (get_or coords k 0)))
+      column = small_at (get_or cols j []) (get_or coords k 0) (every_or IsSmall cols j [] cs (omega arith))
 
-      target_is_small : IsBelow (1040 * 2 ^ 106) (integer (coefficient t (get_or coords k 0)))
-      target_is_small = (coefficient t (get_or coords k 0), refl, ts (get_or coords k 0))
+      target_is_small : IsBelow most_mass (integer (coefficient t (get_or coords k 0)))
+      target_is_small = small_at t (get_or coords k 0) ts
 
-      by_test : (a b c : Bool) → IsBelow (1040 * 2 ^ 106) (cond a
+      by_test : (a b c : Bool) → IsBelow most_mass (cond a
           (times (sign rationals (feasibility_problem coords cols t) k) (integer (coefficient (get_or cols j []) (get_or coords k 0))))
           (cond b (times (sign rationals (feasibility_problem coords cols t) k) (integer (coefficient t (get_or coords k 0))))
           (cond c (integer (pos 1)) (integer (pos 0)))))
-      by_test true b c = below_sign (1040 * 2 ^ 106) (field_ℚ.order.is_least (integer (coefficient t (get_or coords k 0))))
+      by_test true b c = below_sign most_mass (field_ℚ.order.is_least (integer (coefficient t (get_or coords k 0))))
           (integer (coefficient (get_or cols j []) (get_or coords k 0))) column
-      by_test false true c = below_sign (1040 * 2 ^ 106) (field_ℚ.order.is_least (integer (coefficient t (get_or coords k 0))))
+      by_test false true c = below_sign most_mass (field_ℚ.order.is_least (integer (coefficient t (get_or coords k 0))))
           (integer (coefficient t (get_or coords k 0))) target_is_small
-      by_test false false true = below_one (1040 * 2 ^ 106) (omega arith)
-      by_test false false false = below_null (1040 * 2 ^ 106)
+      by_test false false true = below_one most_mass (omega arith)
+      by_test false false false = below_null most_mass
 
   start_fits : StartFits (length coords) (length cols) (feasibility_problem coords cols t)
   start_fits k j h l = below_is_narrow (pile k) (sum_to ring_ℚ k (λ i. start_row rationals (length coords) (length cols)
@@ -180,13 +185,11 @@ run_never_at_start q target budget k s e = by_cases e.run (zero_end e.end e.foll
       own = collapse_fits q.space.variables (dependences_of q) target s.own;
     }
 
-    few_places : length (closed_places q) ≤ 1040
+    few_places : length (closed_places q) ≤ most_coordinates
     few_places =
-        let power : 2 ^ q.space.variables ≤ 2 ^ 10 = pow_mono {i = q.space.variables} {j = 10} k.space.few in
         omega (
           arith,
-          power,
-          k.space.few_rates,
+          few_coordinates q.space k.space,
           rise_length 1 (2 ^ q.space.variables + q.space.rates) (closed_places q)
               (coords_rise q.space.variables q.space.rates (dependences_of q) (dependences_sound q k)),
         )
@@ -194,10 +197,10 @@ run_never_at_start q target budget k s e = by_cases e.run (zero_end e.end e.foll
     start : StartFits (length (closed_places q)) (length (columns (closed_generators q)))
         (feasibility_problem (closed_places q) (columns (closed_generators q)) (closed_target q target))
     start = start_fits (closed_places q) (columns (closed_generators q)) (closed_target q target) few_places
-        (columns_small (closed_generators q) (every-map (λ g. SmallRow g.row) (collapsed_generator q.space.variables (dependences_of q)) (generators q)
-        (every-same (λ g. IsSmall g.row) (λ g. SmallRow (collapsed_row q.space.variables (dependences_of q) g.row)) (generators q)
-        (λ g b. small_row q.space.variables (dependences_of q) g.row b) all_small)))
-        (small_row q.space.variables (dependences_of q) target s.own)
+        (columns_small (closed_generators q) (every-map (λ g. IsSmall g.row) (collapsed_generator q.space.variables (dependences_of q)) (generators q)
+        (every-same (λ g. IsSmall g.row) (λ g. IsSmall (collapsed_row q.space.variables (dependences_of q) g.row)) (generators q)
+        (λ g b. collapsed_small q.space.variables (dependences_of q) g.row b) all_small)))
+        (collapsed_small q.space.variables (dependences_of q) target s.own)
 
     by_cases : Runs q target budget e.end → e.end ≡ Width 0 → ⊥
     by_cases (inl a) z = a.0 all_collapses_fit

@@ -33,7 +33,8 @@ use Rattle.it_forms.proofs.FormLanguage.{prefix_moves}
 use Rattle.it_forms.proofs.LetterLemmas.{letters_append, letters_cleaned}
 use Rattle.it_question.specs.LineTexts.{without_leading, unless_blank, without_trailing, text_of_lines}
 use Rattle.it_question.specs.Texts.{question_line_count, with_texts}
-use Rattle.it_space.specs.Spaces.{most_variables, most_rates}
+use Rattle.it_space.specs.Spaces.{most_rates}
+use Rattle.it_question.specs.QuestionLimits.{most_names}
 
 -- ---- bytes of tokens
 
@@ -216,8 +217,8 @@ no_names_ascii = record { variables = All-nil IsAscii; rates = All-nil IsAscii }
 names_ascii : (q : BodyView) (m k : FlaggedLetters) → Spells question q m k → AsciiWords (letters m) → AsciiNames q.names
 unfolding question Spells
 names_ascii q m k s h =
-    let first = new_names_ascii Variable most_variables no_names s.0 m s.1 s.2 no_names_ascii h in
-    subst (λ (x : BodyView). AsciiNames x.names) s.3.3.3.3.0 (names_line_ascii Rate most_rates (codes "rates") s.0 s.3.0 s.1 s.3.1 s.3.2 first (words_after (new_names Variable most_variables no_names) s.0 m s.1 s.2 h))
+    let first = new_names_ascii Variable most_names no_names s.0 m s.1 s.2 no_names_ascii h in
+    subst (λ (x : BodyView). AsciiNames x.names) s.3.3.3.3.0 (names_line_ascii Rate most_rates (codes "rates") s.0 s.3.0 s.1 s.3.1 s.3.2 first (words_after (new_names Variable most_names no_names) s.0 m s.1 s.2 h))
 
 -- ---- files
 

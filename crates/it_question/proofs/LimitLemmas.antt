@@ -9,7 +9,7 @@ use Rattle.std.proofs.lemmas.List.Elements.{All-nil, All-cons, All-head, All-tai
 use Rattle.std.proofs.lemmas.List.Quantifiers.{position-Some}
 use Rattle.it_closure.specs.Sizes.{table_size}
 use Rattle.it_demand.specs.QuestionSpaces.{space_of}
-use Rattle.it_space.specs.Spaces.{IsSpace, most_variables, most_rates}
+use Rattle.it_space.specs.Spaces.{IsSpace, most_rates}
 use Rattle.it_forms.specs.declared.types.Code.TheVariants as codes
 use Rattle.it_forms.specs.declared.types.Symbol.TheVariants.{Comma, Semicolon}
 use Rattle.it_forms.specs.Letters.{Letter}
@@ -27,8 +27,9 @@ use Rattle.it_syntax.proofs.FormLimits.{Knows, empty_is_set, names_keep, relatio
 use Rattle.it_question.specs.Limits.{AreLinesOver, IsRegionOf, IsTryOf, AreRatesOf, IsVerbOver, IsQuestion}
 use Rattle.it_question.specs.NewNames.{NameSortView, Variable, Rate, with_name, no_names, is_taken, new_flag, once_flag}
 use Rattle.it_question.specs.QuestionForms.{count, new_name, more_new, new_names, names_line, own_line, own_words, own_keyword, more_own_lines, own_lines, once, more_once, distinct, auxiliary, set, part, more_parts, try_line, more_tries, region, containment, verb, question, more_questions, file}
-use Rattle.it_question.specs.QuestionLimits.{most_questions, most_lines, auxiliaries_left, givens_left, rows_left}
+use Rattle.it_question.specs.QuestionLimits.{auxiliaries_left, givens_left, most_lines, most_names, most_questions, rows_left}
 use Rattle.it_question.specs.OwnLines.{OwnLinesView, RegionView, no_lines}
+use Rattle.it_question.specs.Sorts.{AreQuestionNames}
 use Rattle.it_question.specs.Questions.{VerbView, Prove, Eliminate, Contain, BodyView}
 use Rattle.it_question.specs.ProblemLines.{givens_alone, names_under, lines_under}
 use Rattle.it_question.specs.TableSizes.{problem_of_lines, most_entries, size_flag, HasSmallTable}
@@ -298,7 +299,7 @@ tries_keep aux env n k auxiliaries =
 
 -- ---- regions
 
-region_of_own : (v names : NamesView) (own : OwnLinesView) → length v.variables ≤ 10
+region_of_own : (v names : NamesView) (own : OwnLinesView) → length v.variables ≤ most_names
     → MayBeNamed Variable (length v.variables + auxiliaries_left v) v names → AreLinesOver names own
     → IsRegionOf v (record { names = names; auxiliaries = length names.variables - length v.variables; lines = own })
 region_of_own v names own few h lines =
@@ -306,8 +307,8 @@ region_of_own v names own few h lines =
     let total : length names.variables ≡ length v.variables + length h.grown.own = ap (λ (ws : List (List ℕ)). length ws) variables
     ∙ length-append v.variables h.grown.own in
     let most = h.few (omega arith) in
-    let left = min-le_left 4 (10 - length v.variables) in
-    let right = min-le_right 4 (10 - length v.variables) in
+    let left = min-le_left 4 (most_names - length v.variables) in
+    let right = min-le_right 4 (most_names - length v.variables) in
     record {
       own = h.grown.own;
       variables = variables;
@@ -324,7 +325,7 @@ pub record IsCounted (g r : ℕ) (v : NamesView) (x : RegionView) : Type 0 where
   pub givens : length x.lines.givens ≤ g
   pub rows : length x.lines.rows ≤ r
 
-region_keeps : (g r : ℕ) (v : NamesView) → g ≤ 64 → r ≤ 64 → length v.variables ≤ 10 → Always (region g r v) (λ p x. IsCounted g r v x)
+region_keeps : (g r : ℕ) (v : NamesView) → g ≤ 64 → r ≤ 64 → length v.variables ≤ most_names → Always (region g r v) (λ p x. IsCounted g r v x)
 unfolding region Always
 region_keeps g r v few_g few_r few = λ l e m.
     always_weaker (names_line Variable (length v.variables + auxiliaries_left v) (codes "aux") v) _ _
@@ -354,7 +355,7 @@ record IsWanted (own : OwnLinesView) (v : NamesView) (y : VerbView) : Type 0 whe
   over : IsVerbOver v y
   small : table_size (problem_of_lines (names_under v y) (lines_under own y)) ≤ most_entries
 
-containment_keeps : (own : OwnLinesView) (v : NamesView) → length v.variables ≤ 10 → Always (containment own v) (λ p y. IsWanted own v y)
+containment_keeps : (own : OwnLinesView) (v : NamesView) → length v.variables ≤ most_names → Always (containment own v) (λ p y. IsWanted own v y)
 unfolding containment Always
 containment_keeps own v few =
     let g = givens_left most_lines own in
@@ -371,7 +372,7 @@ containment_keeps own v few =
     (region_keeps (givens_left g first.lines) (rows_left r first.lines) v (omega arith) (omega arith) few))
     (region_keeps g r v (omega arith) (omega arith) few)
 
-verb_keeps : (own : OwnLinesView) (v : NamesView) → length v.variables ≤ 10 → Always (verb own v) (λ p y. IsWanted own v y)
+verb_keeps : (own : OwnLinesView) (v : NamesView) → length v.variables ≤ most_names → Always (verb own v) (λ p y. IsWanted own v y)
 unfolding verb Always
 verb_keeps own v few = (
   λ l e m. always_weaker (to_end (relation (scope_of v true))) (λ p x. IsRelationOf (length v.variables) (length v.rates) x)
@@ -394,13 +395,9 @@ pub record IsRead (q : BodyView) : Type 0 where
   pub limits : IsQuestion q
   pub small : HasSmallTable q
 
--- the names of a question: variables, and perhaps rates
-record AreNames (names : NamesView) : Type 0 where
-  some : 1 ≤ length names.variables
-  few : length names.variables ≤ 10
-  few_rates : length names.rates ≤ 16
-
-are_names : (variables names : NamesView) → AreNamed Variable most_variables no_names variables → MayBeNamed Rate most_rates variables names → AreNames names
+-- variables, and perhaps rates
+are_names : (variables names : NamesView) → AreNamed Variable most_names no_names variables → MayBeNamed Rate most_rates variables names
+    → AreQuestionNames names
 are_names variables names hv hn =
     let own : names.variables ≡ variables.variables = ap (λ (w : NamesView). w.variables) hn.grown.is in
     let first : variables.variables ≡ hv.grown.own = ap (λ (w : NamesView). w.variables) hv.grown.is in
@@ -413,7 +410,7 @@ are_names variables names hv hn =
 
 question_keeps : Always question (λ p q. IsRead q)
 unfolding question Always
-question_keeps = always_weaker (new_names Variable most_variables no_names) _ _
+question_keeps = always_weaker (new_names Variable most_names no_names) _ _
     (λ p variables hv. always_weaker (names_line Rate most_rates (codes "rates") variables) _ _
     (λ q names hn. let n = are_names variables names hv hn in
     always_weaker (own_lines most_lines most_lines names) _ _
@@ -429,7 +426,7 @@ question_keeps = always_weaker (new_names Variable most_variables no_names) _ _
       };
       small = ha.small;
     })
-    (verb_keeps own names n.few)) (own_lines_keep most_lines most_lines names)) (names_line_keeps Rate most_rates (codes "rates") variables)) (new_names_keep Variable most_variables no_names)
+    (verb_keeps own names n.few)) (own_lines_keep most_lines most_lines names)) (names_line_keeps Rate most_rates (codes "rates") variables)) (new_names_keep Variable most_names no_names)
 
 file_keeps : Always file (λ p qs. All IsRead qs)
 unfolding file more_questions Always
@@ -441,19 +438,21 @@ file_keeps = always_weaker (more_questions []) _ _ (λ p qs h l e m. h)
 pub file_limited : (ls r : List Letter) (qs : List BodyView) → read file ls ≡ Ok (qs, r) → All IsRead qs
 file_limited ls r qs e = value_read file (All IsRead) ls r qs file_keeps e
 
-pub names_limited : (variables names : NamesView) (ls a b r : List Letter) → read (new_names Variable most_variables no_names) ls ≡ Ok (variables, a) → read (names_line Rate most_rates (codes "rates") variables) b ≡ Ok (names, r) → IsSpace (space_of names)
+pub names_limited : (variables names : NamesView) (ls a b r : List Letter) → read (new_names Variable most_names no_names) ls ≡ Ok (variables, a) → read (names_line Rate most_rates (codes "rates") variables) b ≡ Ok (names, r) → AreQuestionNames names
 names_limited variables names ls a b r e f =
-    let hv = value_read (new_names Variable most_variables no_names) (AreNamed Variable most_variables no_names) ls a variables
-    (new_names_keep Variable most_variables no_names) e in
+    let hv = value_read (new_names Variable most_names no_names) (AreNamed Variable most_names no_names) ls a variables
+    (new_names_keep Variable most_names no_names) e in
     let hn = value_read (names_line Rate most_rates (codes "rates") variables) (MayBeNamed Rate most_rates variables) b r names (names_line_keeps Rate most_rates (codes "rates") variables) f in
-    let n = are_names variables names hv hn in
-    record { some = n.some; few = n.few; few_rates = n.few_rates }
+    are_names variables names hv hn
+
+pub declared_space : (v : NamesView) → AreQuestionNames v → IsSpace (space_of v)
+declared_space v k = record { some = k.some; few = omega (arith, k.few); few_rates = k.few_rates }
 
 pub lines_limited : (v : NamesView) (ls r : List Letter) (own : OwnLinesView) → read (own_lines most_lines most_lines v) ls ≡ Ok (own, r) → AreLinesOver v own
 lines_limited v ls r own e = lines_over most_lines most_lines v own (omega arith) (omega arith)
     (value_read (own_lines most_lines most_lines v) (AreOwn most_lines most_lines v) ls r own (own_lines_keep most_lines most_lines v) e)
 
-pub region_limited : (own : OwnLinesView) (v : NamesView) (ls r : List Letter) (x : RegionView) → length v.variables ≤ 10
+pub region_limited : (own : OwnLinesView) (v : NamesView) (ls r : List Letter) (x : RegionView) → length v.variables ≤ most_names
     → read (region (givens_left most_lines own) (rows_left most_lines own) v) ls ≡ Ok (x, r)
     → IsCounted (givens_left most_lines own) (rows_left most_lines own) v x
 region_limited own v ls r x few e = value_read (region (givens_left most_lines own) (rows_left most_lines own) v)

@@ -28,7 +28,7 @@ use Rattle.it_syntax.specs.Spelling.{IsText}
 use Rattle.it_question.specs.Files.{IsFile}
 use Rattle.it_question.specs.Lines.{LineView, AreLines, letters_of_lines, split_lines}
 use Rattle.it_question.specs.QuestionForms.{own_words, own_keyword, own_line, more_own_lines, own_lines, names_line, new_names, distinct, more_tries, region, containment, verb, question, more_questions, file}
-use Rattle.it_question.specs.QuestionLimits.{most_questions, most_lines, auxiliaries_left, givens_left, rows_left}
+use Rattle.it_question.specs.QuestionLimits.{auxiliaries_left, givens_left, most_lines, most_names, most_questions, rows_left}
 use Rattle.it_question.specs.OwnLines.{OwnLinesView, RegionView, no_lines}
 use Rattle.it_question.specs.Questions.{VerbView, BodyView, QuestionView}
 use Rattle.it_question.specs.Questions as views
@@ -37,7 +37,7 @@ use Rattle.it_question.specs.TrySets.{auxiliary_env, unnamed_sets}
 use Rattle.it_question.specs.NewNames.{Variable, Rate, no_names}
 use Rattle.it_question.proofs.QuestionOutlines.{file_has}
 use Rattle.it_question.proofs.WholeFileLemmas.{said}
-use Rattle.it_space.specs.Spaces.{most_variables, most_rates}
+use Rattle.it_space.specs.Spaces.{most_rates}
 
 -- ---- numbers of 64 bits
 
@@ -214,7 +214,7 @@ verb_small own v = (
 
 question_small : Always question (λ p q. AreSmall p → QuestionHasSmallNumbers q)
 unfolding question Always
-question_small = always_any (new_names Variable most_variables no_names) _ (λ p variables. always_any (names_line Rate most_rates (codes "rates") variables) _
+question_small = always_any (new_names Variable most_names no_names) _ (λ p variables. always_any (names_line Rate most_rates (codes "rates") variables) _
     (λ q names. always_weaker (own_lines most_lines most_lines names) _ _ (λ r own ho. always_weaker (verb own names) _ _ (λ w aim ha small.
     let after = rest_small q _ (rest_small p _ small) in (ho (front_small r _ after), ha (front_small w _ (rest_small r _ after))))
     (verb_small own names)) (own_lines_small most_lines most_lines names)))

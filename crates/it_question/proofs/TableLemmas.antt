@@ -95,7 +95,7 @@ region_wider v r a = omega (arith, ap length a.variables, length-append v.variab
 pub region_space : (v : NamesView) (r : RegionView) → IsSpace (space_of v) → IsRegionOf v r → IsSpace (space_of r.names)
 region_space v r k a = record {
   some = omega (arith, k.some, region_wider v r a);
-  few = a.few_variables;
+  few = omega (arith, a.few_variables);
   few_rates
       = omega (arith, k.few_rates, ap length a.rates);
 }

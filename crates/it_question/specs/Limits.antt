@@ -3,10 +3,10 @@ use Rattle.std.specs.Prelude.{◌≡◌, ℕ, ◌<◌, ◌≤◌, ◌^◌, List,
 use Rattle.std.specs.List.{IsDistinct}
 use Rattle.it_syntax.specs.NamesViews.{NamesView}
 use Rattle.it_syntax.specs.Givens.{IsRelationOf, IsGivenOf}
-use Rattle.it_question.specs.QuestionLimits.{most_auxiliaries, most_lines}
+use Rattle.it_question.specs.QuestionLimits.{most_auxiliaries, most_lines, most_names}
 use Rattle.it_question.specs.OwnLines.{OwnLinesView, RegionView}
 use Rattle.it_question.specs.Questions.{VerbView, Prove, Eliminate, Contain, BodyView}
-use Rattle.it_space.specs.Spaces.{most_rates, most_variables}
+use Rattle.it_space.specs.Spaces.{most_rates}
 
 -- at most 64 lines of each kind over the names of v, where no `given` line has a rate
 pub record AreLinesOver (v : NamesView) (own : OwnLinesView) : Type 0 where
@@ -15,14 +15,14 @@ pub record AreLinesOver (v : NamesView) (own : OwnLinesView) : Type 0 where
   pub givens : All (IsGivenOf (length v.variables)) own.givens
   pub rows : All (IsRelationOf (length v.variables) (length v.rates)) own.rows
 
--- a region of a question with these names: their variables, and after them at most 4 auxiliaries, 10 in all
+-- a region of a question with these names: their variables, and after them at most four auxiliaries, `most_names` in all
 pub record IsRegionOf (v : NamesView) (r : RegionView) : Type 0 where
   pub own : List (List ℕ)
   pub variables : r.names.variables ≡ v.variables ++ own
   pub rates : r.names.rates ≡ v.rates
   pub counted : r.auxiliaries ≡ length own
   pub few : length own ≤ most_auxiliaries
-  pub few_variables : length r.names.variables ≤ most_variables
+  pub few_variables : length r.names.variables ≤ most_names
   pub lines : AreLinesOver r.names r.lines
 
 -- four sets of n variables
@@ -42,10 +42,10 @@ IsVerbOver v (Prove r) = IsRelationOf (length v.variables) (length v.rates) r
 IsVerbOver v (Eliminate rates) = AreRatesOf (length v.rates) rates
 IsVerbOver v (Contain first second tries) = IsRegionOf v first × IsRegionOf v second × (length tries ≤ most_lines) × All (IsTryOf (length first.names.variables)) tries
 
--- 1 to 10 variables and at most 16 rates, and lines over them
+-- at least one variable, no more variables and rates than a question may name, and lines over them
 pub record IsQuestion (q : BodyView) : Type 0 where
   pub some : 1 ≤ length q.names.variables
-  pub few : length q.names.variables ≤ most_variables
+  pub few : length q.names.variables ≤ most_names
   pub few_rates : length q.names.rates ≤ most_rates
   pub lines : AreLinesOver q.names q.lines
   pub verb : IsVerbOver q.names q.verb

@@ -8,7 +8,7 @@ use Rattle.it_forms.specs.declared.types.Code.TheVariants as codes
 use Rattle.it_forms.specs.Letters.{Letter}
 use Rattle.it_syntax.specs.MeasureWords.{is_measure}
 use Rattle.it_question.specs.TrySets.{Sets, unnamed_sets, is_named, with_set, auxiliary_env}
-use Rattle.it_question.specs.QuestionLimits.{auxiliaries_left, givens_left, rows_left, most_questions, most_lines}
+use Rattle.it_question.specs.QuestionLimits.{auxiliaries_left, givens_left, most_lines, most_names, most_questions, rows_left}
 use Rattle.it_syntax.specs.LineForms.{names, relation, given}
 use Rattle.it_syntax.specs.NamesViews.{NamesView, index_of}
 use Rattle.it_syntax.specs.Scopes.{env_of, scope_of, Environment}
@@ -19,7 +19,7 @@ use Rattle.it_question.specs.ProblemLines.{givens_alone, lines_with}
 use Rattle.it_question.specs.TableSizes.{size_flag}
 use Rattle.it_forms.specs.Forms.{Kind, Keyword, LineEnd, is_of, Terminal, Form, Give, Take, If, While}
 use Rattle.it_forms.specs.Words.{◌>>=◌, ◌>>◌, word, flagged_word, any_word, symbol, each_after, each_flagged, zero_alone, line_end, to_end, file_end, limit_flag}
-use Rattle.it_space.specs.Spaces.{most_variables, most_rates}
+use Rattle.it_space.specs.Spaces.{most_rates}
 
 -- ---- names that are declared
 
@@ -168,7 +168,7 @@ verb own v =
 -- after `vars`
 unfoldable pub question : Form BodyView
 question = do
-  variables ← new_names Variable most_variables no_names
+  variables ← new_names Variable most_names no_names
   names ← names_line Rate most_rates (codes "rates") variables
   own ← own_lines most_lines most_lines names
   aim ← verb own names

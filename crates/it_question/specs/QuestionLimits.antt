@@ -1,6 +1,5 @@
--- The most bytes, questions, auxiliaries and lines. Of variables and rates it is the most of a space.
+-- The most bytes, questions, names of variables, auxiliaries and lines. Of rates it is the most of a space.
 use Rattle.std.specs.Prelude.{ℕ, ◌-◌, min, length}
-use Rattle.it_space.specs.Spaces.{most_variables}
 use Rattle.it_syntax.specs.NamesViews.{NamesView}
 use Rattle.it_question.specs.OwnLines.{OwnLinesView}
 
@@ -12,6 +11,10 @@ most_file_bytes = 1048576
 abbrev pub most_questions : ℕ
 most_questions = 1000
 
+-- the most names of variables of a question, a region's auxiliaries among them
+abbrev pub most_names : ℕ
+most_names = 10
+
 -- the most auxiliaries of a region
 abbrev pub most_auxiliaries : ℕ
 most_auxiliaries = 4
@@ -22,7 +25,7 @@ most_lines = 64
 
 -- the most auxiliaries of a region of a question with the names of v
 abbrev pub auxiliaries_left : NamesView → ℕ
-auxiliaries_left v = min most_auxiliaries (most_variables - length v.variables)
+auxiliaries_left v = min most_auxiliaries (most_names - length v.variables)
 
 -- the number of `given` lines that are allowed after `own`, of g in all
 abbrev pub givens_left : ℕ → OwnLinesView → ℕ

@@ -6,14 +6,13 @@ ghost use Rattle.it_forms.specs.FormReading.{read};
 ghost use Rattle.it_forms.specs.Words as words;
 ghost use Rattle.it_syntax.specs.declared.rest.Stop.TheVariants.{Memory};
 ghost use Rattle.it_syntax.specs.RelationLines.{relation_line};
-ghost use Rattle.it_space.specs.Spaces.{IsSpace};
-ghost use Rattle.it_demand.specs.QuestionSpaces.{space_of};
 ghost use Rattle.it_syntax.specs.NamesViews.{index_of};
 ghost use Rattle.it_question.specs.Limits.{AreLinesOver};
 ghost use Rattle.it_question.specs.Bodies.{body_view};
 ghost use Rattle.it_question.specs.Cursors.{Parses, ParsesBy};
 ghost use Rattle.it_question.specs.QuestionForms as forms;
 ghost use Rattle.it_question.specs.Questions.{verb_view, Prove, Eliminate};
+ghost use Rattle.it_question.specs.Sorts.{AreQuestionNames};
 
 use crate::bodies::Body;
 use crate::cursor::Cursor;
@@ -21,7 +20,7 @@ use crate::names::{names_line, names_to_end};
 use crate::own::{MOST_LINES, own_lines};
 use crate::parts::relation;
 use crate::rates::rates;
-use crate::regions::{MOST_VARIABLES, containment};
+use crate::regions::{MOST_NAMES, containment};
 use crate::sorts::NameSort;
 use crate::tables::{elimination_is_large, proof_is_large};
 use crate::types::{OwnLines, Verb};
@@ -63,7 +62,7 @@ fn verb(
     names: &Names,
     lines: &OwnLines,
 ) -> Result<Verb, Stop>
-    requires space { IsSpace (space_of names.now) }
+    requires names { AreQuestionNames names.now }
     requires lines { AreLinesOver names.now lines.now }
     ensures { ParsesBy verb_view result (forms.verb lines.now names.now) cursor.old cursor.new }
 {
@@ -98,7 +97,7 @@ fn question(alloc: Global, cursor: &mut Cursor<'_>) -> Result<Body, Stop>
     ensures { ParsesBy body_view result forms.question cursor.old cursor.new }
 {
     let mut names = Names::new(alloc);
-    names_to_end(cursor, &mut names, NameSort::Variable, MOST_VARIABLES)?;
+    names_to_end(cursor, &mut names, NameSort::Variable, MOST_NAMES)?;
     names_line(cursor, &mut names, NameSort::Rate, MOST_RATES, RATES)?;
     let lines = own_lines(alloc, cursor, &names, MOST_LINES, MOST_LINES)?;
     let verb = verb(alloc, cursor, &names, &lines)?;

@@ -10,6 +10,7 @@ ghost use Rattle.it_question.specs.QuestionForms as forms;
 ghost use Rattle.it_question.specs.NewNames.{Variable};
 ghost use Rattle.it_question.specs.QuestionLimits.{most_lines};
 ghost use Rattle.it_question.specs.ReaderSteps.{contain_line, most_of_region};
+ghost use Rattle.it_question.specs.Sorts.{AreQuestionNames};
 
 use crate::cursor::Cursor;
 use crate::names::names_line;
@@ -24,8 +25,8 @@ use it_syntax::rest::Stop;
 use it_syntax::types::Code;
 use std::alloc::Global;
 
-/// The most variables of a question together with a region's auxiliaries.
-pub const MOST_VARIABLES: usize = 10;
+/// The most names of variables of a question, a region's auxiliaries among them.
+pub const MOST_NAMES: usize = 10;
 
 /// The most auxiliaries of a region.
 const MOST_AUXILIARIES: usize = 4;
@@ -36,7 +37,7 @@ fn most_of_region(names: &Names) -> usize
     ensures few { result ≤ most_variables }
 {
     let variables = names.space().variables as usize;
-    variables + MOST_AUXILIARIES.min(MOST_VARIABLES.saturating_sub(variables))
+    variables + MOST_AUXILIARIES.min(MOST_NAMES.saturating_sub(variables))
 }
 
 /// The number of variables that a region with the names `inside` adds to `names`.
@@ -122,7 +123,7 @@ pub fn containment(
     names: &Names,
     lines: &OwnLines,
 ) -> Result<Verb, Stop>
-    requires space { IsSpace (space_of names.now) }
+    requires names { AreQuestionNames names.now }
     requires lines { AreLinesOver names.now lines.now }
     ensures { ParsesBy verb_view result (forms.containment lines.now names.now) cursor.old cursor.new }
 {

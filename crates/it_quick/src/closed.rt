@@ -23,6 +23,9 @@ const STEPS_FOR_ONE: u32 = 4;
 /// A bound on the numbers of constraints and targets.
 const MOST: u128 = 1 << 15;
 
+/// The most places of a program. Its inverse has a row for each place, with a number at each place.
+const MOST_PLACES: usize = 1 << 13;
+
 /// Six bits by `number`, so that few columns have equal costs.
 fn mixed(number: usize) -> i64 {
     let bits = (number as u64).wrapping_mul(0x9E37_79B9_7F4A_7C15) >> 58;
@@ -115,15 +118,18 @@ pub struct ClosedProgram {
 }
 
 impl ClosedProgram {
-    /// The program with the columns of the inequalities alone.
+    /// The program with the columns of the inequalities alone. `None` if it would have more than `MOST_PLACES` places.
     pub fn read(
         alloc: Global,
         dependences: &Dependences,
         companions: Companions,
-    ) -> Result<ClosedProgram, AllocError> {
+    ) -> Result<Option<ClosedProgram>, AllocError> {
         let space = dependences.space();
         let closures = Closures::read(alloc, dependences, &companions)?;
         let places = Places::read(alloc, &closures, space.rates)?;
+        if places.width() > MOST_PLACES {
+            return Ok(None);
+        }
         let program = Program::new(alloc, places.width())?;
         let mut closed = ClosedProgram {
             companions,
@@ -134,7 +140,7 @@ impl ClosedProgram {
             before: Vec::new(alloc),
         };
         closed.push_inequalities(dependences)?;
-        Ok(closed)
+        Ok(Some(closed))
     }
 
     /// Whether the program is that of `companions`.

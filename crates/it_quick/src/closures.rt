@@ -18,7 +18,7 @@ use std::alloc::{AllocError, Global};
 fn first_variables(n: u8) -> VarSet
     requires { n ≤ most_variables }
 {
-    VarSet::from_number((1u16 << n) - 1)
+    VarSet::from_number(((1u32 << n) - 1) as u16)
 }
 
 /// `set` with variable `i`.
@@ -133,10 +133,11 @@ impl Closures {
         dependences: &Dependences,
         companions: &Companions,
     ) -> Result<Closures, AllocError> {
-        let count = 1u16 << dependences.space().variables;
-        let mut sets = Vec::with_capacity(alloc, usize::from(count))?;
+        let count = 1u32 << dependences.space().variables;
+        let mut sets = Vec::with_capacity(alloc, count as usize)?;
         for number in 0..count {
-            sets.push(closure(dependences, companions, VarSet::from_number(number)))?;
+            let set = VarSet::from_number(number as u16);
+            sets.push(closure(dependences, companions, set))?;
         }
         Ok(Closures { sets })
     }

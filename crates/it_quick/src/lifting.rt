@@ -26,7 +26,7 @@ fn is_below(n: u8, set: VarSet) -> bool
     requires { n ≤ most_variables }
     ensures { OnTrue result (set < 2 ^ n) }
 {
-    set.number() < 1u16 << n
+    u32::from(set.number()) < 1u32 << n
 }
 
 /// Whether two sets have no variable in common.
@@ -289,9 +289,9 @@ fn move_excesses(
 ) -> Result<(), RowFault> {
     let nothing = dependences.close(VarSet::empty());
     let mut empty: i128 = 0;
-    for number in 1..1u16 << dependences.space().variables {
-        let set = VarSet::from_number(number);
-        let excess = excesses.at(usize::from(number));
+    for number in 1..1u32 << dependences.space().variables {
+        let set = VarSet::from_number(number as u16);
+        let excess = excesses.at(number as usize);
         if dependences.close(set) == nothing {
             empty = with_product(empty, excess, -1)?;
         }

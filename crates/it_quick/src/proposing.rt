@@ -159,15 +159,15 @@ impl QuickProblem {
         })
     }
 
-    /// The program of `companions`: the one that was kept, if it is theirs, else a new one.
+    /// The program of `companions`: the one that was kept, if it is theirs, else a new one. `None` if it would have too many places.
     fn program(
         &mut self,
         alloc: Global,
         companions: Companions,
-    ) -> Result<ClosedProgram, AllocError> {
+    ) -> Result<Option<ClosedProgram>, AllocError> {
         if let Some(closed) = self.kept.take() {
             if closed.is_of(&companions) {
-                return Ok(closed);
+                return Ok(Some(closed));
             }
         }
         ClosedProgram::read(alloc, &self.dependences, companions)
@@ -186,7 +186,9 @@ impl QuickProblem {
         ensures { IfOk result (λ o. IfSome o (IsOfSpace problem.now.space)) }
     {
         let companions = Companions::read(alloc, &self.dependences, problem, target)?;
-        let mut closed = self.program(alloc, companions)?;
+        let Some(mut closed) = self.program(alloc, companions)? else {
+            return Ok(None);
+        };
         let proposal = by_run(
             alloc,
             problem,

@@ -14,7 +14,7 @@ use Rattle.it_rates.specs.Frames.{frame_in, hull_frame}
 
 module _ (rows : ℕ) (q : BodyView) (k : IsQuestion q) (few_rows : rows ≤ 65535) (gone_are : AreRatesOf (length q.names.rates) (gone_rates q.verb)) where
   own_space : IsSpace (space_of q.names)
-  own_space = record { some = k.some; few = k.few; few_rates = k.few_rates }
+  own_space = record { some = k.some; few = omega (arith, k.few); few_rates = k.few_rates }
 
   pub is_frame : IsFrame (hull_frame rows q)
   is_frame = record { space = own_space; spare = gone_are.within 0 0 (omega (arith, gone_are.some)); few_rows = few_rows }

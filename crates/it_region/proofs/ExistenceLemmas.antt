@@ -6,6 +6,7 @@ use Rattle.std.proofs.lemmas.List.Elements.{All-weaker}
 use Rattle.std.proofs.lemmas.Nat.{pow_pos}
 use Rattle.it_problems.specs.declared.problems.Constraint.{Constraint}
 use Rattle.it_space.specs.declared.spaces.Space.{Space}
+use Rattle.it_space.specs.Bounds.{most_mass}
 use Rattle.it_space.specs.Rows.{IsOver, row_mass}
 use Rattle.it_space.specs.Spaces.{size_of}
 use Rattle.it_space.proofs.EveryLemmas.{every_of}
@@ -94,5 +95,5 @@ module _ (q : BodyView) (k : IsQuestion q) (small : QuestionHasSmallNumbers q) (
       let fs : List Form = obligations q first second parts in
       let same : space_of first.names ≡ space_of (problem_names q) = sym (ap (λ v. space_of (names_under q.names v)) about) in
       subst (λ (s : Space). ArePulledRows s fs (map (terms_of_form (size_of s)) fs)) same
-      (rows_of_forms (space_of first.names) (2 ^ 106) (lit< tt) fs (obligations_up_to (2 ^ m - 1 + rates) (size_of (space_of first.names))
-      (2 ^ 106) f within (line_demands m second.lines) forms))
+      (rows_of_forms (space_of first.names) most_mass (lit< tt) fs (obligations_up_to (2 ^ m - 1 + rates) (size_of (space_of first.names))
+      most_mass f within (line_demands m second.lines) forms))

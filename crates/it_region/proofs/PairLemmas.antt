@@ -1,7 +1,7 @@
 -- The pair of a question's regions keeps the limits.
-use Rattle.std.proofs.Common.{◌≡◌, ℕ, ℤ, ◌+◌, ◌*◌, [], ◌∷◌, unsigned_abs, ◌<◌, ◌≤◌, ◌^◌, List, length, length-append, sym, ap, subst, subst₂, ◌∙◌, arith, All, take, Result, Ok, Err, IfOk, ◌↔◌, true, nat_lt, rules}
+use Rattle.std.proofs.Common.{◌≡◌, ℕ, ◌+◌, ◌<◌, ◌^◌, List, length, length-append, sym, ap, subst, subst₂, ◌∙◌, arith, All, take, Result, Ok, Err, IfOk, ◌↔◌, true, nat_lt, rules}
 use Rattle.std.specs.List.{list_all}
-use Rattle.std.proofs.lemmas.List.Elements.{All-head, All-tail, All-weaker}
+use Rattle.std.proofs.lemmas.List.Elements.{All-weaker}
 use Rattle.std.proofs.lemmas.List.Sums.{AllPass-from_list_all, list_all-from_AllPass}
 use Rattle.it_space.specs.declared.spaces.Space.{Space}
 use Rattle.it_problems.specs.declared.problems.Constraint.{Constraint}
@@ -28,16 +28,9 @@ use Rattle.it_region.specs.declared.types.Candidate.{Candidate}
 use Rattle.it_region.proofs.PullingLemmas.{sets_within, length-sets}
 use Rattle.std.proofs.lemmas.List.{length-take-le}
 
-mass_within : (ts : Terms) → All (λ t. unsigned_abs t.1 ≤ 2 ^ 106) ts → row_mass ts ≤ length ts * 2 ^ 106
-mass_within [] a = omega arith
-mass_within (t ∷ ts) a =
-    let here = All-head (λ (t : ℕ × ℤ). unsigned_abs t.1 ≤ 2 ^ 106) t ts a in
-    let rest = mass_within ts (All-tail (λ (t : ℕ × ℤ). unsigned_abs t.1 ≤ 2 ^ 106) t ts a) in
-    omega (arith, here, rest)
-
 -- a row from a question file has room to be added up in one place
 small_mass : (ts : Terms) → IsSmall ts → row_mass ts < 2 ^ 127
-small_mass ts k = let m = mass_within ts k.each in let few = k.few in omega (arith, m, few)
+small_mass ts k = omega (arith, k)
 
 pub stated_small : (s : Space) (places : List Origin) (ds : List Demand) (cs : List Constraint) → AreStated s places ds cs
     → All (λ c. row_mass c.row < 2 ^ 127) cs
@@ -59,6 +52,7 @@ pair_limits q a b p k l r problem o =
     let wide = region_wider q b r in
     record {
       problem = problem;
+      few = omega (arith, n, l.few_variables);
       space = record {
         some = omega (arith, m, wide, k.some);
         few = omega (arith, m, r.few_variables);

@@ -15,7 +15,7 @@ use Rattle.it_space.specs.Rows.{Terms, IsCanonical, IsOver, value, row_mass}
 use Rattle.it_space.specs.Spaces.{size_of}
 use Rattle.it_polymatroid.specs.Certificates.{Form}
 use Rattle.it_demand.specs.SystemForms.{AreAtLeastZero}
-use Rattle.it_demand.specs.Coefficients.{dense_form, largest, signed_by, IsFormAdded}
+use Rattle.it_demand.specs.Coefficients.{dense_form, mass, signed_by, IsFormAdded}
 use Rattle.it_demand.proofs.ZipLemmas.{All-parts, zip-same, zip-right}
 use Rattle.it_region.specs.Obligations.{pulled_form, constraint_obligations, IsPulledRow, ArePulledRows}
 
@@ -28,7 +28,7 @@ signed_form f negated ts p = signed_by negated (value ts (λ c. p (f c)))
 -- the first i terms are added, and the others are still to add
 pub record IsUnderWay (f : ℕ → ℕ) (negated : Bool) (whole : Terms) (size : ℕ) (now : List ℤ) (i : ℕ) : Type 0 where
   pub complete : length now ≡ size + 1
-  pub small : largest now + row_mass (drop i whole) ≤ row_mass whole
+  pub small : mass now + row_mass (drop i whole) ≤ row_mass whole
   pub sum : (p : ℕ → ℤ) → dense_form now p +ℤ signed_form f negated (drop i whole) p ≡ signed_form f negated whole p
 
 signed_form-cons : (f : ℕ → ℕ) (negated : Bool) (t : ℕ × ℤ) (ts : Terms) (p : ℕ → ℤ)

@@ -9,6 +9,7 @@ use Rattle.it_question.specs.Questions.{VerbView, Contain, BodyView}
 use Rattle.it_demand.specs.Origins.{AreStated}
 use Rattle.it_canon.specs.QuestionDemands.{question_demands, question_origins}
 use Rattle.it_question.specs.LineOrigins.{origins_from}
+use Rattle.it_question.specs.QuestionLimits.{most_names}
 use Rattle.it_question.specs.LineDemands.{line_demands}
 use Rattle.it_problems.specs.declared.problems.Origin.{Origin}
 use Rattle.it_demand.specs.QuestionSpaces.{space_of}
@@ -20,6 +21,7 @@ use Rattle.it_region.specs.Obligations.{constraint_obligations}
 -- the pairs that calls take
 pub record IsPair (p : Pair) : Type 0 where
   pub problem : IsProblem p.first
+  pub few : p.first.space.variables ≤ most_names
   pub space : IsSpace p.space
   pub rows : All (λ c. IsOver (size_of p.space) c.row) p.own.items
   pub small : All (λ c. row_mass c.row < 2 ^ 127) p.own.items

@@ -4,7 +4,7 @@ ghost use Rattle.it_problems.specs.Problems.{AreMet};
 ghost use Rattle.it_space.specs.Rows.{IsOver, value, row_mass};
 ghost use Rattle.it_space.specs.Spaces.{size_of, most_variables};
 ghost use Rattle.it_demand.specs.SystemForms.{AreAtLeastZero, AtMaps};
-ghost use Rattle.it_demand.specs.Coefficients.{largest, signed_by, IsFormAdded};
+ghost use Rattle.it_demand.specs.Coefficients.{mass, signed_by, IsFormAdded};
 ghost use Rattle.it_region.specs.Obligations.{constraint_obligations, ArePulledRows, IsPulledRow};
 ghost use Rattle.it_region.specs.Pulling.{singles};
 ghost use Rattle.it_region.specs.PairSteps.{AreSetsFor, obligations_of};
@@ -83,7 +83,7 @@ fn add_term(
     requires sets { AreSetsFor pair.now sets.now }
     requires coordinate { term.now.0 ≤ size_of pair.now.space }
     requires complete { length sums.old ≡ size_of pair.now.first.space + 1 }
-    requires room { largest sums.old + unsigned_abs term.now.1 < 2 ^ 127 }
+    requires room { mass sums.old + unsigned_abs term.now.1 < 2 ^ 127 }
     ensures { IsFormAdded sums.old sums.new (unsigned_abs term.now.1) (λ p. signed_by negated term.now.1 *ℤ p (pair_coordinate pair.now sets.now term.now.0)) }
 {
     sums.add(

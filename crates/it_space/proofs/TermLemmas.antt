@@ -1,13 +1,13 @@
 -- Sums of rows and cancelled rows: the value at every point, and the coefficient at every coordinate.
-use Rattle.std.proofs.Common.{◌≡◌, ap₂, ℕ, zero, suc, ◌+◌, ◌<◌, ◌≤◌, ℤ, pos, negsuc, neg_ℤ, ◌+ℤ◌, ◌*ℤ◌, refl, sym, ap, subst, ◌∙◌, arith, [], ◌∷◌, ◌++◌, Bool, true, false, cond, nat_eq, nat_lt, if◌then◌else◌}
+use Rattle.std.proofs.Common.{◌≡◌, ap₂, ℕ, zero, suc, ◌+◌, ◌<◌, ◌≤◌, ℤ, pos, negsuc, neg_ℤ, ◌+ℤ◌, ◌*ℤ◌, unsigned_abs, refl, sym, ap, subst, ◌∙◌, arith, [], ◌∷◌, ◌++◌, Bool, true, false, cond, nat_eq, nat_lt, if◌then◌else◌}
 use Rattle.std.proofs.lemmas.Int.{ints}
 use Rattle.std.proofs.lemmas.Bool.Decides.{nat_tests}
 use Rattle.std.proofs.lemmas.Bool.{eqb-true, ltb-true}
 use Rattle.std.proofs.Math.IntN.{+ℤ_idr}
 use Rattle.it_number.proofs.Integers.{zring}
 use Rattle.it_number.specs.Limit.{IsWithin}
-use Rattle.it_number.proofs.SignLemmas.{zero_by_multiple}
-use Rattle.it_space.specs.Rows.{Terms, coefficient, value, Ascends, single_term, negated_terms, one_at}
+use Rattle.it_number.proofs.SignLemmas.{size_negated, zero_by_multiple}
+use Rattle.it_space.specs.Rows.{Terms, coefficient, value, Ascends, single_term, negated_terms, one_at, row_mass}
 use Rattle.it_space.proofs.CanonicalRows.{Rises, ascends_rise}
 use Rattle.it_space.specs.Cancelling.{times_up, times_down, with_term, row_sum, row_multiple, cancelled_row}
 use Rattle.it_space.specs.Mixing.{mix}
@@ -85,6 +85,25 @@ value-one_at (t ∷ ts) c = ap₂ (λ x y. x +ℤ y) (by_test (nat_eq t.0 c)) (v
     by_test : (b : Bool) → t.1 *ℤ cond b (pos 1) (pos 0) ≡ cond b t.1 (pos 0)
     by_test true = omega (arith, ints)
     by_test false = omega (arith, ints)
+
+-- ---- the sum of the absolute values
+
+pub mass-append : (xs ys : Terms) → row_mass (xs ++ ys) ≡ row_mass xs + row_mass ys
+mass-append [] ys = let e : row_mass ys ≡ 0 + row_mass ys = omega arith in e
+mass-append (x ∷ xs) ys = omega (arith, mass-append xs ys)
+
+pub mass-negated_terms : (row : Terms) → row_mass (negated_terms row) ≡ row_mass row
+mass-negated_terms [] = refl
+mass-negated_terms (t ∷ ts) = ap₂ (λ (a b : ℕ). a + b) (size_negated t.1) (mass-negated_terms ts)
+
+-- no coefficient is above it
+pub coefficient-small : (row : Terms) (c : ℕ) → unsigned_abs (coefficient row c) ≤ row_mass row
+coefficient-small [] c = omega arith
+coefficient-small (t ∷ ts) c = by_test (nat_eq t.0 c) t.1 (coefficient ts c) (row_mass ts) (coefficient-small ts c)
+  where
+    by_test : (b : Bool) (x y : ℤ) (m : ℕ) → unsigned_abs y ≤ m → unsigned_abs (cond b x (pos 0) +ℤ y) ≤ unsigned_abs x + m
+    by_test true x y m h = omega (arith, ints, h)
+    by_test false x y m h = omega (arith, ints, h)
 
 -- ---- negated rows
 

@@ -1,8 +1,12 @@
 -- A bound on rows from a question file.
-use Rattle.std.specs.Prelude.{◌^◌, ◌≤◌, unsigned_abs, length, All}
-use Rattle.it_space.specs.Rows.{Terms}
+use Rattle.std.specs.Prelude.{ℕ, ◌^◌, ◌≤◌}
+use Rattle.it_space.specs.Rows.{Terms, row_mass}
 
--- a row of at most 1040 terms, as many as there are coordinates, whose coefficients are at most 2 ^ 106 in absolute value
-pub record IsSmall (row : Terms) : Type 0 where
-  pub few : length row ≤ 1040
-  pub each : All (λ t. unsigned_abs t.1 ≤ 2 ^ 106) row
+-- the most that the coefficients of a row from a file are together, in absolute value: a relation has at most 256 terms, each a sum of
+-- at most four entropies, whose coefficients are at most 2 ^ 96
+abbrev pub most_mass : ℕ
+most_mass = 2 ^ 106
+
+-- the row's coefficients are together no more than that
+abbrev pub IsSmall : Terms → Type 0
+IsSmall row = row_mass row ≤ most_mass

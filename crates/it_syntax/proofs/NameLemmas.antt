@@ -8,6 +8,7 @@ use Rattle.std.proofs.lemmas.List.Elements.{All-nil, All-cons, All-head, All-tai
 use Rattle.std.proofs.lemmas.Slice.Eq.{bytes_eq-Decides}
 use Rattle.std.proofs.lemmas.List.Sums.{fails_before_first}
 use Rattle.std.proofs.lemmas.Bool.Decides.{nat_tests}
+use Rattle.it_space.specs.Spaces.{most_variables}
 use Rattle.it_syntax.specs.NamesViews.{index_of, NamesView, AreNames, IsNew}
 
 abbrev place : ℕ → ℕ → Option ℕ
@@ -66,7 +67,7 @@ IsShort name = (1 ≤ length name) × (length name ≤ 16)
 
 -- ---- one more variable, one more rate, and none
 pub with_variable : (v : NamesView) (name : List ℕ) → AreNames v → IsNew v name → 1 ≤ length name → length name ≤ 16
-    → length v.variables < 10 → AreNames (record { variables = v.variables ++ name ∷ []; rates = v.rates })
+    → length v.variables < most_variables → AreNames (record { variables = v.variables ++ name ∷ []; rates = v.rates })
 with_variable v name h new some short few =
     let same : v.variables ++ name ∷ v.rates ≡ (v.variables ++ name ∷ []) ++ v.rates = sym (append_assoc v.variables (name ∷ []) v.rates) in
     record {

@@ -8,7 +8,7 @@ pub record NamesView : Type 0 where
   pub variables : List (List ℕ)
   pub rates : List (List ℕ)
 
--- at most ten variables and sixteen rates, whose names differ and have 1 to 16 bytes
+-- the most variables and rates of a space at most, whose names differ and have 1 to 16 bytes
 pub record AreNames (v : NamesView) : Type 0 where
   pub few_variables : length v.variables ≤ most_variables
   pub few_rates : length v.rates ≤ most_rates

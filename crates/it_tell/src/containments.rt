@@ -130,7 +130,7 @@ fn write_choices(
     requires { length sets.now ≡ length (drop from second.now.variables) }
     ensures { OnOk result (out.new.items ≡ out.old.items ++ sets_with true names.now.variables (drop from second.now.variables) sets.now) }
 {
-    // asked for its clause, that there are at most ten variables
+    // asked for its clause on the number of variables
     let _space = second.space();
     for (i, set) in sets.iter().enumerate() {
         out.extend_from_slice(before_choice(i == 0))?;

@@ -3,6 +3,7 @@ ghost use Rattle.std.specs.Prelude.{◌≡◌, ◌≤◌, ◌<◌, ◌+◌, ◌^
 ghost use Rattle.std.specs.List.{flat_map};
 ghost use Rattle.it_space.specs.Answers.{answer_view, certificate_view};
 ghost use Rattle.it_space.specs.Rows.{value};
+ghost use Rattle.it_space.specs.Spaces.{most_coordinates};
 ghost use Rattle.it_space.specs.Answers.AnswerView.{Yes};
 ghost use Rattle.it_syntax.specs.Meaning.{relation_view};
 ghost use Rattle.it_question.specs.Questions.{Prove};
@@ -351,7 +352,7 @@ fn write_relation_proofs(
 /// A point as answers have it.
 fn values_of(alloc: Global, question: &Question, point: &Point) -> Result<Vec<u8>, AllocError>
     requires there { length point.now < 2 ^ variable_count question.now.body + length (problem_names question.now.body).rates }
-    requires few { length point.now < 2 ^ 16 }
+    requires few { length point.now ≤ most_coordinates }
     ensures { IfOk result (λ t. t.items ≡ codes "as point " ++ values_text (problem_names question.now.body) point.now) }
 {
     let values = values_text(alloc, problem_names(question), point)?;
@@ -365,7 +366,7 @@ fn values_of(alloc: Global, question: &Question, point: &Point) -> Result<Vec<u8
 #[tactic(auto, unfolding(crate::specs::Tellings::IsPointText))]
 fn any_point(alloc: Global, question: &Question, point: &Point) -> Result<Vec<u8>, AllocError>
     requires there { length point.now < 2 ^ variable_count question.now.body + length (problem_names question.now.body).rates }
-    requires few { length point.now < 2 ^ 16 }
+    requires few { length point.now ≤ most_coordinates }
     ensures { IfOk result (λ t. IsPointText (problem_names question.now.body) point.now t.items) }
 {
     match told_point(alloc, question, point)? {
@@ -382,7 +383,7 @@ fn write_point(
     point: &Point,
 ) -> Result<(), AllocError>
     requires there { length point.now < 2 ^ variable_count question.now.body + length (problem_names question.now.body).rates }
-    requires few { length point.now < 2 ^ 16 }
+    requires few { length point.now ≤ most_coordinates }
     ensures { OnOk result (AppendsPoint (problem_names question.now.body) point.now out.old.items out.new.items) }
 {
     let text = any_point(alloc, question, point)?;

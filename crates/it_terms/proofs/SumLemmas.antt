@@ -1,9 +1,8 @@
 -- Sums by place to which forms are added, item by item.
-use Rattle.std.proofs.Common.{◌≡◌, ℕ, ◌+◌, ◌<◌, ◌≤◌, ◌^◌, ℤ, pos, ◌+ℤ◌, ◌*ℤ◌, Bool, ◌&&◌, refl, sym, ap, ap₂, ◌∙◌, arith, lit<, List, [], ◌∷◌, length, All, drop, get_or, replicate, Result, Ok, Err, IfOk}
+use Rattle.std.proofs.Common.{◌≡◌, ℕ, ◌+◌, ◌<◌, ◌≤◌, ◌^◌, ℤ, pos, ◌+ℤ◌, ◌*ℤ◌, Bool, ◌&&◌, refl, sym, ap, ap₂, ◌∙◌, arith, List, [], ◌∷◌, length, All, drop, get_or, replicate, Result, Ok, Err, IfOk}
 use Rattle.std.specs.Bool.{Decides, OnTrue}
 use Rattle.std.specs.Prelude.{nat_eq}
 use Rattle.std.specs.Ordering.{int_eq}
-use Rattle.std.proofs.Math.Nat.{pow-le-pow_right}
 use Rattle.std.proofs.lemmas.Option.{get_or_from_slice_get, slice_get-get_or}
 use Rattle.std.proofs.lemmas.Bool.{OnTrue_at, OnTrue_from}
 use Rattle.std.proofs.lemmas.Bool.Decides.{Decides-and, Decides-eqb, Decides-int_eq}
@@ -12,6 +11,7 @@ use Rattle.std.proofs.lemmas.List.{drop_all, length-replicate}
 use Rattle.it_number.specs.Limit.{IsWithin}
 use Rattle.it_number.proofs.Integers.{mul_assoc, mul-add}
 use Rattle.it_space.proofs.ListLemmas.{drop_item}
+use Rattle.it_space.proofs.SpaceLemmas.{few_coordinates}
 use Rattle.it_space.specs.declared.spaces.Space.{Space}
 use Rattle.it_space.specs.Rows.{Terms, value}
 use Rattle.it_space.specs.Spaces.{IsSpace, size_of}
@@ -105,9 +105,8 @@ pair_decides a b =
 pub places_few : (s : Space) (sums : List ℤ) (places : ℕ) → IsSpace s → places ≡ size_of s + 1
     → length sums ≡ length (replicate places (pos 0)) → length sums ≤ 2 ^ 31
 places_few s sums places k e h =
-    let most : 2 ^ s.variables ≤ 2 ^ 10 = pow-le-pow_right (lit< tt) k.few in
     let count : length (replicate places (pos 0)) ≡ places = length-replicate places (pos 0) in
-    omega (arith, count, e, h, most, k.few_rates)
+    omega (arith, count, e, h, few_coordinates s k)
 
 pub same_as_added : {E : Type 0} (row : Terms) (old new : List ℤ) (places : ℕ) (form : Form) (result : Result Bool E)
     → old ≡ replicate places (pos 0) → IsPlus old new form

@@ -81,9 +81,9 @@ fn sets_by_size(alloc: Global, variables: u8) -> Result<Vec<VarSet>, AllocError>
     requires { variables ≤ most_variables }
 {
     let mut sets = Vec::new(alloc);
-    for members in 0..11 {
-        for number in 0..1u16 << variables {
-            let set = VarSet::from_number(number);
+    for members in 0..variables as u32 + 1 {
+        for number in 0..1u32 << variables {
+            let set = VarSet::from_number(number as u16);
             if size(set) == members {
                 sets.push(set)?;
             }
@@ -101,8 +101,8 @@ pub fn closures_of(
     requires { variables ≤ most_variables }
 {
     let mut table = Vec::new(alloc);
-    for number in 0..1u16 << variables {
-        table.push(dependences.close(VarSet::from_number(number)))?;
+    for number in 0..1u32 << variables {
+        table.push(dependences.close(VarSet::from_number(number as u16)))?;
     }
     let by_size = sets_by_size(alloc, variables)?;
     Ok(Closures { table, by_size })

@@ -93,7 +93,7 @@ fn elemental_atom(n: u8, index: u32) -> Atom
     match parts(n, index) {
         Elemental::Conditional { of } => {
             let of = variable(of);
-            let given = VarSet::from_number((1u16 << n) - 1).minus(of);
+            let given = VarSet::from_number(((1u32 << n) - 1) as u16).minus(of);
             Atom::Entropy { of, given }
         }
         Elemental::Mutual { left, right, given } => Atom::Mutual {

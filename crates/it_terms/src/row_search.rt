@@ -223,8 +223,8 @@ fn closed_sets(alloc: Global, closures: &Closures, variables: u8) -> Result<Vec<
     requires { variables ≤ most_variables }
 {
     let mut sets = Vec::new(alloc);
-    for number in 0..1u16 << variables {
-        let set = VarSet::from_number(number);
+    for number in 0..1u32 << variables {
+        let set = VarSet::from_number(number as u16);
         if closures.close(set) == set {
             sets.push(set)?;
         }

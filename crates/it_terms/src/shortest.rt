@@ -2,7 +2,7 @@
 //! the text that it gives, so no clause says it here.
 ghost use Rattle.std.specs.Prelude.{◌≡◌, ◌+◌, ◌*◌, ◌^◌, ◌≤◌, ◌<◌, length, IfOk, OnOk};
 ghost use Rattle.it_space.specs.Spaces.{IsSpace, most_variables};
-ghost use Rattle.it_demand.specs.Coefficients.{largest};
+ghost use Rattle.it_demand.specs.Coefficients.{mass};
 
 use crate::closed::{ClosedTerm, Closures};
 use crate::finding::{common_multiple, negated, term_of, weights_of};
@@ -95,9 +95,9 @@ fn put(
     times: i128,
 ) -> Result<(), Untold>
     requires complete { length coefficients.old ≡ places }
-    requires small { largest coefficients.old ≤ 2 ^ 100 }
+    requires small { mass coefficients.old ≤ 2 ^ 100 }
     ensures complete { OnOk result (length coefficients.new ≡ places) }
-    ensures small { OnOk result (largest coefficients.new ≤ largest coefficients.old + 2 ^ 64) }
+    ensures small { OnOk result (mass coefficients.new ≤ mass coefficients.old + 2 ^ 64) }
 {
     if coordinate >= places || times.unsigned_abs() > u64::MAX as u128 {
         return Err(Untold::NotFound);
@@ -174,16 +174,15 @@ fn put_atoms_of(
     alloc: Global,
     columns: &mut Columns,
     space: Space,
-    sets: u16,
     left: VarSet,
     given: VarSet,
 ) -> Result<(), Untold>
     requires { IsSpace space }
 {
     put_atom(alloc, columns, space, Atom::Entropy { of: left, given })?;
-    for number in 1..sets {
-        let right = VarSet::from_number(number);
-        if number > left.number() && !meets(right, left) && !meets(right, given) {
+    for number in 1..1u32 << space.variables {
+        let right = VarSet::from_number(number as u16);
+        if right.number() > left.number() && !meets(right, left) && !meets(right, given) {
             put_atom(alloc, columns, space, Atom::Mutual { left, right, given })?;
         }
     }
@@ -191,15 +190,15 @@ fn put_atoms_of(
 }
 
 /// Adds the columns of each H(A|C) and each I(A;B|C) of disjoint sets.
-fn put_atoms(alloc: Global, columns: &mut Columns, space: Space, sets: u16) -> Result<(), Untold>
+fn put_atoms(alloc: Global, columns: &mut Columns, space: Space) -> Result<(), Untold>
     requires { IsSpace space }
 {
-    for number in 0..sets {
-        let given = VarSet::from_number(number);
-        for other in 1..sets {
-            let left = VarSet::from_number(other);
+    for number in 0..1u32 << space.variables {
+        let given = VarSet::from_number(number as u16);
+        for other in 1..1u32 << space.variables {
+            let left = VarSet::from_number(other as u16);
             if !meets(left, given) {
-                put_atoms_of(alloc, columns, space, sets, left, given)?;
+                put_atoms_of(alloc, columns, space, left, given)?;
             }
         }
     }
@@ -238,7 +237,7 @@ fn all_columns(alloc: Global, space: Space, constraints: &[Constraint]) -> Resul
 {
     let coordinates = (1..space.size() + 1).collect(alloc)?;
     let mut columns = no_columns(alloc, coordinates);
-    put_atoms(alloc, &mut columns, space, 1u16 << space.variables)?;
+    put_atoms(alloc, &mut columns, space)?;
     for (i, constraint) in constraints.iter().enumerate() {
         put_constraint(alloc, &mut columns, constraint, (i % 65536) as u32)?;
     }

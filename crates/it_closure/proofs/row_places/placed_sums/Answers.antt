@@ -1,8 +1,8 @@
 use Rattle.std.proofs.Common.{rules, ◌≡◌, ◌+◌, ◌<◌, ◌≤◌, ℕ, ℤ, pos, length, get_or, replicate, FitsSigned, to_z-of_z, sym, ap, subst, ◌∙◌, arith}
 use Rattle.std.proofs.lemmas.List.{get_or_default}
-use Rattle.std.proofs.Math.Pow.{pow_mono}
 use Rattle.it_space.specs.Rows.{Terms, IsOver}
 use Rattle.it_space.specs.Spaces.{size_of}
+use Rattle.it_space.proofs.SpaceLemmas.{few_coordinates}
 use Rattle.it_closure.proofs.Placing.{placing-start, collapse_is_wide, went_on, placing-end, place_in, sets_in}
 use Rattle.it_closure.proofs.row_places.placed_sums.Goals as goal
 use mir.Syntax.{w128}
@@ -60,7 +60,5 @@ pub returns-clause-few : goal.returns-clause-few
 returns-clause-few c = omega (
   arith,
   c.loop-coordinate.invariant.complete,
-  c.space.ensures.shape.space.few_rates,
-  pow_mono
-      {i = c.args.dependences.now.space.variables} {j = 10} c.space.ensures.shape.space.few,
+  few_coordinates c.args.dependences.now.space c.space.ensures.shape.space,
 )

@@ -18,7 +18,7 @@ returns c =
     let sum : (ℕ → ℤ) → ℤ = λ p. sum_of_conditionals n p c.args.members.now c.args.given in
     let joint : (ℕ → ℤ) → ℤ = λ p. negsuc 0 *ℤ atom_at n p (Entropy c.union_of.result c.args.given) in
     row_of_sums c.args.space c.in_ok-sums.sums c.add_atom.new.self (4 * length c.args.members.now + 4)
-    (independence_form n c.args.members.now c.args.given) c.into_row.result c.in_ok-sums.ensures.complete c.in_ok-sums.ensures.few
+    (independence_form n c.args.members.now c.args.given) c.into_row.result c.in_ok-sums.ensures.complete
     c.in_ok-sums.ensures.small c.in_ok-sums.ensures.zero (omega (arith, c.requires.within.few))
     (added-same c.in_ok-sums.sums c.add_atom.new.self (4 * length c.args.members.now + 4) (4 * length c.args.members.now + 4)
     (λ p. sum p +ℤ joint p) (independence_form n c.args.members.now c.args.given) (omega arith)

@@ -12,6 +12,6 @@ pub returns : goal.returns
 returns c =
     let n : ℕ = c.args.space.variables in
     row_of_sums c.args.space c.in_ok-sums.sums c.add_atom.new.self _ (λ p. atom_at n p c.args.atom) c.into_row.result
-    c.in_ok-sums.ensures.complete c.in_ok-sums.ensures.few c.in_ok-sums.ensures.small c.in_ok-sums.ensures.zero (omega arith)
+    c.in_ok-sums.ensures.complete c.in_ok-sums.ensures.small c.in_ok-sums.ensures.zero (omega arith)
     (added-same _ _ 4 4 (λ p. pos 1 *ℤ atom_at n p c.args.atom) (λ p. atom_at n p c.args.atom) (omega arith) (λ p. omega (arith, ints)) c.add_atom.ensures)
     c.into_row.ensures.same c.into_row.ensures.coordinates c.into_row.ensures.canonical c.into_row.ensures.bounded

@@ -1,6 +1,6 @@
 use Rattle.std.proofs.Common.{ap, ◌∙◌, sym, arith, ◌<◌, ◌-◌, ◌^◌, to_z-of_z, FitsSigned, rules}
-use Rattle.std.proofs.Math.Pow.{pow_mono}
 use Rattle.it_space.specs.Rows.{one_at}
+use Rattle.it_space.proofs.SpaceLemmas.{few_sets}
 use Rattle.it_polymatroid.specs.Elementals.{elemental_at, elemental_value}
 use Rattle.it_elemental.proofs.PlaceLemmas.{is_elemental}
 use Rattle.it_elemental.proofs.RowLemmas.{coefficient-row, within-row}
@@ -19,4 +19,4 @@ returns-then-coordinate-n c =
 pub returns-else-coordinate-n : goal.returns-else-coordinate-n
 returns-else-coordinate-n c = sym (no_coefficient_beyond (2 ^ c.args.n - 1) _ c.args.coordinate
     (within-row c.args.n (elemental_at c.args.n c.args.index) (is_elemental c.args.n c.args.index c.requires.listed))
-    (omega (arith, pow_mono {i = c.args.n} {j = 10} c.requires.few)))
+    (omega (arith, few_sets c.args.n c.requires.few)))

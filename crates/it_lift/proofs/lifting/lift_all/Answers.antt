@@ -4,7 +4,8 @@ use Rattle.it_space.specs.Answers.{certificate_view}
 use Rattle.it_space.specs.Rows.{coefficient}
 use Rattle.it_polymatroid.specs.Elementals.{elementals}
 use Rattle.it_elemental.specs.Generators.{generators_of}
-use Rattle.it_lift.proofs.GeneratorLemmas.{total_is, few_elementals}
+use Rattle.it_elemental.proofs.GeneratorLemmas.{few_elementals}
+use Rattle.it_lift.proofs.GeneratorLemmas.{total_is}
 use Rattle.it_lift.proofs.Whole.{is_lift, lift_fits, weights_some}
 use Rattle.it_lift.proofs.lifting.lift_all.Goals as goal
 use mir.Syntax.{w128}

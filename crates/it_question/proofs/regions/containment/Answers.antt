@@ -2,7 +2,7 @@ use Rattle.std.proofs.Common.{◌≡◌, ℕ, List, [], Ok, arith, subst}
 use Rattle.std.proofs.lemmas.Result.{err_from_is_err_and}
 use Rattle.it_question.specs.Cursors.{letters_left}
 use Rattle.it_question.specs.QuestionLimits.{most_lines, givens_left, rows_left}
-use Rattle.it_question.proofs.LimitLemmas.{region_limited}
+use Rattle.it_question.proofs.LimitLemmas.{declared_space, region_limited}
 use Rattle.it_question.proofs.RegionLemmas.{tries_stop, contain_stops, contain_gives, region_under}
 use Rattle.it_forms.specs.FormReading.{read}
 use Rattle.it_forms.specs.Forms.{Form}
@@ -85,11 +85,14 @@ returns c = contain_gives c.args.lines.now c.args.names.now (letters_left c.args
     c.args.names.now _ _ _ _ _ _ c.names.ensures c.names-2.ensures c.auxiliaries.ensures c.in_ok-tries.ensures)
     (letters_left c.contain.new.cursor) c.in_ok-contain.ensures
 
+pub contain-requires-clause-space : goal.contain-requires-clause-space
+contain-requires-clause-space c = declared_space c.args.names.now c.requires.names
+
 pub contain-requires-clause-region : goal.contain-requires-clause-region
 contain-requires-clause-region c =
     let own = c.args.lines.now in
     (region_limited own c.args.names.now (letters_left c.args.cursor.now) (letters_left c.region.new.cursor)
-    c.in_ok-first.first c.requires.space.few
+    c.in_ok-first.first c.requires.names.few
     (region_under c.givens_left-most_givens.result c.rows_left-most_rows.result (givens_left most_lines own)
     (rows_left most_lines own) c.args.names.now (letters_left c.args.cursor.now) (letters_left c.region.new.cursor)
     c.in_ok-first.first c.givens_left-most_givens.ensures c.rows_left-most_rows.ensures c.in_ok-first.ensures)).region
@@ -98,7 +101,7 @@ pub contain-requires-clause-few_givens : goal.contain-requires-clause-few_givens
 contain-requires-clause-few_givens c =
     let own = c.args.lines.now in
     let counted = region_limited own c.args.names.now (letters_left c.args.cursor.now) (letters_left c.region.new.cursor)
-    c.in_ok-first.first c.requires.space.few
+    c.in_ok-first.first c.requires.names.few
     (region_under c.givens_left-most_givens.result c.rows_left-most_rows.result (givens_left most_lines own)
     (rows_left most_lines own) c.args.names.now (letters_left c.args.cursor.now) (letters_left c.region.new.cursor)
     c.in_ok-first.first c.givens_left-most_givens.ensures c.rows_left-most_rows.ensures c.in_ok-first.ensures) in
@@ -112,7 +115,7 @@ pub contain-requires-clause-few_rows : goal.contain-requires-clause-few_rows
 contain-requires-clause-few_rows c =
     let own = c.args.lines.now in
     let counted = region_limited own c.args.names.now (letters_left c.args.cursor.now) (letters_left c.region.new.cursor)
-    c.in_ok-first.first c.requires.space.few
+    c.in_ok-first.first c.requires.names.few
     (region_under c.givens_left-most_givens.result c.rows_left-most_rows.result (givens_left most_lines own)
     (rows_left most_lines own) c.args.names.now (letters_left c.args.cursor.now) (letters_left c.region.new.cursor)
     c.in_ok-first.first c.givens_left-most_givens.ensures c.rows_left-most_rows.ensures c.in_ok-first.ensures) in

@@ -1,5 +1,5 @@
 use Rattle.std.proofs.Common.{◌^◌, take, lit<}
-use Rattle.it_number.proofs.Shifts.{shift_is_power}
+use Rattle.it_space.proofs.SpaceLemmas.{shift_is_power}
 use Rattle.it_region.proofs.PairLemmas.{all_below}
 use Rattle.it_region.proofs.fitting.are_within.Goals as goal
 

@@ -1,6 +1,6 @@
 use Rattle.std.proofs.Common.{◌<◌, ◌≤◌, ◌+◌, ◌-◌, ◌^◌, ℕ, arith, sym, ap, ap₂, ◌∙◌, lit<}
 use Rattle.it_polymatroid.specs.Substitutions.{union_of_images}
-use Rattle.it_number.proofs.Shifts.{shift_is_power}
+use Rattle.it_space.proofs.SpaceLemmas.{shift_is_power}
 use Rattle.it_region.proofs.PullingLemmas.{coordinate_of_set, coordinate_above_sets, image_up_to}
 use Rattle.it_region.proofs.pulled_rows.pulled_coordinate.Goals as goal
 

@@ -1,5 +1,5 @@
 use Rattle.std.proofs.Common.{◌+◌, ◌<◌, ◌^◌, ℤ, ◌*ℤ◌, unsigned_abs, List, length, sym, subst, FitsSigned, to_z-of_z}
-use Rattle.it_demand.specs.Coefficients.{largest, IsFormAdded}
+use Rattle.it_demand.specs.Coefficients.{mass, IsFormAdded}
 use Rattle.it_demand.proofs.CoefficientLemmas.{room-fits, form_added}
 use Rattle.it_demand.proofs.coefficients.Coefficients.add.Goals as goal
 use mir.Syntax.{w128}
@@ -9,7 +9,7 @@ unreachable-requires c =
     let f : FitsSigned w128 c.args.times = c.ranges.times in
     let wide = simp to_z-of_z at c.in_default.ensures.wide in
     wide (room-fits c.self.inside.sums c.args.coordinate c.args.times (subst
-    (λ (xs : List ℤ). largest xs + unsigned_abs c.args.times < 2 ^ 127) (sym c.self.view_is) c.requires.room))
+    (λ (xs : List ℤ). mass xs + unsigned_abs c.args.times < 2 ^ 127) (sym c.self.view_is) c.requires.room))
 
 pub returns : goal.returns
 returns c =

@@ -1,6 +1,6 @@
 use Rattle.std.proofs.Common.{◌≡◌, ◌∙◌, ap, drop, List, ℤ}
 use Rattle.it_space.specs.Sums.{terms_from}
-use Rattle.it_demand.proofs.TermLemmas.{row_canonical, row-value, row_up_to, row_no_larger}
+use Rattle.it_demand.proofs.TermLemmas.{row_canonical, row-value, row_up_to, row-mass}
 use Rattle.it_demand.proofs.coefficients.Coefficients.into_row.Goals as goal
 
 terms_are : (c : goal.In_ok-terms) → c.in_ok-terms.field-0.items ≡ terms_from 1 (drop 1 c.args.self)
@@ -22,4 +22,4 @@ pub returns-clause-canonical : goal.returns-clause-canonical
 returns-clause-canonical c = row_canonical c.args.self c.new.result (terms_of c) c.requires.small
 
 pub returns-clause-bounded : goal.returns-clause-bounded
-returns-clause-bounded c = row_no_larger c.args.self c.new.result (terms_of c)
+returns-clause-bounded c = row-mass c.args.self c.new.result (terms_of c)
