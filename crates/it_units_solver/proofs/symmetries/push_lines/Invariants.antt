@@ -1,7 +1,0 @@
-use Rattle.std.proofs.Common.{◌≡◌, ◌+◌, All, length}
-use Rattle.it_space.specs.Rows.{IsOver}
-use Rattle.it_units_solver.proofs.symmetries.push_lines.Given as goal
-
-abbrev pub invariant-loop-coordinates : goal.invariant-loop-coordinates
-invariant-loop-coordinates l = All (λ c. IsOver l.size c.row) l.constraints.items
-    × (length l.constraints.items ≡ length l.initial.constraints.items + l.coordinates-index)
