@@ -1,53 +1,40 @@
 //! The linear program about a target, over closed sets.
+ghost use Rattle.std.specs.Prelude.{◌≤◌};
+ghost use Rattle.it_space.specs.Spaces.{most_variables};
 
 use crate::closures::{Closures, Companions, with, without};
+use crate::constraints::{push_constraints, put_right};
+use crate::costs::inequality_cost;
+use crate::covers::SetPair;
 use crate::places::Places;
-use crate::programs::{Column, Entry, Inequality, Program};
+use crate::programs::{Column, Inequality, Program};
 use crate::resuming::resumed;
 use crate::rows::InverseRow;
-use crate::running::{End, State};
+use crate::running::{ColumnWeight, End, State};
+use crate::summands::{Summand, SummandWeight, of_constraint};
 use it_closure::Dependences;
 use it_elemental::{Elemental, count, parts};
-use it_problems::{Constraint, Kind, Problem};
-use it_space::{Row, VarSet};
+use it_problems::Problem;
+use it_space::Row;
 use std::alloc::{AllocError, Global};
-
-/// The cost of the column of a constraint, and the number of which the costs of inequalities are multiples, both up to a few bits.
-const CONSTRAINT_COST: i64 = 256;
-
-const INEQUALITY_COST: i64 = 1024;
 
 /// A run from the start may make this many times the steps of a run from the basis of an earlier one.
 const STEPS_FOR_ONE: u32 = 4;
 
-/// A bound on the numbers of constraints and targets.
-const MOST: u128 = 1 << 15;
-
 /// The most places of a program. Its inverse has a row for each place, with a number at each place.
 const MOST_PLACES: usize = 1 << 13;
 
-/// Six bits by `number`, so that few columns have equal costs.
-fn mixed(number: usize) -> i64 {
-    let bits = (number as u64).wrapping_mul(0x9E37_79B9_7F4A_7C15) >> 58;
-    i64::from(bits as u8)
-}
-
-/// `number` in 32 bits; `None` if it is above `MOST` in absolute value.
-fn small(number: i128) -> Option<i32> {
-    if number.unsigned_abs() <= MOST {
-        i32::try_from(number).ok()
-    } else {
-        None
-    }
-}
+/// The most inequalities of a program: so many are elemental for ten variables.
+const MOST_INEQUALITIES: usize = 11_530;
 
 /// The column of an inequality over closed sets. `None` if it is 0, or that of another inequality: for I(X;Y|K) one set K for each
-/// closure is enough. The later the given set, the more the column costs: so costs differ much, and few columns have equal costs.
+/// closure is enough. `column` is its number among the columns.
 fn inequality(
     closures: &Closures,
     places: &Places,
     elemental: Elemental,
     generator: u32,
+    column: usize,
 ) -> Option<Inequality> {
     let (plus, other_plus, minus, other_minus, given) = match elemental {
         Elemental::Conditional { of } => {
@@ -73,36 +60,28 @@ fn inequality(
         other_plus,
         minus,
         other_minus,
-        cost: INEQUALITY_COST.wrapping_mul(i64::from(given.max(1))),
+        cost: inequality_cost(given, column),
         generator,
     })
 }
 
-/// The entries of `row` at its places. `None` if a number is large.
-fn entries(alloc: Global, places: &Places, row: &Row) -> Result<Option<Vec<Entry>>, AllocError> {
-    let mut entries = Vec::with_capacity(alloc, row.terms().len())?;
-    for (coordinate, number) in row.terms() {
-        let Some(number) = small(*number) else {
-            return Ok(None);
-        };
-        let place = places.of(*coordinate);
-        if place != 0 {
-            entries.push(Entry { place, number })?;
+/// The sets of an inequality over closed sets.
+fn pair(closures: &Closures, elemental: Elemental) -> SetPair {
+    match elemental {
+        Elemental::Conditional { of } => {
+            let full = closures.full();
+            SetPair {
+                left: full,
+                right: full,
+                below: closures.of(without(full, of)),
+            }
         }
+        Elemental::Mutual { left, right, given } => SetPair {
+            left: closures.of(with(given, left)),
+            right: closures.of(with(given, right)),
+            below: closures.of(given),
+        },
     }
-    Ok(Some(entries))
-}
-
-/// `entries`, negated.
-fn negated(alloc: Global, entries: &[Entry]) -> Result<Vec<Entry>, AllocError> {
-    let mut negated = Vec::with_capacity(alloc, entries.len())?;
-    for entry in entries {
-        negated.push(Entry {
-            place: entry.place,
-            number: entry.number.wrapping_neg(),
-        })?;
-    }
-    Ok(negated)
 }
 
 /// The linear program of a problem over closed sets, with the closures and their places.
@@ -118,7 +97,8 @@ pub struct ClosedProgram {
 }
 
 impl ClosedProgram {
-    /// The program with the columns of the inequalities alone. `None` if it would have more than `MOST_PLACES` places.
+    /// The program with the columns of the inequalities alone. `None` if it would have more than `MOST_PLACES` places or more than
+    /// `MOST_INEQUALITIES` inequalities.
     pub fn read(
         alloc: Global,
         dependences: &Dependences,
@@ -139,8 +119,11 @@ impl ClosedProgram {
             last: None,
             before: Vec::new(alloc),
         };
-        closed.push_inequalities(dependences)?;
-        Ok(Some(closed))
+        if closed.push_inequalities(dependences)? {
+            Ok(Some(closed))
+        } else {
+            Ok(None)
+        }
     }
 
     /// Whether the program is that of `companions`.
@@ -148,17 +131,63 @@ impl ClosedProgram {
         self.companions.are(companions)
     }
 
-    /// Appends the columns of the inequalities.
-    fn push_inequalities(&mut self, dependences: &Dependences) -> Result<(), AllocError> {
+    /// Appends the columns of the inequalities. `false` if there are more than `MOST_INEQUALITIES`.
+    fn push_inequalities(&mut self, dependences: &Dependences) -> Result<bool, AllocError> {
         let n = dependences.space().variables;
         for generator in 0..count(n) {
-            let column = inequality(&self.closures, &self.places, parts(n, generator), generator);
-            if let Some(mut column) = column {
-                column.cost = column.cost.wrapping_add(mixed(self.program.columns()));
-                self.program.inequalities.push(column)?;
+            let elemental = parts(n, generator);
+            let column = self.program.inequalities.len();
+            if let Some(inequality) = inequality(
+                &self.closures,
+                &self.places,
+                elemental,
+                generator,
+                column,
+            ) {
+                if column >= MOST_INEQUALITIES {
+                    return Ok(false);
+                }
+                self.program.inequalities.push(inequality)?;
             }
         }
-        Ok(())
+        Ok(true)
+    }
+
+    /// What column `column` stands for; `None` if there is no such column.
+    fn summand(&self, n: u8, column: usize) -> Option<Summand>
+        requires some { 1 ≤ n }
+        requires few { n ≤ most_variables }
+    {
+        match self.program.inequalities.get(column) {
+            Some(inequality) => {
+                if inequality.generator < count(n) {
+                    let elemental = parts(n, inequality.generator);
+                    Some(Summand::Pair(pair(&self.closures, elemental)))
+                } else {
+                    None
+                }
+            }
+            None => Some(of_constraint(self.program.other(column)?)),
+        }
+    }
+
+    /// The weights of what the columns of `weights` stand for, over `n` variables.
+    pub fn summands(
+        &self,
+        alloc: Global,
+        n: u8,
+        weights: &[ColumnWeight],
+    ) -> Result<Vec<SummandWeight>, AllocError>
+        requires some { 1 ≤ n }
+        requires few { n ≤ most_variables }
+    {
+        let mut summands = Vec::with_capacity(alloc, weights.len())?;
+        for weight in weights {
+            if let Some(summand) = self.summand(n, weight.column) {
+                summands.push(SummandWeight::new(summand, weight))?;
+            }
+        }
+        Ok(summands)
     }
 
     /// Replaces the columns of constraints by those of `problem`, and the right side by that of `target`. `false` if a number is large.
@@ -168,7 +197,8 @@ impl ClosedProgram {
         problem: &Problem,
         target: &Row,
     ) -> Result<bool, AllocError> {
-        let is_posed = self.put_constraints(alloc, problem)? && self.put_right(alloc, target)?;
+        let is_posed = self.put_constraints(alloc, problem)?
+            && put_right(alloc, &mut self.program, &self.places, target)?;
         if !is_posed {
             // no run has these columns
             self.last = None;
@@ -180,14 +210,7 @@ impl ClosedProgram {
     fn put_constraints(&mut self, alloc: Global, problem: &Problem) -> Result<bool, AllocError> {
         self.program.put_costs_back();
         self.before = std::mem::replace(&mut self.program.others, Vec::new(alloc));
-        let mut generator = count(problem.space().variables);
-        for constraint in problem.constraints() {
-            if !self.push_constraint(alloc, constraint, generator)? {
-                return Ok(false);
-            }
-            generator = generator.saturating_add(1);
-        }
-        Ok(true)
+        push_constraints(alloc, &mut self.program, &self.places, problem)
     }
 
     /// The end of a run about the target that was posed, from the start, within `steps` steps.
@@ -217,54 +240,5 @@ impl ClosedProgram {
             _ => Some(state.into_rows()),
         };
         Ok(end)
-    }
-
-    /// Replaces the right side by that of `target`. `false` if a number is large.
-    fn put_right(&mut self, alloc: Global, target: &Row) -> Result<bool, AllocError> {
-        let Some(entries) = entries(alloc, &self.places, target)? else {
-            return Ok(false);
-        };
-        self.program.right = Vec::from_elem(alloc, 0i32, self.places.width())?;
-        for entry in entries.as_slice() {
-            self.program.add_right(entry);
-        }
-        Ok(true)
-    }
-
-    /// Appends the column of `constraint`, and for an equation also the negated column. `false` if a number is large.
-    fn push_constraint(
-        &mut self,
-        alloc: Global,
-        constraint: &Constraint,
-        generator: u32,
-    ) -> Result<bool, AllocError> {
-        let Some(entries) = entries(alloc, &self.places, &constraint.row)? else {
-            return Ok(false);
-        };
-        if let Kind::Equation = constraint.kind {
-            let turned = negated(alloc, entries.as_slice())?;
-            self.push(entries, generator, false)?;
-            self.push(turned, generator, true)?;
-        } else {
-            self.push(entries, generator, false)?;
-        }
-        Ok(true)
-    }
-
-    /// Appends one column of a constraint.
-    fn push(
-        &mut self,
-        entries: Vec<Entry>,
-        generator: u32,
-        negated: bool,
-    ) -> Result<(), AllocError> {
-        let cost = CONSTRAINT_COST.wrapping_add(mixed(self.program.columns()));
-        self.program.others.push(Column {
-            entries,
-            cost,
-            generator,
-            negated,
-        })?;
-        Ok(())
     }
 }

@@ -123,6 +123,7 @@ fn closure(dependences: &Dependences, companions: &Companions, set: VarSet) -> V
 /// The closure of each set, by its number.
 #[derive(Drop)]
 pub struct Closures {
+    variables: u8,
     sets: Vec<VarSet>,
 }
 
@@ -133,13 +134,14 @@ impl Closures {
         dependences: &Dependences,
         companions: &Companions,
     ) -> Result<Closures, AllocError> {
-        let count = 1u32 << dependences.space().variables;
+        let variables = dependences.space().variables;
+        let count = 1u32 << variables;
         let mut sets = Vec::with_capacity(alloc, count as usize)?;
         for number in 0..count {
             let set = VarSet::from_number(number as u16);
             sets.push(closure(dependences, companions, set))?;
         }
-        Ok(Closures { sets })
+        Ok(Closures { variables, sets })
     }
 
     /// The closure of `set`.
@@ -150,6 +152,30 @@ impl Closures {
     /// Whether `set` is its own closure.
     pub fn is_closed(&self, set: VarSet) -> bool {
         self.of(set) == set
+    }
+
+    /// The number of variables.
+    pub fn variables(&self) -> u8 {
+        self.variables
+    }
+
+    /// The closure of each set, by its number.
+    pub fn sets(&self) -> &[VarSet] {
+        self.sets.as_slice()
+    }
+
+    /// The closed sets in order, the first of which is the closure of the empty set.
+    pub fn closed_sets(&self, alloc: Global) -> Result<Vec<VarSet>, AllocError> {
+        let mut closed = Vec::new(alloc);
+        for number in 0..self.sets.len() {
+            if let Ok(number) = u16::try_from(number) {
+                let set = VarSet::from_number(number);
+                if self.is_closed(set) {
+                    closed.push(set)?;
+                }
+            }
+        }
+        Ok(closed)
     }
 
     /// The number of sets.

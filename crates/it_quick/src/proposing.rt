@@ -10,7 +10,9 @@ use crate::closures::Companions;
 use crate::lifting::certificate;
 use crate::numbers::number_at;
 use crate::places::Places;
-use crate::running::{ColumnWeight, End};
+use crate::running::End;
+use crate::summands::SummandWeight;
+use crate::symmetric::{self, SymmetricEnd};
 use it_closure::Dependences;
 use it_problems::Problem;
 use it_space::{Certificate, Point, Row, RowFault, Space};
@@ -61,18 +63,17 @@ fn point(space: Space, values: Vec<i128>) -> Option<Proposal>
     }
 }
 
-/// The proposal by weights of columns; `None` if a number is too large.
+/// The proposal by weights of summands; `None` if a number is too large.
 fn by_weights(
     alloc: Global,
     problem: &Problem,
     dependences: &Dependences,
-    closed: &ClosedProgram,
     target: &Row,
-    weights: &[ColumnWeight],
+    weights: &[SummandWeight],
 ) -> Result<Option<Proposal>, AllocError>
     ensures { IfOk result (λ o. IfSome o (IsOfSpace problem.now.space)) }
 {
-    match certificate(alloc, problem, dependences, closed, target, weights) {
+    match certificate(alloc, problem, dependences, target, weights) {
         Ok(certificate) => Ok(Some(Proposal::Yes(certificate))),
         Err(RowFault::Wide) => Ok(None),
         Err(RowFault::Memory) => Err(AllocError),
@@ -105,14 +106,9 @@ fn by_end(
 {
     match end {
         End::Weights(weights) => {
-            by_weights(
-                alloc,
-                problem,
-                dependences,
-                closed,
-                target,
-                weights.as_slice(),
-            )
+            let n = problem.space().variables;
+            let summands = closed.summands(alloc, n, weights.as_slice())?;
+            by_weights(alloc, problem, dependences, target, summands.as_slice())
         }
         End::Point(values) => by_values(alloc, problem, &closed.places, values.as_slice()),
         End::GaveUp => Ok(None),
@@ -141,6 +137,27 @@ fn by_run(
     }
     let end = closed.run(alloc, steps)?;
     by_end(alloc, problem, dependences, closed, target, end)
+}
+
+/// The proposal of runs of at most `steps` steps each about `target`, over the orbits under the symmetries.
+fn by_symmetry(
+    alloc: Global,
+    problem: &Problem,
+    dependences: &Dependences,
+    target: &Row,
+    steps: u32,
+) -> Result<Option<Proposal>, AllocError>
+    ensures { IfOk result (λ o. IfSome o (IsOfSpace problem.now.space)) }
+{
+    match symmetric::run(alloc, problem, dependences, target, steps)? {
+        SymmetricEnd::Weights(weights) => {
+            by_weights(alloc, problem, dependences, target, weights.as_slice())
+        }
+        SymmetricEnd::Point(places, values) => {
+            by_values(alloc, problem, &places, values.as_slice())
+        }
+        SymmetricEnd::GaveUp => Ok(None),
+    }
 }
 
 /// A problem about whose targets runs are made. The program of one target is kept for the next, which may have the same.
@@ -173,10 +190,8 @@ impl QuickProblem {
         ClosedProgram::read(alloc, &self.dependences, companions)
     }
 
-    /// A certificate of `target` or a point that refutes it, proposed by a run of at most `steps` steps. A point has a value for each
-    /// coordinate; the contract says no more, so the caller has to check the proposal. If `problem` isn't the one that was read, the
-    /// dependences are still those of that one.
-    pub fn propose(
+    /// The proposal of a run about `target` by the program over closed sets; `None` if that is large.
+    fn by_closed_sets(
         &mut self,
         alloc: Global,
         problem: &Problem,
@@ -199,5 +214,24 @@ impl QuickProblem {
         )?;
         self.kept = Some(closed);
         Ok(proposal)
+    }
+
+    /// A certificate of `target` or a point that refutes it, proposed by a run of at most `steps` steps, or if this proposes nothing, by
+    /// two such runs that use the symmetries. A point has a value for each coordinate; the contract says no more, so the caller has to
+    /// check the proposal. If `problem` isn't the one that was read, the dependences are still those of that one.
+    pub fn propose(
+        &mut self,
+        alloc: Global,
+        problem: &Problem,
+        target: &Row,
+        steps: u32,
+    ) -> Result<Option<Proposal>, AllocError>
+        ensures { IfOk result (λ o. IfSome o (IsOfSpace problem.now.space)) }
+    {
+        let proposal = self.by_closed_sets(alloc, problem, target, steps)?;
+        if proposal.is_some() {
+            return Ok(proposal);
+        }
+        by_symmetry(alloc, problem, &self.dependences, target, steps)
     }
 }
