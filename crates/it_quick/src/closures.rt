@@ -120,6 +120,17 @@ fn closure(dependences: &Dependences, companions: &Companions, set: VarSet) -> V
     all
 }
 
+/// The sets that stand at their own numbers in `sets`, in order.
+pub fn own_sets(alloc: Global, sets: &[VarSet]) -> Result<Vec<VarSet>, AllocError> {
+    let mut own = Vec::new(alloc);
+    for number in 0..sets.len() {
+        if usize::from(sets[number].number()) == number {
+            own.push(sets[number])?;
+        }
+    }
+    Ok(own)
+}
+
 /// The closure of each set, by its number.
 #[derive(Drop)]
 pub struct Closures {
@@ -166,21 +177,7 @@ impl Closures {
 
     /// The closed sets in order, the first of which is the closure of the empty set.
     pub fn closed_sets(&self, alloc: Global) -> Result<Vec<VarSet>, AllocError> {
-        let mut closed = Vec::new(alloc);
-        for number in 0..self.sets.len() {
-            if let Ok(number) = u16::try_from(number) {
-                let set = VarSet::from_number(number);
-                if self.is_closed(set) {
-                    closed.push(set)?;
-                }
-            }
-        }
-        Ok(closed)
-    }
-
-    /// The number of sets.
-    pub fn count(&self) -> usize {
-        self.sets.len()
+        own_sets(alloc, self.sets())
     }
 
     /// The set of all variables: the closure of the last set.

@@ -10,16 +10,9 @@
 //! given set is larger. And if K has a second cover B, h(A) >= h(K) is the sum of the inequality of A and B and of h(J) >= h(B).
 
 use crate::closures::{Closures, with};
+use it_orbits::Submodular;
 use it_space::VarSet;
 use std::alloc::{AllocError, Global};
-
-/// Two sets, and a set `below` that lies in both.
-#[derive(Clone, Copy, Drop)]
-pub struct SetPair {
-    pub left: VarSet,
-    pub right: VarSet,
-    pub below: VarSet,
-}
 
 /// Whether `above` is a cover of the closed set `below`, and the closure of it with variable `first`, but with no variable before that.
 fn is_cover_by(closures: &Closures, below: VarSet, above: VarSet, first: u8) -> bool {
@@ -47,41 +40,40 @@ fn covers(alloc: Global, closures: &Closures, below: VarSet) -> Result<Vec<VarSe
     Ok(covers)
 }
 
-/// Appends each two of `covers`, the covers of `below`, or a single one twice.
+/// Appends the inequality of each two of `covers`, the covers of `given`, or of a single one with itself.
 fn push_pairs(
-    pairs: &mut Vec<SetPair>,
+    inequalities: &mut Vec<Submodular>,
     covers: &[VarSet],
-    below: VarSet,
+    given: VarSet,
 ) -> Result<(), AllocError> {
     // a single cover has no other
     let apart = usize::from(covers.len() != 1);
     for i in 0..covers.len() {
         for j in i + apart..covers.len() {
-            pairs.push(SetPair {
+            inequalities.push(Submodular {
                 left: covers[i],
                 right: covers[j],
-                below,
+                given,
             })?;
         }
     }
     Ok(())
 }
 
-/// The covers A and B and the set K of each of the inequalities, in order of K, which is one of `sets`. `None` if there are more than
-/// `most`.
-pub fn cover_pairs(
+/// The inequalities of the covers of each of `sets`, in their order. `None` if there are more than `most`.
+pub fn cover_inequalities(
     alloc: Global,
     closures: &Closures,
     sets: &[VarSet],
     most: usize,
-) -> Result<Option<Vec<SetPair>>, AllocError> {
-    let mut pairs = Vec::new(alloc);
-    for below in sets {
-        let covers = covers(alloc, closures, *below)?;
-        push_pairs(&mut pairs, covers.as_slice(), *below)?;
-        if pairs.len() > most {
+) -> Result<Option<Vec<Submodular>>, AllocError> {
+    let mut inequalities = Vec::new(alloc);
+    for given in sets {
+        let covers = covers(alloc, closures, *given)?;
+        push_pairs(&mut inequalities, covers.as_slice(), *given)?;
+        if inequalities.len() > most {
             return Ok(None);
         }
     }
-    Ok(Some(pairs))
+    Ok(Some(inequalities))
 }

@@ -1,18 +1,17 @@
 //! From weights of summands over closed sets to a certificate over all sets.
 //!
-//! The inequality of closed sets A and B and of C below them is I(A;B|A∩B) plus h(A∩B) - h(C): a sum of elemental inequalities over all
-//! sets.
+//! The inequality of closed sets A and B given C is I(A;B|A∩B) plus h(A∩B) - h(C): a sum of elemental inequalities over all sets.
 //! The excess that is left at a set is then moved to its closure by the dependences.
 ghost use Rattle.std.specs.Prelude.{◌≡◌, ◌<◌, ◌≤◌, ◌^◌, bit_and};
 ghost use Rattle.std.specs.Bool.{OnTrue};
 ghost use Rattle.it_space.specs.Spaces.{most_variables};
 
-use crate::covers::SetPair;
 use crate::numbers::at;
 use crate::summands::{Summand, SummandWeight};
 use it_closure::{Dependence, Dependences, first_open};
 use it_elemental::{count, expand_conditional, expand_mutual, generator_count, row};
 use it_fraction::Wide;
+use it_orbits::Submodular;
 use it_problems::Problem;
 use it_space::{Certificate, Row, RowFault, VarSet, with_product};
 use it_vectors::{common_divisor, short_product};
@@ -118,23 +117,22 @@ fn add_rise(
     Ok(())
 }
 
-/// Adds `amount` times h(left) + h(right) - h(left∪right) - h(below) to the weights.
-fn add_pair(
+/// Adds `amount` times h(left) + h(right) - h(left∪right) - h(given) to the weights.
+fn add_inequality(
     alloc: Global,
     weights: &mut Totals,
     n: u8,
-    pair: SetPair,
+    inequality: Submodular,
     amount: i128,
 ) -> Result<(), RowFault>
     requires some { 1 ≤ n }
     requires few { n ≤ most_variables }
 {
-    let both = pair.left.meet(pair.right);
-    let left = pair.left.minus(pair.right);
-    let right = pair.right.minus(pair.left);
-    let indexes = mutual(alloc, n, left, right, both)?;
+    let Submodular { left, right, given } = inequality;
+    let both = left.meet(right);
+    let indexes = mutual(alloc, n, left.minus(right), right.minus(left), both)?;
     weights.add_each(indexes.as_slice(), amount)?;
-    add_rise(alloc, weights, n, pair.below, both, amount)
+    add_rise(alloc, weights, n, given, both, amount)
 }
 
 /// Adds `amount` times a summand.
@@ -149,7 +147,7 @@ fn add_summand(
     requires few { n ≤ most_variables }
 {
     match summand {
-        Summand::Pair(pair) => add_pair(alloc, weights, n, pair, amount),
+        Summand::Inequality(inequality) => add_inequality(alloc, weights, n, inequality, amount),
         Summand::Constraint { generator, negated } => {
             let sign = if negated { -1 } else { 1 };
             weights.add(generator as usize, amount, sign)?;
@@ -170,12 +168,12 @@ fn add_turn(
     requires some { 1 ≤ n }
     requires few { n ≤ most_variables }
 {
-    let pair = SetPair {
+    let inequality = Submodular {
         left: by.to,
         right: set,
-        below: by.from,
+        given: by.from,
     };
-    add_pair(alloc, weights, n, pair, amount)?;
+    add_inequality(alloc, weights, n, inequality, amount)?;
     let sign = if by.negated { 1 } else { -1 };
     weights.add(by.generator as usize, amount, sign)?;
     Ok(())

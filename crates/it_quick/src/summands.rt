@@ -1,14 +1,14 @@
 //! What the weights of a run weigh.
 
-use crate::covers::SetPair;
 use crate::programs::Column;
 use crate::running::ColumnWeight;
+use it_orbits::Submodular;
 
 /// What a column stands for.
 #[derive(Clone, Copy)]
 pub enum Summand {
-    /// The inequality of a pair of closed sets and of a closed set below them.
-    Pair(SetPair),
+    /// An inequality over closed sets.
+    Inequality(Submodular),
     /// A constraint, by its number among the generators of the problem; or its negation.
     Constraint { generator: u32, negated: bool },
 }
