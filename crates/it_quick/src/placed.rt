@@ -50,7 +50,7 @@ impl PlacedProgram {
         let mut program = PlacedProgram::new(alloc, places)?;
         let mut met = IndexSet::new(alloc);
         for inequality in inequalities {
-            if met.insert(program.next(inequality).places())? {
+            if met.insert(program.next_column(inequality).places())? {
                 program.push(*inequality)?;
             }
         }
@@ -58,7 +58,7 @@ impl PlacedProgram {
     }
 
     /// The column of `inequality`, if it is the next one.
-    fn next(&self, inequality: &Submodular) -> Inequality {
+    fn next_column(&self, inequality: &Submodular) -> Inequality {
         let left = self.places.of_set(inequality.left);
         let right = self.places.of_set(inequality.right);
         let given = self.places.of_set(inequality.given);
@@ -73,7 +73,7 @@ impl PlacedProgram {
 
     /// Appends the column of `inequality`. The program must have no constraints yet.
     pub fn push(&mut self, inequality: Submodular) -> Result<(), AllocError> {
-        let column = self.next(&inequality);
+        let column = self.next_column(&inequality);
         self.program.inequalities.push(column)?;
         self.inequalities.push(inequality)?;
         Ok(())
