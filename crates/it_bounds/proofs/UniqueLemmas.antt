@@ -67,7 +67,8 @@ module _ (limits : Limits) (q : BodyView) (gone : List ℕ) (defined : HasSmallT
   one_bound (Bounded xs ws ps) Size (small, e, m) large = absurd (large small)
   one_bound (Bounded xs ws ps) Other a b = absurd b
   one_bound (Undecided cause) (Bounded ys vs qs) (small, e) (other_small, f, n) = absurd (not_undecided (region_rows ys) vs qs cause (one_end small _ _ f e))
-  one_bound (Undecided cause) (Undecided other) (small, e) (other_small, f) = ap (λ (z : CauseView). Undecided z) (same_cause cause other (one_end small _ _ e f))
+  one_bound (Undecided cause) (Undecided other) (small, e) (other_small, f) =
+      ap (λ (z : CauseView). Undecided z) (same_cause cause other (one_end small _ _ e f))
   one_bound (Undecided cause) Size (small, e) large = absurd (large small)
   one_bound (Undecided cause) Other a b = absurd b
   one_bound Size (Bounded ys vs qs) large (small, f, n) = absurd (large small)

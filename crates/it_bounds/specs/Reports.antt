@@ -74,5 +74,5 @@ IsToldReply q replies.Other = Unit {0}
 
 -- where the defined run alone is asked for, one reply with steps to a question of so few variables is right
 abbrev pub OneRightTold : Type 0
-OneRightTold = (report : Bool) (limits : Limits) (q : BodyView) (a b : ToldReply) → limits.effort.runs ≡ Defined → length q.names.variables ≤ most_variables_in_reach
-    → IsRightTold report limits q a → IsRightTold report limits q b → a ≡ b
+OneRightTold = (report : Bool) (limits : Limits) (q : BodyView) (a b : ToldReply) → limits.effort.runs ≡ Defined
+    → length q.names.variables ≤ most_variables_in_reach → IsRightTold report limits q a → IsRightTold report limits q b → a ≡ b

@@ -36,7 +36,10 @@ due_alone b plans q (Contain first second tries) a found proof h = absurd proof
 -- a right answer to a question about a relation finds no candidate, and rests on its steps alone
 pub right_alone : (b : Budgets) (plans : List Plan) (q : BodyView) (a : AnswerView) (found : List Candidate) → IsProof q.verb
     → IsRightAnswer b plans q (record { answer = a; found = found }) → IsRightProof b.effort q a
-right_alone b plans q a found proof right = record { shows = right.shows; due = due_alone (budgets_under (problem_of q) b) plans q q.verb a found proof right.due }
+right_alone b plans q a found proof right = record {
+  shows = right.shows;
+  due = due_alone (budgets_under (problem_of q) b) plans q q.verb a found proof right.due;
+}
 
 -- a right answer to a question about a relation can be written with any names
 writable_by : (b : Budgets) (plans : List Plan) (q : BodyView) (verb : VerbView) (v : NamesView) (a : AnswerView) (found : List Candidate)

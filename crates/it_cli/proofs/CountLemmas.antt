@@ -47,7 +47,8 @@ total_more c (Contained parts proofs) = omega arith
 total_more c (Open tried) = omega arith
 
 pub counting_more : (budgets : Budgets) (plans plans_now plans_next : List Plan) (qs : List QuestionView) (i : ℕ) (r : QuestionView) (counts : Counts) (answer : Answer)
-    → IsCounting budgets plans qs i counts plans_now → i < length qs → r ≡ get_or qs i r → IsAnswered (budgets_under (problem_of r.body) budgets) plans_now r answer plans_next
+    → IsCounting budgets plans qs i counts plans_now → i < length qs → r ≡ get_or qs i r
+    → IsAnswered (budgets_under (problem_of r.body) budgets) plans_now r answer plans_next
     → IsCounting budgets plans qs (i + 1) (with_answer counts (answer_view answer)) plans_next
 counting_more budgets plans plans_now plans_next qs i r counts answer c h e a = record {
   found = c.found ++ a.found;

@@ -262,7 +262,8 @@ module _ (q : BodyView) (posed : IsProblemOf q (problem_of q)) where
       → EndsWith (problem_of q) t effort (proof_views.Undecided c) → IsCauseFor q.names c
   cause_of_target effort few t c (inl e) = cause_by_end q.names (problem_of q) t c e.end
       (run_end_up_to (problem_of q) t effort.pivots e.end few e.run) e.follows
-  cause_of_target effort few t c (inr e) = subst (IsCauseFor q.names) (sym (quick_cause effort.runs (problem_of q) t c e)) (let l : 0 < 2 ^ 32 = omega arith in l)
+  cause_of_target effort few t c (inr e) =
+      subst (IsCauseFor q.names) (sym (quick_cause effort.runs (problem_of q) t c e)) (let l : 0 < 2 ^ 32 = omega arith in l)
 
   cause_due : (effort : Effort) → IfSome effort.pivots (λ n. n < 2 ^ 32) → (ts : List Terms) (c : Cause)
       → CauseIsDue (problem_of q) effort ts c → IsCauseFor q.names c

@@ -62,7 +62,8 @@ module _ (m : Mode) (d : IsDetermined m) where
   one_whole : (bytes out other : List ℕ) (s t : Status) → WholeOutput m bytes out s → WholeOutput m bytes other t → (out ≡ other) × (s ≡ t)
   one_whole bytes out other s t a b =
       let same = d.reading.one_reading bytes b.items a.items b.asked a.asked in
-      let both = one_text 1 a.items [] a.replies b.replies out other (d.one_reply bytes a.items a.asked) a.written (subst (λ (xs : List m.Item). Replies m xs b.replies other) same b.written) in
+      let both = one_text 1 a.items [] a.replies b.replies out other (d.one_reply bytes a.items a.asked) a.written
+      (subst (λ (xs : List m.Item). Replies m xs b.replies other) same b.written) in
       (both.0, a.is ∙ ap m.status both.1 ∙ sym b.is)
 
 -- ---- each mode has one reading of bytes
@@ -151,14 +152,14 @@ abbrev told_of : Reply → Option (List CertificateView) → ToldReply
 told_of reply origins = record { reply = reply; origins = origins }
 
 one_told : (format : Format) → format ≢ Derived → OneRightAnswer → (budgets : Budgets) → budgets.effort.runs ≡ Defined
-    → (plans : List Plan) (q : BodyView) (a b : ToldReply) → is_in_reach (problem_of q) ≡ true → IsRightTold format budgets plans q a → IsRightTold format budgets plans q b
-    → a ≡ b
+    → (plans : List Plan) (q : BodyView) (a b : ToldReply) → is_in_reach (problem_of q) ≡ true
+    → IsRightTold format budgets plans q a → IsRightTold format budgets plans q b → a ≡ b
 one_told format other one_answer budgets defined plans q a b reach f g =
     ap₂ told_of (one_answer budgets plans q a.reply b.reply defined reach f.reply g.reply)
     (none_told format other q a.reply.answer a.origins f.origins ∙ sym (none_told format other q b.reply.answer b.origins g.origins))
 
-one_line : OneRightAnswer → FileIsOne → FileIsInReach → (budgets : Budgets) → budgets.effort.runs ≡ Defined → (plans : List Plan) (seed count : ℕ) (line other : List ℕ)
-    → IsBenchLine budgets plans seed count line → IsBenchLine budgets plans seed count other → line ≡ other
+one_line : OneRightAnswer → FileIsOne → FileIsInReach → (budgets : Budgets) → budgets.effort.runs ≡ Defined
+    → (plans : List Plan) (seed count : ℕ) (line other : List ℕ) → IsBenchLine budgets plans seed count line → IsBenchLine budgets plans seed count other → line ≡ other
 one_line one_answer one_file reach budgets defined plans seed count line other a b =
     let same = one_file (generated_file seed count) a.questions b.questions a.asked b.asked in
     let moved : AreCounted budgets plans [] no_counts b.questions a.counts = subst
@@ -182,8 +183,8 @@ module _ (one : CopiesAreOne) where
 abbrev IsReached : CopyQuestion → Type 0
 IsReached x = (is_in_reach (problem_of x.question.body) ≡ true) × ((e : BodyView) → IsExtension x.question.body x.copies e → is_in_reach (problem_of e) ≡ true)
 
-asked_in_reach : (q e : BodyView) (cs : List CopyView) → is_in_reach (problem_of q) ≡ true → ((d : BodyView) → IsExtension q cs d → is_in_reach (problem_of d) ≡ true)
-    → IsAskedWith q cs e → is_in_reach (problem_of e) ≡ true
+asked_in_reach : (q e : BodyView) (cs : List CopyView) → is_in_reach (problem_of q) ≡ true
+    → ((d : BodyView) → IsExtension q cs d → is_in_reach (problem_of d) ≡ true) → IsAskedWith q cs e → is_in_reach (problem_of e) ≡ true
 asked_in_reach q e [] own extended is = subst (λ (d : BodyView). is_in_reach (problem_of d) ≡ true) (sym is) own
 asked_in_reach q e (c ∷ cs) own extended is = extended e is
 
@@ -194,7 +195,8 @@ module _ (one_factor : OneRightReply) (effort : Effort) (defined : effort.runs �
   one_best one x (Extended e a) (Misfit f) reach (asked, right) misfit = absurd (asked_or_misfit one x e x.copies f refl asked misfit)
   one_best one x (Extended d a) (Extended e b) reach (asked, right) (other, is_right) =
       let same : e ≡ d = asked_is_one one x.question.body e d x.copies other asked in
-      ap₂ Extended (sym same) (one_factor effort d a b defined (asked_in_reach x.question.body d x.copies reach.0 reach.1 asked) right (subst (λ (q : BodyView). IsRightReply effort q b) same is_right))
+      ap₂ Extended (sym same) (one_factor effort d a b defined (asked_in_reach x.question.body d x.copies reach.0 reach.1 asked) right
+      (subst (λ (q : BodyView). IsRightReply effort q b) same is_right))
 
 module _ (one_answer : OneRightAnswer) (effort : Effort) (defined : effort.runs ≡ Defined) where
   -- a question about a relation has one right answer
@@ -211,7 +213,8 @@ module _ (one_answer : OneRightAnswer) (effort : Effort) (defined : effort.runs 
       ap₂ Extended (sym same) (same_proof d a b (reach.1 d extension) right (subst (λ (q : BodyView). IsRightProof effort q b) same is_right))
 
   one_sharing : OneRightReply → (x : SharingView) (a b : SharingReply)
-      → (minimal_count x + maximal_count x ≤ most_lines → is_in_reach (problem_of (made_question x).body) ≡ true) → IsRightSharing effort x a → IsRightSharing effort x b → a ≡ b
+      → (minimal_count x + maximal_count x ≤ most_lines → is_in_reach (problem_of (made_question x).body) ≡ true)
+      → IsRightSharing effort x a → IsRightSharing effort x b → a ≡ b
   one_sharing one_factor x Many Many reach f g = refl
   one_sharing one_factor x Many (Answered b) reach f (few, asked, right) = absurd (omega (arith, f, few))
   one_sharing one_factor x Many (Factored b) reach f (few, asked, right) = absurd (omega (arith, f, few))

@@ -1,5 +1,5 @@
 -- The defined run about the questions of a file with a head, and about the one that is made of a sharing file, is in reach.
-use Rattle.std.proofs.Common.{◌≡◌, ◌+◌, ◌≤◌, ℕ, List, [], length, drop, get_or, All, Bool, true, false, cond, Some, None, Ok, Err, nat_lt, refl, sym, subst, ap, arith}
+use Rattle.std.proofs.Common.{◌≡◌, ◌≤◌, ℕ, List, [], length, drop, get_or, All, Bool, true, false, cond, Some, None, Ok, Err, nat_lt, refl, sym, subst, arith}
 use Rattle.std.proofs.lemmas.Bool.Decides.{nat_tests}
 use Rattle.it_forms.specs.FormReading.{read}
 use Rattle.it_forms.specs.Letters.{Letter}
@@ -90,7 +90,8 @@ small_where_no_flag v own e = by_test (nat_lt most_entries (table_size (problem_
 made_is_small : (x : SharingView) → IsSharing x → IsQuestion (made_question x).body → HasSmallTable (made_question x).body
 unfolding made_question
 made_is_small x h k = small_where_no_flag (made_question x).body.names (made_question x).body.lines
-    (few_variables (made_question x).body.names (made_question x).body.lines (omega (arith, h.few)) k.few_rates k.lines.givens k.lines.few_givens k.lines.few_rows)
+    (few_variables (made_question x).body.names (made_question x).body.lines (omega (arith, h.few)) k.few_rates
+    k.lines.givens k.lines.few_givens k.lines.few_rows)
 
 pub sharing_is_in_reach : SharingIsInReach
 sharing_is_in_reach bytes x file few =

@@ -123,10 +123,7 @@ fn quick_end(
         Runs::QuickFirst => quick_factor(alloc, problem, left, right),
         Runs::QuickAlone => match quick_factor(alloc, problem, left, right)? {
             Some(found) => Ok(Some(found)),
-            None => Ok(Some(Best::Undecided(BestCause::Pivots {
-                steps: 0,
-                part: 1,
-            }))),
+            None => Ok(Some(Best::Undecided(BestCause::Pivots { steps: 0, part: 1 }))),
         },
     }
 }
