@@ -26,7 +26,6 @@ use std::alloc::{AllocError, Global};
 
 /// A right answer to a question, within the budgets; where the defined run about the question's problem is out of reach, by quick runs
 /// alone. The boxes propose what a containment tries after its `try` lines, and learn of the candidate that it finds, for later questions.
-#[tactic(auto, using(crate::proofs::AnswerLemmas::answered_under))]
 pub fn answer(
     alloc: Global,
     question: &Question,

@@ -28,7 +28,6 @@ use std::alloc::{AllocError, Global};
 /// bound, and `Other` to each other verb. The listed rates are eliminated, and all entropies with them; the other rates stay. The limits
 /// are those of the search: the most rows after one more ray, at most 65,535; the most rays; and the effort for each run, which is a
 /// quick one alone where the defined run about that problem is out of reach.
-#[tactic(auto, using(crate::proofs::RightLemmas::right_under))]
 pub fn reply(
     alloc: Global,
     question: &Question,

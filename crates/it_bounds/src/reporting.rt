@@ -96,7 +96,6 @@ fn told_steps(
 }
 
 /// The steps that make the hull of rays, with the limits for the question.
-#[tactic(auto, using(crate::proofs::FrameLemmas::made_under))]
 fn steps_for(
     alloc: Global,
     limits: Limits,

@@ -30,7 +30,6 @@ use std::alloc::{AllocError, Global};
 /// The right reply to a question, and the question's problem: to `prove E >= F` what is found of its factors, and `Other` to each
 /// other verb or sign. The effort's steps are the most of each of the three runs; without them each goes on to its end. Where these
 /// runs about the question's problem are out of reach, quick runs are made alone.
-#[tactic(auto, using(crate::proofs::RightLemmas::right_under))]
 pub fn reply(
     alloc: Global,
     question: &Question,
