@@ -4,6 +4,8 @@
 #[cfg(test)]
 mod draws;
 #[cfg(test)]
+mod efforts;
+#[cfg(test)]
 mod fixtures;
 #[cfg(test)]
 mod heads;
