@@ -12,6 +12,7 @@ use Rattle.it_forms.proofs.FormParts.{Always, Fact, always_weaker}
 use Rattle.it_syntax.specs.NamesViews.{NamesView}
 use Rattle.it_question.specs.Lines.{split_lines, letters_of_lines}
 use Rattle.it_question.specs.QuestionForms.{file}
+use Rattle.it_question.specs.QuestionLimits.{usual}
 use Rattle.it_question.specs.Questions.{BodyView, QuestionView}
 use Rattle.it_question.proofs.NumberLemmas.{AreSmall, GivenHasSmallNumbers, HasSmallNumbers, QuestionHasSmallNumbers, file_has_small_numbers, file_small, front_small, lines_small, relation_line_small, rest_small, sum_small, texts_apart}
 use Rattle.it_question.proofs.WholeFileLemmas.{said}
@@ -47,8 +48,8 @@ use Rattle.it_certificate.specs.Sources.{IsSourceOf, Source, Text, Copies, Shari
 
 copy_file_small : Always copy_file (λ p y. AreSmall p → Every QuestionHasSmallNumbers y.1)
 unfolding copy_file Always
-copy_file_small = always_any (more_copies []) _ (λ p copies. always_weaker file _ _
-    (λ q ys h small. h (front_small q [] (rest_small p (q ++ []) small))) file_small)
+copy_file_small = always_any (more_copies []) _ (λ p copies. always_weaker (file usual) _ _
+    (λ q ys h small. h (front_small q [] (rest_small p (q ++ []) small))) (file_small usual))
 
 pub copied_questions_have_small_numbers : (bytes : List ℕ) (copies : List CopyView) (qs : List QuestionView) → IsCopyFile bytes copies qs
     → Every (λ (q : QuestionView). QuestionHasSmallNumbers q.body) qs

@@ -10,6 +10,7 @@ use Rattle.it_question.specs.LineTexts.{without_leading, unless_blank, without_t
 use Rattle.it_question.specs.Texts.{question_line_count, with_texts}
 use Rattle.it_question.proofs.FileLineLemmas.{return_shorter, comment_shorter}
 use Rattle.it_question.specs.QuestionForms.{file}
+use Rattle.it_question.specs.QuestionLimits.{usual}
 use Rattle.it_question.specs.Questions.{BodyView, QuestionView}
 use Rattle.it_question.proofs.LineParts.{AreWhole, lines_sound, texts_of}
 use Rattle.it_question.proofs.QuestionParts.{AreAt, questions_at}
@@ -92,7 +93,7 @@ taken_given (suc i) (l ∷ lines) = let k = taken_given i lines in omega (arith,
 abbrev IsShortBy : ℕ → QuestionView → Type 0
 IsShortBy most q = length q.text ≤ most
 
-all_short : (most : ℕ) (lines : List LineView) (qs : List BodyView) → AreAt lines qs → given_all lines ≤ most → All (IsShortBy most) (with_texts lines qs)
+all_short : (most : ℕ) (lines : List LineView) (qs : List BodyView) → AreAt usual lines qs → given_all lines ≤ most → All (IsShortBy most) (with_texts lines qs)
 all_short most lines [] at h = All-nil (IsShortBy most)
 all_short most lines (x ∷ xs) at h =
     let i = question_line_count x in
@@ -106,5 +107,5 @@ pub texts_are_short : (bytes : List ℕ) (qs : List QuestionView) → IsFile byt
 texts_are_short bytes qs asked =
     let a = lines_short 1 (split_lines bytes) asked.lines asked.cut in
     let b = split_length bytes in
-    let at = questions_at asked.lines asked.tree.0 (lines_sound 1 (split_lines bytes) asked.lines asked.cut) (said file with_texts bytes qs asked) in
+    let at = questions_at usual asked.lines asked.tree.0 (lines_sound 1 (split_lines bytes) asked.lines asked.cut) (said (file usual) with_texts bytes qs asked) in
     subst (All (IsShortBy (length bytes + 1))) asked.says (all_short (length bytes + 1) asked.lines asked.tree.0 at (omega (arith, a, b)))

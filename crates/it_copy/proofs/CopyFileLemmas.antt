@@ -13,11 +13,12 @@ use Rattle.it_question.specs.Bodies.{body_view}
 use Rattle.it_question.specs.Limits.{IsQuestion}
 use Rattle.it_question.specs.Lines.{LineView, AreLinesOf, letters_of_lines}
 use Rattle.it_question.specs.QuestionForms.{file}
+use Rattle.it_question.specs.QuestionLimits.{usual}
 use Rattle.it_question.specs.Questions.{BodyView, QuestionView}
 use Rattle.it_question.specs.Texts.{with_texts}
 use Rattle.it_question.proofs.FileLemmas.{file_ends}
 use Rattle.it_question.proofs.FileReadings.{body_again, from_map}
-use Rattle.it_question.proofs.LimitLemmas.{IsRead, file_limited}
+use Rattle.it_question.proofs.LimitLemmas.{IsRead, file_limited, within_any}
 use Rattle.it_question.proofs.Puts.{puts_at, lines_then, line_puts}
 use Rattle.it_question.proofs.QuestionLines.{Grows, turns_grow}
 use Rattle.it_question.proofs.WholeFileLemmas.{EndsFile, form_is_one, form_has_one, read_says, whole_fault_is_one, whole_or_fault}
@@ -45,7 +46,7 @@ pub copy_file_ends : EndsFile copy_file
 unfolding copy_file Spells
 copy_file_ends y m s =
     let head = copies_lines [] s.0 m s.1 s.2 in
-    let questions = file_ends s.3.0 s.1 (subst (Spells file s.3.0 s.1) s.3.3.1 s.3.2) in
+    let questions = file_ends usual s.3.0 s.1 (subst (Spells (file usual) s.3.0 s.1) s.3.3.1 s.3.2) in
     (head.lines + questions.0, lines_then head.lines questions.0 head.puts questions.1)
 
 -- ---- one reading or one first fault
@@ -77,9 +78,10 @@ copy_file_read bytes lines copies ys r qs cut e are = subst (IsCopyFile bytes co
 -- ---- the limits of questions
 
 -- questions that are read keep the limits
-pub bodies_keep_limits : (bodies : List Body) (ls r : List Letter) → read file ls ≡ Ok (map body_view bodies, r) → All (λ b. IsQuestion (body_view b)) bodies
+pub bodies_keep_limits : (bodies : List Body) (ls r : List Letter) → read (file usual) ls ≡ Ok (map body_view bodies, r) → All (λ b. IsQuestion (body_view b)) bodies
 bodies_keep_limits bodies ls r e = from_map IsQuestion body_view bodies
-    (All-weaker IsRead IsQuestion (λ q h. h.limits) (map body_view bodies) (file_limited ls r (map body_view bodies) e))
+    (All-weaker (IsRead usual) IsQuestion (λ q h. within_any usual q (omega arith) h.limits) (map body_view bodies)
+    (file_limited usual ls r (map body_view bodies) e))
 
 -- with their texts too
 pub texts_keep_limits : (lines : List LineView) (ys : List BodyView) → All IsQuestion ys → All (λ (q : QuestionView). IsQuestion q.body) (with_texts lines ys)

@@ -15,7 +15,8 @@ use Rattle.it_syntax.specs.Givens.{GivenView, IsGivenOf, IsRelationOf}
 use Rattle.it_closure.specs.Closures.{is_inside}
 use Rattle.it_question.specs.Questions.{BodyView, VerbView, Prove, Eliminate, Contain}
 use Rattle.it_question.specs.Limits.{IsQuestion, IsVerbOver}
-use Rattle.it_question.specs.QuestionLimits.{most_lines, most_names}
+use Rattle.it_question.specs.QuestionLimits.{most_lines}
+use Rattle.it_space.specs.Spaces.{most_variables}
 use Rattle.it_number.specs.Gcd.{gcd, gcd_within, lcm}
 use Rattle.it_demand.proofs.LimitLemmas.{wider_given, wider_relation}
 use Rattle.it_copy.specs.CopyLines.{CopyView}
@@ -80,11 +81,11 @@ module _ (n a over : ℕ) (old : a < n) (inside : over < 2 ^ n) where
 -- what copies add to names that have room for them
 pub record AreAdded (v all : NamesView) (equations : List GivenView) : Type 0 where
   pub more : length v.variables ≤ length all.variables
-  pub few : length all.variables ≤ most_names
+  pub few : length all.variables ≤ most_variables
   pub rates : all.rates ≡ v.rates
   pub givens : All (IsGivenOf (length all.variables)) equations
 
-copies_are_added : (k : ℕ) (v : NamesView) (cs : List CopyView) → length v.variables ≤ most_names → first_unplaced k v cs ≡ None
+copies_are_added : (k : ℕ) (v : NamesView) (cs : List CopyView) → length v.variables ≤ most_variables → first_unplaced k v cs ≡ None
     → AreAdded v (with_copies v cs) (equations_of v cs)
 copies_are_added k v [] few e = record { more = omega arith; few = few; rates = refl; givens = All-nil (IsGivenOf (length v.variables)) }
 copies_are_added k v (c ∷ cs) few e =

@@ -1,5 +1,5 @@
 -- The questions of a file with a head are within the limits.
-use Rattle.std.proofs.Common.{◌≡◌, List, [], length, drop, All, Ok, Err, refl, subst}
+use Rattle.std.proofs.Common.{◌≡◌, List, [], length, drop, All, Ok, Err, refl, subst, arith}
 use Rattle.std.proofs.lemmas.List.Elements.{All-weaker}
 use Rattle.it_forms.specs.FormReading.{read}
 use Rattle.it_forms.specs.Letters.{Letter}
@@ -7,8 +7,9 @@ use Rattle.it_forms.specs.Reads.{Reads, ◌>>=◌}
 use Rattle.it_question.specs.Limits.{IsQuestion}
 use Rattle.it_question.specs.Lines.{letters_of_lines}
 use Rattle.it_question.specs.QuestionForms.{file}
+use Rattle.it_question.specs.QuestionLimits.{usual}
 use Rattle.it_question.specs.Questions.{BodyView, QuestionView}
-use Rattle.it_question.proofs.LimitLemmas.{IsRead, file_limited}
+use Rattle.it_question.proofs.LimitLemmas.{IsRead, file_limited, within_any}
 use Rattle.it_question.proofs.WholeFileLemmas.{asked_is_read}
 use Rattle.it_copy.specs.CopyForms.{more_copies, copy_file}
 use Rattle.it_copy.specs.CopyLines.{CopyView}
@@ -18,16 +19,16 @@ use Rattle.it_copy.proofs.CopyOutlines.{copy_file_has}
 
 -- the questions that were read keep the limits
 abbrev IfKept : Reads (List CopyView × List BodyView) → Type 0
-IfKept (Ok w) = All IsRead w.0.1
+IfKept (Ok w) = All (IsRead usual) w.0.1
 IfKept (Err e) = Unit {0}
 
-by_file : (cs : List CopyView) (x : Reads (List BodyView)) → ((z : List BodyView × List Letter) → x ≡ Ok z → All IsRead z.0)
+by_file : (cs : List CopyView) (x : Reads (List BodyView)) → ((z : List BodyView × List Letter) → x ≡ Ok z → All (IsRead usual) z.0)
     → IfKept (x >>= λ z. Ok ((cs, z.0), z.1))
 by_file cs (Ok z) h = h z refl
 by_file cs (Err e) h = tt
 
-by_head : (x : Reads (List CopyView)) → IfKept (x >>= λ a. read file a.1 >>= λ z. Ok ((a.0, z.0), z.1))
-by_head (Ok a) = by_file a.0 (read file a.1) (λ z e. file_limited a.1 z.1 z.0 e)
+by_head : (x : Reads (List CopyView)) → IfKept (x >>= λ a. read (file usual) a.1 >>= λ z. Ok ((a.0, z.0), z.1))
+by_head (Ok a) = by_file a.0 (read (file usual) a.1) (λ z e. file_limited usual a.1 z.1 z.0 e)
 by_head (Err e) = tt
 
 all_kept : (ls : List Letter) → IfKept (read copy_file ls)
@@ -39,4 +40,4 @@ copied_questions_are_within bytes copies qs s =
     let ys = s.tree.0.1 in
     let read_ys = subst IfKept (asked_is_read copy_file _ copy_file_has copies_with_questions bytes (copies, qs) s) (all_kept (letters_of_lines s.lines)) in
     subst (λ (w : List CopyView × List QuestionView). All (λ (q : QuestionView). IsQuestion q.body) w.1) s.says
-    (texts_keep_limits (drop (length s.tree.0.0) s.lines) ys (All-weaker IsRead IsQuestion (λ q h. h.limits) ys read_ys))
+    (texts_keep_limits (drop (length s.tree.0.0) s.lines) ys (All-weaker (IsRead usual) IsQuestion (λ q h. within_any usual q (omega arith) h.limits) ys read_ys))

@@ -5,6 +5,7 @@ use Rattle.it_forms.specs.declared.types.Symbol.TheVariants.{Comma}
 use Rattle.it_syntax.specs.MeasureWords.{is_measure}
 use Rattle.it_question.specs.NewNames.{new_flag}
 use Rattle.it_question.specs.QuestionForms.{file}
+use Rattle.it_question.specs.QuestionLimits.{usual}
 use Rattle.it_question.specs.Questions.{BodyView}
 use Rattle.it_copy.specs.CopyLines.{CopyView, most_copies, most_members}
 use Rattle.it_forms.specs.Forms.{Form, Give, Take, If}
@@ -44,5 +45,5 @@ more_copies cs = each_flagged (codes "copy") (λ cs. limit_flag (most_copies - l
 unfoldable pub copy_file : Form (List CopyView × List BodyView)
 copy_file = do
   copies ← more_copies []
-  questions ← file
+  questions ← file usual
   Give (copies, questions)

@@ -3,24 +3,38 @@ use Rattle.std.specs.Prelude.{◌≡◌, ℕ, List, [], ◌∷◌, ◌++◌, ◌
 use Rattle.it_forms.specs.declared.types.Code.{Code}
 use Rattle.it_forms.specs.Forms.{Spells}
 use Rattle.it_forms.specs.Letters.{Word, FlaggedLetters}
+use Rattle.it_question.specs.declared.sizes.Limits.{Limits}
 use Rattle.it_question.specs.declared.types.FileFault.{FileFault}
 use Rattle.it_question.specs.Lines.{file_end}
 use Rattle.it_question.specs.Questions.{BodyView, QuestionView}
 use Rattle.it_question.specs.QuestionForms.{question, file}
+use Rattle.it_question.specs.QuestionLimits.{usual}
 use Rattle.it_question.specs.Texts.{with_texts}
 use Rattle.it_question.specs.WholeForms.{SaysInForm, FormFaultAt, IsFirstFormFault}
 
+-- the bytes ask these questions, in a file with these limits
+abbrev pub IsFileWithin : Limits → List ℕ → List QuestionView → Type 0
+IsFileWithin limits bytes qs = SaysInForm (file limits) with_texts bytes qs
+
 -- the bytes ask these questions
 abbrev pub IsFile : List ℕ → List QuestionView → Type 0
-IsFile bytes qs = SaysInForm file with_texts bytes qs
+IsFile bytes qs = IsFileWithin usual bytes qs
+
+-- the first fault of these bytes, as a file with these limits, is `code`, at this line and column
+abbrev pub FileFaultWithin : Limits → List ℕ → ℕ → ℕ → Code → Type 0
+FileFaultWithin limits bytes line column code = FormFaultAt (file limits) bytes line column code
 
 -- the first fault of these bytes is `code`, at this line and column
 abbrev pub FileFaultAt : List ℕ → ℕ → ℕ → Code → Type 0
-FileFaultAt bytes line column code = FormFaultAt file bytes line column code
+FileFaultAt bytes line column code = FileFaultWithin usual bytes line column code
+
+-- of an error: memory ran out, or it is the first fault of a file with these limits
+abbrev pub IsFirstFaultWithin : Limits → List ℕ → FileFault → Type 0
+IsFirstFaultWithin limits bytes fault = IsFirstFormFault (file limits) bytes fault
 
 -- of an error: memory ran out, or it is the first fault
 abbrev pub IsFirstFileFault : List ℕ → FileFault → Type 0
-IsFirstFileFault bytes fault = IsFirstFormFault file bytes fault
+IsFirstFileFault bytes fault = IsFirstFaultWithin usual bytes fault
 
 -- a file has at most one reading
 abbrev pub FileIsOne : Type 0
@@ -44,5 +58,5 @@ TextReadsBack = (bytes : List ℕ) (qs rs : List QuestionView) (q : QuestionView
 
 -- What says a question says that question alone, between `vars` and the file's end.
 abbrev pub QuestionStandsAlone : Type 0
-QuestionStandsAlone = (q : BodyView) (m k : FlaggedLetters) → Spells question q m k
-    → (prefix : FlaggedLetters) × ((m ≡ prefix ++ k) × Spells file (q ∷ []) ((Word (codes "vars"), None) ∷ (prefix ++ (file_end, None) ∷ [])) [])
+QuestionStandsAlone = (q : BodyView) (m k : FlaggedLetters) → Spells (question usual) q m k
+    → (prefix : FlaggedLetters) × ((m ≡ prefix ++ k) × Spells (file usual) (q ∷ []) ((Word (codes "vars"), None) ∷ (prefix ++ (file_end, None) ∷ [])) [])

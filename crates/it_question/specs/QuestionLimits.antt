@@ -1,7 +1,10 @@
--- The most bytes, questions, names of variables, auxiliaries and lines. Of rates it is the most of a space.
-use Rattle.std.specs.Prelude.{ℕ, ◌-◌, min, length}
+-- The most bytes, questions, names of variables, auxiliaries and lines. Of rates it is the most of a space. How large the questions of a
+-- file may be is a value that the forms take.
+use Rattle.std.specs.Prelude.{ℕ, ◌-◌, min, length, Some, None}
 use Rattle.it_syntax.specs.NamesViews.{NamesView}
 use Rattle.it_question.specs.OwnLines.{OwnLinesView}
+use Rattle.it_question.specs.TableSizes.{most_entries}
+use Rattle.it_question.specs.declared.sizes.Limits.{Limits}
 
 -- the most bytes of a file
 abbrev pub most_file_bytes : ℕ
@@ -11,9 +14,17 @@ most_file_bytes = 1048576
 abbrev pub most_questions : ℕ
 most_questions = 1000
 
--- the most names of variables of a question, a region's auxiliaries among them
+-- the most names of variables of a question where nothing else is said, and of a containment in any file, a region's auxiliaries among them
 abbrev pub most_names : ℕ
 most_names = 10
+
+-- how large questions may be where nothing else is said
+abbrev pub usual : Limits
+usual = record { variables = most_names; entries = Some most_entries }
+
+-- questions may have n names of variables, and tables of any size
+abbrev pub wide : ℕ → Limits
+wide n = record { variables = n; entries = None }
 
 -- the most auxiliaries of a region
 abbrev pub most_auxiliaries : ℕ

@@ -1,17 +1,20 @@
 //! The questions of a file.
 ghost use Rattle.std.specs.Prelude.{◌≤◌, ◌^◌, length, map, All, IfOk, IfErr};
 ghost use Rattle.it_question.specs.Cursors.{line_view, letters_left};
-ghost use Rattle.it_question.specs.Files.{IsFile, IsFirstFileFault};
+ghost use Rattle.it_space.specs.Spaces.{most_variables};
+ghost use Rattle.it_question.specs.Files.{IsFile, IsFileWithin, IsFirstFaultWithin, IsFirstFileFault};
 ghost use Rattle.it_question.specs.WholeFiles.{place_of};
 ghost use Rattle.it_question.specs.Stops.{IsLeft, IfFault, IsFaultAt, IsStopAt};
-ghost use Rattle.it_question.specs.Limits.{IsQuestion};
+ghost use Rattle.it_question.specs.Limits.{IsQuestion, IsQuestionWithin};
+ghost use Rattle.it_question.specs.QuestionLimits.{usual};
 ghost use Rattle.it_question.specs.Lines.{letters_of_lines};
 ghost use Rattle.it_syntax.specs.Lines.{most_text_bytes};
 
-use crate::asking::bodies;
+use crate::asking::bodies_within;
 use crate::cursor::{Cursor, Line};
 use crate::lines::file_lines;
 use crate::places::{count, letters_left, place};
+use crate::sizes::Limits;
 use crate::texts::with_texts;
 use crate::types::{FileFault, Question};
 use it_syntax::rest::Stop;
@@ -55,11 +58,29 @@ pub fn questions(alloc: Global, bytes: &[u8]) -> Result<Vec<Question>, FileFault
     requires { length bytes.now ≤ most_text_bytes }
     ensures read { IfOk result (λ qs. IsFile bytes.now qs.items) }
     ensures limits { IfOk result (λ qs. All (λ q. IsQuestion q.body) qs.items) }
+    ensures usual { IfOk result (λ qs. All (λ q. IsQuestionWithin usual q.body) qs.items) }
     ensures fault { IfErr result (IsFirstFileFault bytes.now) }
+{
+    questions_within(alloc, bytes, Limits::usual())
+}
+
+/// The questions of a file whose questions have these limits, in order, and the faults: as `questions`, which has the usual
+/// limits. `Many` is at a name past `limits.variables`, and `Large` at the word of a verb whose question's table has more than
+/// `limits.entries` entries, and at the first `region` of a question of more than ten names.
+pub fn questions_within(
+    alloc: Global,
+    bytes: &[u8],
+    limits: Limits,
+) -> Result<Vec<Question>, FileFault>
+    requires short { length bytes.now ≤ most_text_bytes }
+    requires names { limits.variables ≤ most_variables }
+    ensures read { IfOk result (λ qs. IsFileWithin limits bytes.now qs.items) }
+    ensures limits { IfOk result (λ qs. All (λ q. IsQuestionWithin limits q.body) qs.items) }
+    ensures fault { IfErr result (IsFirstFaultWithin limits bytes.now) }
 {
     let lines = file_lines(alloc, bytes)?;
     let mut cursor = Cursor::at(lines.as_slice());
-    match bodies(alloc, &mut cursor) {
+    match bodies_within(alloc, &mut cursor, limits) {
         Ok(bodies) => {
             // named before it is answered, so that the contract of the call stands at the answer
             let questions = with_texts(alloc, lines, bodies)?;

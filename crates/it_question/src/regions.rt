@@ -8,13 +8,14 @@ ghost use Rattle.it_demand.specs.QuestionSpaces.{space_of};
 ghost use Rattle.it_question.specs.Limits.{AreLinesOver, IsRegionOf};
 ghost use Rattle.it_question.specs.QuestionForms as forms;
 ghost use Rattle.it_question.specs.NewNames.{Variable};
-ghost use Rattle.it_question.specs.QuestionLimits.{most_lines};
+ghost use Rattle.it_question.specs.QuestionLimits.{most_lines, most_names};
 ghost use Rattle.it_question.specs.ReaderSteps.{contain_line, most_of_region};
 ghost use Rattle.it_question.specs.Sorts.{AreQuestionNames};
 
 use crate::cursor::Cursor;
 use crate::names::names_line;
 use crate::own::{MOST_LINES, own_lines};
+use crate::sizes::{Limits, MOST_NAMES};
 use crate::sorts::NameSort;
 use crate::tables::containment_is_large;
 use crate::tries::{Regions, tries};
@@ -24,9 +25,6 @@ use it_syntax::Names;
 use it_syntax::rest::Stop;
 use it_syntax::types::Code;
 use std::alloc::Global;
-
-/// The most names of variables of a question, a region's auxiliaries among them.
-pub const MOST_NAMES: usize = 10;
 
 /// The most auxiliaries of a region.
 const MOST_AUXILIARIES: usize = 4;
@@ -95,17 +93,18 @@ fn contain(
     names: &Names,
     lines: &OwnLines,
     first: &Region,
+    limits: Limits,
 ) -> Result<(), Stop>
     requires space { IsSpace (space_of names.now) }
     requires lines { AreLinesOver names.now lines.now }
     requires region { IsRegionOf names.now first.now }
     requires few_givens { length lines.now.givens + length first.now.lines.givens ≤ most_lines }
     requires few_rows { length lines.now.rows + length first.now.lines.rows ≤ most_lines }
-    ensures { Parses result (contain_line lines.now first.now) cursor.old cursor.new }
+    ensures { Parses result (contain_line limits lines.now first.now) cursor.old cursor.new }
 {
     match after_word(*cursor, CONTAIN) {
         Some(after) => {
-            if containment_is_large(alloc, names, lines, first)? {
+            if containment_is_large(alloc, names, lines, first, limits)? {
                 return Err(Stop::Fault(Code::Large));
             }
             *cursor = after;
@@ -122,10 +121,11 @@ pub fn containment(
     cursor: &mut Cursor<'_>,
     names: &Names,
     lines: &OwnLines,
+    limits: Limits,
 ) -> Result<Verb, Stop>
-    requires names { AreQuestionNames names.now }
+    requires names { AreQuestionNames most_names names.now }
     requires lines { AreLinesOver names.now lines.now }
-    ensures { ParsesBy verb_view result (forms.containment lines.now names.now) cursor.old cursor.new }
+    ensures { ParsesBy verb_view result (forms.containment limits lines.now names.now) cursor.old cursor.new }
 {
     let most_givens = lines.givens_left(MOST_LINES);
     let most_rows = lines.rows_left(MOST_LINES);
@@ -140,7 +140,7 @@ pub fn containment(
         second: second.names(),
     };
     let tries = tries(alloc, cursor, regions, second.auxiliaries())?;
-    contain(alloc, cursor, names, lines, &first)?;
+    contain(alloc, cursor, names, lines, &first, limits)?;
     Ok(Verb::Contain {
         first,
         second,
