@@ -19,7 +19,7 @@ use Rattle.it_syntax.specs.NamesViews.{NamesView}
 use Rattle.it_syntax.specs.Spans.{letter_of, letters_until, last_letter}
 use Rattle.it_syntax.specs.Spelling.{is_word_byte, is_space, AreAll, IsText}
 use Rattle.it_syntax.proofs.RunLemmas.{value_digits}
-use Rattle.it_question.specs.declared.sizes.Limits.{Limits}
+use Rattle.it_question.specs.declared.sizes.FileLimits.{FileLimits}
 use Rattle.it_question.specs.AsciiTexts.{IsAsciiQuestion, TextsAreAscii}
 use Rattle.it_question.specs.Lines.{LineView, split_lines, file_end, line_letters, letters_of_lines}
 use Rattle.it_question.specs.NewNames.{NameSortView, Variable, Rate, with_name, no_names}
@@ -35,7 +35,6 @@ use Rattle.it_forms.proofs.LetterLemmas.{letters_append, letters_cleaned}
 use Rattle.it_question.specs.LineTexts.{without_leading, unless_blank, without_trailing, text_of_lines}
 use Rattle.it_question.specs.Texts.{question_line_count, with_texts}
 use Rattle.it_space.specs.Spaces.{most_rates}
-use Rattle.it_question.specs.QuestionLimits.{usual}
 
 -- ---- bytes of tokens
 
@@ -215,7 +214,7 @@ names_line_ascii sort most keyword v y m k (inr s) a h = subst AsciiNames s.0 a
 no_names_ascii : AsciiNames no_names
 no_names_ascii = record { variables = All-nil IsAscii; rates = All-nil IsAscii }
 
-names_ascii : (limits : Limits) (q : BodyView) (m k : FlaggedLetters) → Spells (question limits) q m k → AsciiWords (letters m) → AsciiNames q.names
+names_ascii : (limits : FileLimits) (q : BodyView) (m k : FlaggedLetters) → Spells (question limits) q m k → AsciiWords (letters m) → AsciiNames q.names
 unfolding question Spells
 names_ascii limits q m k s h =
     let first = new_names_ascii Variable limits.variables no_names s.0 m s.1 s.2 no_names_ascii h in
@@ -223,7 +222,7 @@ names_ascii limits q m k s h =
 
 -- ---- files
 
-all_questions : (limits : Limits) (lines : List LineView) (qs : List BodyView) → AreAt limits lines qs → All IsAsciiQuestion (with_texts lines qs)
+all_questions : (limits : FileLimits) (lines : List LineView) (qs : List BodyView) → AreAt limits lines qs → All IsAsciiQuestion (with_texts lines qs)
 all_questions limits lines [] a = All-nil IsAsciiQuestion
 all_questions limits lines (b ∷ qs) a =
     let i = question_line_count b in
@@ -238,6 +237,6 @@ all_questions limits lines (b ∷ qs) a =
     All-cons IsAsciiQuestion q (with_texts (drop i lines) qs) first (all_questions limits (drop i lines) qs a.1)
 
 pub texts_are_ascii : TextsAreAscii
-texts_are_ascii bytes qs asked = subst (All IsAsciiQuestion) asked.says
-    (all_questions usual asked.lines asked.tree.0 (questions_at usual asked.lines asked.tree.0 (lines_sound 1 (split_lines bytes) asked.lines asked.cut)
-    (said (file usual) with_texts bytes qs asked)))
+texts_are_ascii limits bytes qs asked = subst (All IsAsciiQuestion) asked.says
+    (all_questions limits asked.lines asked.tree.0 (questions_at limits asked.lines asked.tree.0 (lines_sound 1 (split_lines bytes) asked.lines asked.cut)
+    (said (file limits) with_texts bytes qs asked)))

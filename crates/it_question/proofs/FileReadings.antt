@@ -3,7 +3,7 @@ use Rattle.std.proofs.Common.{◌≡◌, ℕ, List, [], ◌∷◌, drop, map, Al
 use Rattle.std.proofs.lemmas.List.Elements.{All-cons, All-head, All-tail, All-weaker}
 use Rattle.it_forms.specs.FormReading.{read}
 use Rattle.it_forms.specs.Letters.{Letter}
-use Rattle.it_question.specs.declared.sizes.Limits.{Limits}
+use Rattle.it_question.specs.declared.sizes.FileLimits.{FileLimits}
 use Rattle.it_question.specs.declared.bodies.Body.{Body}
 use Rattle.it_question.specs.Bodies.{body_view}
 use Rattle.it_question.specs.Files.{IsFile, IsFileWithin}
@@ -21,7 +21,7 @@ use Rattle.it_question.proofs.QuestionOutlines.{file_has}
 use Rattle.it_question.proofs.WholeFileLemmas.{asked_is_read, read_says}
 
 -- a file whose letters were read
-pub file_read : (limits : Limits) (bytes : List ℕ) (lines : List LineView) (ys : List BodyView) (r : List Letter) (qs : List QuestionView)
+pub file_read : (limits : FileLimits) (bytes : List ℕ) (lines : List LineView) (ys : List BodyView) (r : List Letter) (qs : List QuestionView)
     → AreLinesOf bytes lines → read (file limits) (letters_of_lines lines) ≡ Ok (ys, r) → qs ≡ with_texts lines ys → IsFileWithin limits bytes qs
 file_read limits bytes lines ys r qs cut e are = subst (IsFileWithin limits bytes) (sym are)
     (read_says (file limits) _ (file_has limits) (file_ends limits) with_texts bytes lines ys r cut e)
@@ -36,15 +36,15 @@ pub from_map : {X Y : Type 0} (P : Y → Type 0) (f : X → Y) (xs : List X) →
 from_map P f [] h = λ k d lt. absurd (omega (arith, lt))
 from_map P f (x ∷ xs) h = All-cons (λ y. P (f y)) x xs (All-head P (f x) (map f xs) h) (from_map P f xs (All-tail P (f x) (map f xs) h))
 
-all_limited : (limits : Limits) (ls r : List Letter) (ys : List BodyView) → read (file limits) ls ≡ Ok (ys, r) → All (IsQuestionWithin limits) ys
+all_limited : (limits : FileLimits) (ls r : List Letter) (ys : List BodyView) → read (file limits) ls ≡ Ok (ys, r) → All (IsQuestionWithin limits) ys
 all_limited limits ls r ys e = All-weaker (IsRead limits) (IsQuestionWithin limits) (λ q h. h.limits) ys (file_limited limits ls r ys e)
 
-pub bodies_limited : (limits : Limits) (bodies : List Body) (lines : List LineView) (r : List Letter) → limits.variables ≤ most_variables
+pub bodies_limited : (limits : FileLimits) (bodies : List Body) (lines : List LineView) (r : List Letter) → limits.variables ≤ most_variables
     → read (file limits) (letters_of_lines lines) ≡ Ok (map body_view bodies, r) → All (λ b. IsQuestion (body_view b)) bodies
 bodies_limited limits bodies lines r few e = from_map IsQuestion body_view bodies (All-weaker (IsQuestionWithin limits) IsQuestion
     (λ q h. within_any limits q few h) (map body_view bodies) (all_limited limits (letters_of_lines lines) r (map body_view bodies) e))
 
-pub questions_limited : (limits : Limits) (qs : List QuestionView) (lines : List LineView) (ys : List BodyView) (r : List Letter)
+pub questions_limited : (limits : FileLimits) (qs : List QuestionView) (lines : List LineView) (ys : List BodyView) (r : List Letter)
     → read (file limits) (letters_of_lines lines) ≡ Ok (ys, r) → qs ≡ with_texts lines ys
     → All (λ q. IsQuestionWithin limits q.body) qs
 questions_limited limits qs lines ys r e are =
@@ -53,7 +53,7 @@ questions_limited limits qs lines ys r e are =
     (all_limited limits (letters_of_lines lines) r ys e))
 
 -- the questions of a file with these limits are read
-file_is_read : (limits : Limits) (bytes : List ℕ) (qs : List QuestionView) → IsFileWithin limits bytes qs
+file_is_read : (limits : FileLimits) (bytes : List ℕ) (qs : List QuestionView) → IsFileWithin limits bytes qs
     → All (λ (q : QuestionView). IsRead limits q.body) qs
 file_is_read limits bytes qs asked =
     from_map (IsRead limits) (λ (q : QuestionView). q.body) qs (subst (All (IsRead limits))
@@ -61,18 +61,13 @@ file_is_read limits bytes qs asked =
     (file_limited limits (letters_of_lines asked.lines) [] asked.tree.0
     (asked_is_read (file limits) _ (file_has limits) with_texts bytes qs asked)))
 
--- questions that keep the usual limits are those of a file
-pub usual_questions : (qs : List QuestionView) → All (λ (q : QuestionView). IsQuestionWithin usual q.body) qs
-    → All (λ (q : QuestionView). IsQuestion q.body) qs
-usual_questions qs h = All-weaker (λ (q : QuestionView). IsQuestionWithin usual q.body) (λ (q : QuestionView). IsQuestion q.body)
-    (λ q k. within_any usual q.body (omega arith) k) qs h
+-- so they keep the limits of a question
+pub file_limits : (limits : FileLimits) (bytes : List ℕ) (qs : List QuestionView) → limits.variables ≤ most_variables
+    → IsFileWithin limits bytes qs → All (λ (q : QuestionView). IsQuestion q.body) qs
+file_limits limits bytes qs few asked = All-weaker (λ (q : QuestionView). IsRead limits q.body) (λ (q : QuestionView). IsQuestion q.body)
+    (λ q h. within_any limits q.body few h.limits) qs (file_is_read limits bytes qs asked)
 
--- so they keep the limits
-pub file_limits : (bytes : List ℕ) (qs : List QuestionView) → IsFile bytes qs → All (λ (q : QuestionView). IsQuestion q.body) qs
-file_limits bytes qs asked = usual_questions qs (All-weaker (λ (q : QuestionView). IsRead usual q.body)
-    (λ (q : QuestionView). IsQuestionWithin usual q.body) (λ q h. h.limits) qs (file_is_read usual bytes qs asked))
-
--- and their tables aren't too large
+-- and in a usual file their tables aren't too large
 pub file_has_small_tables : (bytes : List ℕ) (qs : List QuestionView) → IsFile bytes qs → All (λ (q : QuestionView). HasSmallTable q.body) qs
 file_has_small_tables bytes qs asked = All-weaker (λ (q : QuestionView). IsRead usual q.body) (λ (q : QuestionView). HasSmallTable q.body)
     (λ q h. h.small) qs (file_is_read usual bytes qs asked)

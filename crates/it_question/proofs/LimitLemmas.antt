@@ -1,9 +1,10 @@
 -- The questions that are read keep the limits, and their tables aren't too large.
 use Rattle.std.proofs.Common.{◌≡◌, ℕ, zero, suc, ◌+◌, ◌-◌, ◌≤◌, ◌<◌, ◌^◌, Bool, true, false, cond, nat_lt, List, [], ◌∷◌, ◌++◌, length, Option, None, Some, Ok, refl, ap, ◌∙◌, arith, length-append}
-use Rattle.std.specs.Option.{option_map_or}
-use Rattle.std.specs.Prelude.{All, IfSome, ◌||◌, eqb, ◌==◌, bytes_eq, codes, unwrap_or, is_some, if◌then◌else◌}
+use Rattle.std.specs.Bool.{OnFalse}
+use Rattle.std.specs.Prelude.{All, ◌||◌, eqb, ◌==◌, bytes_eq, codes, unwrap_or, is_some, if◌then◌else◌}
 use Rattle.std.specs.List.{IsDistinct, AllByRecursion, list_any, list_all}
 use Rattle.std.proofs.Math.Nat.{min-le_left, min-le_right}
+use Rattle.std.proofs.lemmas.Bool.{OnFalse_from}
 use Rattle.std.proofs.lemmas.Bool.Decides.{nat_tests}
 use Rattle.std.proofs.lemmas.List.{length-map}
 use Rattle.std.proofs.lemmas.List.Elements.{All-nil, All-cons, All-head, All-tail, All-append, All-map}
@@ -25,7 +26,7 @@ use Rattle.it_syntax.specs.MeasureWords.{is_measure}
 use Rattle.it_syntax.specs.NamesViews.{NamesView, index_of}
 use Rattle.it_syntax.specs.Scopes.{Environment, env_of, scope_of}
 use Rattle.it_syntax.proofs.FormLimits.{Knows, empty_is_set, names_keep, relation_keeps, given_keeps, knows_names, scope_covers, variables_covered}
-use Rattle.it_question.specs.declared.sizes.Limits.{Limits}
+use Rattle.it_question.specs.declared.sizes.FileLimits.{FileLimits}
 use Rattle.it_question.specs.Limits.{AreLinesOver, IsRegionOf, IsTryOf, AreRatesOf, IsVerbOver, IsQuestion, IsQuestionWithin}
 use Rattle.it_question.specs.NewNames.{NameSortView, Variable, Rate, with_name, no_names, is_taken, new_flag, once_flag}
 use Rattle.it_question.specs.QuestionForms.{count, new_name, more_new, new_names, names_line, own_line, own_words, own_keyword, more_own_lines, own_lines, once, more_once, distinct, auxiliary, set, part, more_parts, try_line, more_tries, region, region_flag, containment, verb, question, more_questions, file}
@@ -34,7 +35,7 @@ use Rattle.it_question.specs.OwnLines.{OwnLinesView, RegionView, no_lines}
 use Rattle.it_question.specs.Sorts.{AreQuestionNames}
 use Rattle.it_question.specs.Questions.{VerbView, Prove, Eliminate, Contain, BodyView}
 use Rattle.it_question.specs.ProblemLines.{givens_alone, names_under, lines_under}
-use Rattle.it_question.specs.TableSizes.{problem_of_lines, size_flag, IsTableWithin, HasTableWithin}
+use Rattle.it_question.specs.TableSizes.{problem_of_lines, most_entries, size_flag, table_flag, HasTableWithin}
 use Rattle.it_question.specs.TrySets.{Sets, unnamed_sets, with_set, auxiliary_env}
 use Rattle.it_question.proofs.QuestionLines.{IsGrown, not_grown, grown_more}
 
@@ -351,15 +352,18 @@ unflagged_is_few most n e = by_test (nat_lt most n) refl e
     by_test false t k = grind (arith, nat_tests)
 
 -- a table that isn't flagged
-unflagged_is_within : (limits : Limits) (v : NamesView) (own : OwnLinesView) → size_flag limits v own ≡ None
-    → IsTableWithin limits (table_size (problem_of_lines v own))
+unflagged_is_small : (v : NamesView) (own : OwnLinesView) → size_flag v own ≡ None → table_size (problem_of_lines v own) ≤ most_entries
 unfolding size_flag
-unflagged_is_within limits v own e = by_entries limits.entries (table_size (problem_of_lines v own)) e
+unflagged_is_small v own e = unflagged_is_few most_entries (table_size (problem_of_lines v own)) e
+
+-- a table that isn't flagged in a file with these limits
+unflagged_is_within : (limits : FileLimits) (v : NamesView) (own : OwnLinesView) → table_flag limits v own ≡ None
+    → OnFalse limits.large_tables (table_size (problem_of_lines v own) ≤ most_entries)
+unflagged_is_within limits v own e = by_test limits.large_tables e
   where
-    by_entries : (entries : Option ℕ) (n : ℕ) → cond (option_map_or (λ most. nat_lt most n) entries false) (Some codes.Large) None ≡ None
-        → IfSome entries (λ most. n ≤ most)
-    by_entries None n k = tt
-    by_entries (Some most) n k = unflagged_is_few most n k
+    by_test : (b : Bool) → cond b None (size_flag v own) ≡ None → OnFalse b (table_size (problem_of_lines v own) ≤ most_entries)
+    by_test true k = tt
+    by_test false k = unflagged_is_small v own k
 
 -- the names of a question whose first `region` isn't flagged
 few_for_region : (v : NamesView) → region_flag v ≡ None → length v.variables ≤ most_names
@@ -367,12 +371,12 @@ unfolding region_flag
 few_for_region v e = unflagged_is_few most_names (length v.variables) e
 
 -- what a question with these lines may want
-record IsWanted (limits : Limits) (own : OwnLinesView) (v : NamesView) (y : VerbView) : Type 0 where
+record IsWanted (limits : FileLimits) (own : OwnLinesView) (v : NamesView) (y : VerbView) : Type 0 where
   over : IsVerbOver v y
-  small : IsTableWithin limits (table_size (problem_of_lines (names_under v y) (lines_under own y)))
+  small : OnFalse limits.large_tables (table_size (problem_of_lines (names_under v y) (lines_under own y)) ≤ most_entries)
 
-containment_keeps : (limits : Limits) (own : OwnLinesView) (v : NamesView) → length v.variables ≤ most_names
-    → Always (containment limits own v) (λ p y. IsWanted limits own v y)
+containment_keeps : (limits : FileLimits) (own : OwnLinesView) (v : NamesView) → length v.variables ≤ most_names
+    → Always (containment own v) (λ p y. IsWanted limits own v y)
 unfolding containment Always
 containment_keeps limits own v few =
     let g = givens_left most_lines own in
@@ -382,14 +386,13 @@ containment_keeps limits own v few =
     (λ q second hs. always_weaker (more_tries (auxiliary_env v second.names) (env_of first.names) (unnamed_sets second.auxiliaries) []) _ _
     (λ s tries ht l e none l' e' m'. record {
       over = (hf.region, hs.region, ht.0, ht.1);
-      small = unflagged_is_within limits first.names
-          (lines_under own (Contain first second tries)) none;
+      small = OnFalse_from limits.large_tables _ (λ u. unflagged_is_small first.names (lines_under own (Contain first second tries)) none);
     })
     (tries_keep (auxiliary_env v second.names) (env_of first.names) (length first.names.variables) (knows_names first.names) second.auxiliaries))
     (region_keeps (givens_left g first.lines) (rows_left r first.lines) v (omega arith) (omega arith) few))
     (region_keeps g r v (omega arith) (omega arith) few)
 
-verb_keeps : (limits : Limits) (own : OwnLinesView) (v : NamesView) → Always (verb limits own v) (λ p y. IsWanted limits own v y)
+verb_keeps : (limits : FileLimits) (own : OwnLinesView) (v : NamesView) → Always (verb limits own v) (λ p y. IsWanted limits own v y)
 unfolding verb Always
 verb_keeps limits own v = (
   λ l e m. always_weaker (to_end (relation (scope_of v true))) (λ p x. IsRelationOf (length v.variables) (length v.rates) x)
@@ -408,12 +411,12 @@ verb_keeps limits own v = (
 -- ---- questions
 
 -- within the limits, with a table that isn't too large
-pub record IsRead (allowed : Limits) (q : BodyView) : Type 0 where
+pub record IsRead (allowed : FileLimits) (q : BodyView) : Type 0 where
   pub limits : IsQuestionWithin allowed q
   pub small : HasTableWithin allowed q
 
 -- a question within limits that a space meets, as those of all files
-pub within_any : (limits : Limits) (q : BodyView) → limits.variables ≤ most_variables → IsQuestionWithin limits q → IsQuestion q
+pub within_any : (limits : FileLimits) (q : BodyView) → limits.variables ≤ most_variables → IsQuestionWithin limits q → IsQuestion q
 within_any limits q h k = record {
   some = k.some;
   few = omega (arith, k.few, h);
@@ -435,7 +438,7 @@ are_names most variables names hv hn =
       few_rates = hn.few (let n = ap (λ (ws : List (List ℕ)). length ws) none in omega (arith, n));
     }
 
-question_keeps : (limits : Limits) → Always (question limits) (λ p q. IsRead limits q)
+question_keeps : (limits : FileLimits) → Always (question limits) (λ p q. IsRead limits q)
 unfolding question Always
 question_keeps limits = always_weaker (new_names Variable limits.variables no_names) _ _
     (λ p variables hv. always_weaker (names_line Rate most_rates (codes "rates") variables) _ _
@@ -455,7 +458,7 @@ question_keeps limits = always_weaker (new_names Variable limits.variables no_na
     })
     (verb_keeps limits own names)) (own_lines_keep most_lines most_lines names)) (names_line_keeps Rate most_rates (codes "rates") variables)) (new_names_keep Variable limits.variables no_names)
 
-file_keeps : (limits : Limits) → Always (file limits) (λ p qs. All (IsRead limits) qs)
+file_keeps : (limits : FileLimits) → Always (file limits) (λ p qs. All (IsRead limits) qs)
 unfolding file more_questions Always
 file_keeps limits = always_weaker (more_questions limits []) _ _ (λ p qs h l e m. h)
     (each_keeps (Keyword (codes "vars") ∷ []) (λ qs l. (limit_flag (most_questions - length qs), tt {0})) (λ qs u. question limits) (λ qs q. qs ++ q ∷ []) (All (IsRead limits))
@@ -463,7 +466,7 @@ file_keeps limits = always_weaker (more_questions limits []) _ _ (λ p qs h l e 
 
 -- ---- what the readers hand on
 
-pub file_limited : (limits : Limits) (ls r : List Letter) (qs : List BodyView) → read (file limits) ls ≡ Ok (qs, r) → All (IsRead limits) qs
+pub file_limited : (limits : FileLimits) (ls r : List Letter) (qs : List BodyView) → read (file limits) ls ≡ Ok (qs, r) → All (IsRead limits) qs
 file_limited limits ls r qs e = value_read (file limits) (All (IsRead limits)) ls r qs (file_keeps limits) e
 
 pub names_limited : (most : ℕ) (variables names : NamesView) (ls a b r : List Letter) → read (new_names Variable most no_names) ls ≡ Ok (variables, a)

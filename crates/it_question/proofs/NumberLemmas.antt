@@ -25,11 +25,11 @@ use Rattle.it_syntax.specs.NamesViews.{NamesView, index_of}
 use Rattle.it_syntax.specs.Scopes.{Scope, scope_of, env_of}
 use Rattle.it_syntax.specs.Spans.{letter_of, letters_until, last_letter}
 use Rattle.it_syntax.specs.Spelling.{IsText}
-use Rattle.it_question.specs.declared.sizes.Limits.{Limits}
-use Rattle.it_question.specs.Files.{IsFile}
+use Rattle.it_question.specs.declared.sizes.FileLimits.{FileLimits}
+use Rattle.it_question.specs.Files.{IsFileWithin}
 use Rattle.it_question.specs.Lines.{LineView, AreLines, letters_of_lines, split_lines}
 use Rattle.it_question.specs.QuestionForms.{own_words, own_keyword, own_line, more_own_lines, own_lines, names_line, new_names, distinct, more_tries, region, containment, verb, question, more_questions, file}
-use Rattle.it_question.specs.QuestionLimits.{auxiliaries_left, givens_left, most_lines, most_questions, rows_left, usual}
+use Rattle.it_question.specs.QuestionLimits.{auxiliaries_left, givens_left, most_lines, most_questions, rows_left}
 use Rattle.it_question.specs.OwnLines.{OwnLinesView, RegionView, no_lines}
 use Rattle.it_question.specs.Questions.{VerbView, BodyView, QuestionView}
 use Rattle.it_question.specs.Questions as views
@@ -180,9 +180,9 @@ region_small : (g r : ℕ) (v : NamesView) → Always (region g r v) (λ p x. Ar
 unfolding region Always
 region_small g r v = λ l e u. always_any (names_line Variable (length v.variables + auxiliaries_left v) (codes "aux") v) _ (λ p names. always_weaker (own_lines g r names) _ _ (λ q own h small. h (front_small q _ (rest_small p _ (rest_small (l ∷ []) _ small)))) (own_lines_small g r names))
 
-containment_small : (limits : Limits) (own : OwnLinesView) (v : NamesView) → Always (containment limits own v) (λ p y. AreSmall p → VerbHasSmallNumbers y)
+containment_small : (own : OwnLinesView) (v : NamesView) → Always (containment own v) (λ p y. AreSmall p → VerbHasSmallNumbers y)
 unfolding containment Always
-containment_small limits own v =
+containment_small own v =
     let g = givens_left most_lines own in
     let r = rows_left most_lines own in
     always_weaker (region g r v) _ _
@@ -199,7 +199,7 @@ pub relation_line_small : (v : NamesView) → Always (to_end (relation (scope_of
 unfolding Always
 relation_line_small v = always_weaker (relation (scope_of v true)) _ _ (λ p x h l e u small. h (front_small p _ small)) (relation_small (scope_of v true))
 
-verb_small : (limits : Limits) (own : OwnLinesView) (v : NamesView) → Always (verb limits own v) (λ p y. AreSmall p → VerbHasSmallNumbers y)
+verb_small : (limits : FileLimits) (own : OwnLinesView) (v : NamesView) → Always (verb limits own v) (λ p y. AreSmall p → VerbHasSmallNumbers y)
 unfolding verb Always
 verb_small limits own v = (
   λ l e u. always_weaker (to_end (relation (scope_of v true))) (λ p x. AreSmall p → HasSmallNumbers x)
@@ -208,19 +208,19 @@ verb_small limits own v = (
   (
     λ l e u. always_any (to_end (distinct (index_of v.rates))) (λ q x. AreSmall ((l ∷ []) ++ (q ++ [])) → Unit {0})
         (λ q x small. tt),
-    λ l e u. always_weaker (containment limits own v) _ _ (λ q y h small. h (rest_small (l ∷ []) q small))
-        (containment_small limits own v),
+    λ l e u. always_weaker (containment own v) _ _ (λ q y h small. h (rest_small (l ∷ []) q small))
+        (containment_small own v),
   ),
 )
 
-question_small : (limits : Limits) → Always (question limits) (λ p q. AreSmall p → QuestionHasSmallNumbers q)
+question_small : (limits : FileLimits) → Always (question limits) (λ p q. AreSmall p → QuestionHasSmallNumbers q)
 unfolding question Always
 question_small limits = always_any (new_names Variable limits.variables no_names) _ (λ p variables. always_any (names_line Rate most_rates (codes "rates") variables) _
     (λ q names. always_weaker (own_lines most_lines most_lines names) _ _ (λ r own ho. always_weaker (verb limits own names) _ _ (λ w aim ha small.
     let after = rest_small q _ (rest_small p _ small) in (ho (front_small r _ after), ha (front_small w _ (rest_small r _ after))))
     (verb_small limits own names)) (own_lines_small most_lines most_lines names)))
 
-pub file_small : (limits : Limits) → Always (file limits) (λ p qs. AreSmall p → Every QuestionHasSmallNumbers qs)
+pub file_small : (limits : FileLimits) → Always (file limits) (λ p qs. AreSmall p → Every QuestionHasSmallNumbers qs)
 unfolding file more_questions Always
 file_small limits = always_weaker (more_questions limits []) _ _ (λ p qs h l e u small. h (front_small p _ small))
     (loop_keeps (Keyword (codes "vars") ∷ []) (λ qs l. (limit_flag (most_questions - length qs), tt {0})) (λ qs u. Then (question limits) (λ q. Give (qs ++ q ∷ []))) (λ p qs. AreSmall p → Every QuestionHasSmallNumbers qs)
@@ -265,9 +265,9 @@ texts_apart lines [] h = tt
 texts_apart lines (q ∷ qs) h = (h.0, texts_apart (drop (question_line_count q) lines) qs h.1)
 
 -- the questions of a file count by numbers of 64 bits
-pub file_has_small_numbers : (bytes : List ℕ) (qs : List QuestionView) → IsFile bytes qs → Every (λ (q : QuestionView). QuestionHasSmallNumbers q.body) qs
-file_has_small_numbers bytes qs asked =
+pub file_has_small_numbers : (limits : FileLimits) (bytes : List ℕ) (qs : List QuestionView) → IsFileWithin limits bytes qs → Every (λ (q : QuestionView). QuestionHasSmallNumbers q.body) qs
+file_has_small_numbers limits bytes qs asked =
     let small = lines_small 1 (split_lines bytes) asked.lines asked.cut in
-    let all = always_said (file usual) _ (file_has usual) (λ p qs. AreSmall p → Every QuestionHasSmallNumbers qs) (file_small usual)
-    (letters_of_lines asked.lines) asked.tree.0 (said (file usual) with_texts bytes qs asked) small in
+    let all = always_said (file limits) _ (file_has limits) (λ p qs. AreSmall p → Every QuestionHasSmallNumbers qs) (file_small limits)
+    (letters_of_lines asked.lines) asked.tree.0 (said (file limits) with_texts bytes qs asked) small in
     subst (Every (λ (q : QuestionView). QuestionHasSmallNumbers q.body)) asked.says (texts_apart asked.lines asked.tree.0 all)

@@ -11,7 +11,6 @@ use Rattle.it_syntax.specs.declared.rest.Stop.TheVariants as stops
 use Rattle.it_syntax.specs.Gives.{StopsAs}
 use Rattle.it_syntax.specs.NamesViews.{NamesView}
 use Rattle.it_syntax.specs.Scopes.{env_of}
-use Rattle.it_question.specs.declared.sizes.Limits.{Limits}
 use Rattle.it_question.specs.QuestionForms.{region, more_tries, containment}
 use Rattle.it_question.specs.QuestionLimits.{givens_left, rows_left, most_lines}
 use Rattle.it_question.specs.OwnLines.{OwnLinesView, RegionView}
@@ -62,15 +61,15 @@ abbrev tries_of : NamesView → RegionView → RegionView → Form (List (List �
 tries_of v first second = more_tries (auxiliary_env v second.names) (env_of first.names) (unnamed_sets second.auxiliaries) []
 
 -- the line of `contain`
-abbrev pub contain_line : Limits → OwnLinesView → RegionView → Form (Unit {0})
-contain_line limits own first = Then (Take (flagged_word (codes "contain") (size_flag limits first.names (lines_with own first)))) (λ u. line_end)
+abbrev pub contain_line : OwnLinesView → RegionView → Form (Unit {0})
+contain_line own first = Then (Take (flagged_word (codes "contain") (size_flag first.names (lines_with own first)))) (λ u. line_end)
 
-abbrev end_of : Limits → OwnLinesView → RegionView → RegionView → List (List ℕ) → Form VerbView
-end_of limits own first second tries = Then (Take (flagged_word (codes "contain") (size_flag limits first.names (lines_with own first)))) (λ u. Then line_end (λ u. Give (Contain first second tries)))
+abbrev end_of : OwnLinesView → RegionView → RegionView → List (List ℕ) → Form VerbView
+end_of own first second tries = Then (Take (flagged_word (codes "contain") (size_flag first.names (lines_with own first)))) (λ u. Then line_end (λ u. Give (Contain first second tries)))
 
-module _ (limits : Limits) (own : OwnLinesView) (v : NamesView) (ls a b d : List Letter) (first second : RegionView) (i j m n : ℕ)
+module _ (own : OwnLinesView) (v : NamesView) (ls a b d : List Letter) (first second : RegionView) (i j m n : ℕ)
     (h : ReadRegions own v ls a b d first second i j m n) where
-  up_to_tries : read (containment limits own v) ls ≡ read (Then (tries_of v first second) (λ ts. end_of limits own first second ts)) d
+  up_to_tries : read (containment own v) ls ≡ read (Then (tries_of v first second) (λ ts. end_of own first second ts)) d
   unfolding containment
   up_to_tries =
       let g = givens_left most_lines own in
@@ -82,20 +81,20 @@ module _ (limits : Limits) (own : OwnLinesView) (v : NamesView) (ls a b d : List
       then_gives _ _ ls a first one ∙ then_gives _ _ a b tt h.word ∙ then_gives _ _ b d second two
 
   -- at a fault in the `try` lines
-  pub tries_stop : (e : Stop) (rest : List Letter) → StopsAs e rest (read (tries_of v first second) d) → StopsAs e rest (read (containment limits own v) ls)
+  pub tries_stop : (e : Stop) (rest : List Letter) → StopsAs e rest (read (tries_of v first second) d) → StopsAs e rest (read (containment own v) ls)
   tries_stop e rest k = subst (StopsAs e rest) (sym up_to_tries) (then_stops (tries_of v first second) _ e d rest k)
 
   module _ (tries : List (List ℕ)) (after : List Letter) (t : read (tries_of v first second) d ≡ Ok (tries, after)) where
-    up_to_contain : read (containment limits own v) ls ≡ read (Then (contain_line limits own first) (λ u. Give (Contain first second tries))) after
-    up_to_contain = up_to_tries ∙ then_gives (tries_of v first second) _ d after tries t ∙ then_again (Take (flagged_word (codes "contain") (size_flag limits first.names (lines_with own first)))) (λ u. line_end) (λ u. Give (Contain first second tries)) after
+    up_to_contain : read (containment own v) ls ≡ read (Then (contain_line own first) (λ u. Give (Contain first second tries))) after
+    up_to_contain = up_to_tries ∙ then_gives (tries_of v first second) _ d after tries t ∙ then_again (Take (flagged_word (codes "contain") (size_flag first.names (lines_with own first)))) (λ u. line_end) (λ u. Give (Contain first second tries)) after
 
     -- at a fault after them
-    pub contain_stops : (e : Stop) (rest : List Letter) → StopsAs e rest (read (contain_line limits own first) after) → StopsAs e rest (read (containment limits own v) ls)
-    contain_stops e rest k = subst (StopsAs e rest) (sym up_to_contain) (then_stops (contain_line limits own first)
+    pub contain_stops : (e : Stop) (rest : List Letter) → StopsAs e rest (read (contain_line own first) after) → StopsAs e rest (read (containment own v) ls)
+    contain_stops e rest k = subst (StopsAs e rest) (sym up_to_contain) (then_stops (contain_line own first)
         (λ u. Give (Contain first second tries)) e after rest k)
 
     -- two regions and the sets to be tried
-    pub contain_gives : (rest : List Letter) → read (contain_line limits own first) after ≡ Ok (tt, rest)
-        → read (containment limits own v) ls ≡ Ok (Contain first second tries, rest)
+    pub contain_gives : (rest : List Letter) → read (contain_line own first) after ≡ Ok (tt, rest)
+        → read (containment own v) ls ≡ Ok (Contain first second tries, rest)
     unfolding read
-    contain_gives rest k = up_to_contain ∙ then_gives (contain_line limits own first) (λ u. Give (Contain first second tries)) after rest tt k
+    contain_gives rest k = up_to_contain ∙ then_gives (contain_line own first) (λ u. Give (Contain first second tries)) after rest tt k

@@ -1,6 +1,5 @@
 -- The problem of lines, and the flag that its table's size gives.
-use Rattle.std.proofs.Common.{◌≡◌, ℕ, ◌+◌, ◌-◌, ◌*◌, ◌/◌, ◌≤◌, ◌^◌, Bool, false, nat_lt, List, [], ◌∷◌, length, map, Option, Some, None, IfSome, refl, sym, ap, ap₂, subst, subst₂, ◌∙◌, arith, lit<, length-append}
-use Rattle.std.specs.Option.{option_map_or}
+use Rattle.std.proofs.Common.{◌≡◌, ℕ, ◌+◌, ◌-◌, ◌*◌, ◌/◌, ◌≤◌, ◌^◌, Bool, false, nat_lt, List, [], ◌∷◌, length, map, None, refl, sym, ap, ap₂, subst, subst₂, ◌∙◌, arith, lit<, length-append}
 use Rattle.std.specs.Prelude.{All, flat_map, zip}
 use Rattle.std.specs.List.{AllZip}
 use Rattle.std.proofs.lemmas.Slice.Zip.{length-zip}
@@ -33,13 +32,12 @@ use Rattle.it_demand.specs.RowsOfForms.{terms_of_form}
 use Rattle.it_demand.proofs.FormRows.{row_is_terms_of_form}
 use Rattle.it_demand.proofs.LimitLemmas.{wider_relation, wider_given, givens-few}
 use Rattle.it_demand.proofs.ZipLemmas.{zip-both, zip-length, zip-right}
-use Rattle.it_question.specs.declared.sizes.Limits.{Limits}
 use Rattle.it_question.specs.OwnLines.{OwnLinesView, RegionView}
 use Rattle.it_question.specs.Limits.{IsRegionOf}
-use Rattle.it_question.specs.ReaderSteps.{AreAllWithin, flag_if_large}
+use Rattle.it_question.specs.ReaderSteps.{flag_if_large}
 use Rattle.it_question.specs.LineOrigins.{line_origins}
 use Rattle.it_question.specs.LineDemands.{line_demands}
-use Rattle.it_question.specs.TableSizes.{constraint_of, problem_of_lines, is_beyond, most_entries, size_flag}
+use Rattle.it_question.specs.TableSizes.{constraint_of, problem_of_lines, most_entries, size_flag}
 
 abbrev constraint : Terms → Kind → Origin → Constraint
 constraint row kind origin = record { row = row; kind = kind; origin = origin }
@@ -80,13 +78,13 @@ lines-few n own a = omega (
 )
 
 -- the flag by the size of the problem with the constraints that were made
-pub flag_by_size : (limits : Limits) (v : NamesView) (own : OwnLinesView) (cs : List Constraint) (large : Bool)
+pub flag_by_size : (v : NamesView) (own : OwnLinesView) (cs : List Constraint) (large : Bool)
     → AreStated (space_of v) (line_origins (length v.variables) own) (line_demands (length v.variables) own) cs
-    → large ≡ is_beyond limits (table_size (record { space = space_of v; constraints = cs })) → size_flag limits v own ≡ flag_if_large large
+    → large ≡ nat_lt most_entries (table_size (record { space = space_of v; constraints = cs })) → size_flag v own ≡ flag_if_large large
 unfolding size_flag
-flag_by_size limits v own cs large h e =
+flag_by_size v own cs large h e =
     let same = stated_are (space_of v) (line_origins (length v.variables) own) (line_demands (length v.variables) own) cs h in
-    ap (λ (ds : List Constraint). flag_if_large (is_beyond limits (table_size (record { space = space_of v; constraints = ds }))))
+    ap (λ (ds : List Constraint). flag_if_large (nat_lt most_entries (table_size (record { space = space_of v; constraints = ds }))))
     (sym same) ∙ ap flag_if_large (sym e)
 
 -- ---- a question's lines under the names of its region
@@ -121,12 +119,12 @@ lines_problem s own cs k givens g r h = stated_problem s (line_origins s.variabl
     (omega (arith, lines-few s.variables own givens, g, r)) h
 
 -- and give the flag
-pub space_flag : (limits : Limits) (s : Space) (v : NamesView) (own : OwnLinesView) (cs : List Constraint) (large : Bool) → s ≡ space_of v
+pub space_flag : (s : Space) (v : NamesView) (own : OwnLinesView) (cs : List Constraint) (large : Bool) → s ≡ space_of v
     → AreStated s (line_origins s.variables own) (line_demands s.variables own) cs
-    → large ≡ is_beyond limits (table_size (record { space = s; constraints = cs })) → size_flag limits v own ≡ flag_if_large large
-space_flag limits s v own cs large e h k = flag_by_size limits v own cs large (subst
+    → large ≡ nat_lt most_entries (table_size (record { space = s; constraints = cs })) → size_flag v own ≡ flag_if_large large
+space_flag s v own cs large e h k = flag_by_size v own cs large (subst
     (λ (t : Space). AreStated t (line_origins t.variables own) (line_demands t.variables own) cs) e h)
-    (subst (λ (t : Space). large ≡ is_beyond limits (table_size (record { space = t; constraints = cs }))) e k)
+    (subst (λ (t : Space). large ≡ nat_lt most_entries (table_size (record { space = t; constraints = cs }))) e k)
 
 -- the constraints of the givens alone
 pub givens_stated : (s : Space) (gs own : List GivenView) (cs : List Constraint) → gs ≡ own
@@ -149,12 +147,11 @@ elementals-few n h =
     let both : length (index_pairs n) * (2 ^ n / 4) ≤ 36 * 128 = mul-le-mul pairs quarter in
     omega (arith, length-elementals n, both, h)
 
--- at most nine variables, with as many lines as a question may have, have a table of no more entries than is usual
-few_entries : (v : NamesView) (own : OwnLinesView) → length v.variables ≤ 9 → length v.rates ≤ 16
-    → All (IsGivenOf (length v.variables)) own.givens → length own.givens ≤ 64 → length own.rows ≤ 64
-    → table_size (problem_of_lines v own) ≤ most_entries
-unfolding table_size
-few_entries v own few rates a givens lines =
+-- at most nine variables, with lines within the limits, have a table that isn't too large
+pub few_variables : (v : NamesView) (own : OwnLinesView) → length v.variables ≤ 9 → length v.rates ≤ 16
+    → All (IsGivenOf (length v.variables)) own.givens → length own.givens ≤ 64 → length own.rows ≤ 64 → size_flag v own ≡ None
+unfolding size_flag table_size
+few_variables v own few rates a givens lines =
     let n = length v.variables in
     let q = problem_of_lines v own in
     let ds = zip (line_origins n own) (line_demands n own) in
@@ -172,18 +169,5 @@ few_entries v own few rates a givens lines =
       rows,
     ) in
     let size : table_rows q * table_columns q ≤ 527 * 7064 = mul-le-mul rows columns in
-    omega (arith, size)
-
--- their tables are within limits that don't bound them, and within those that allow as much as is usual
-pub few_variables : (limits : Limits) (v : NamesView) (own : OwnLinesView) → AreAllWithin limits (length v.variables) → length v.rates ≤ 16
-    → All (IsGivenOf (length v.variables)) own.givens → length own.givens ≤ 64 → length own.rows ≤ 64 → size_flag limits v own ≡ None
-unfolding size_flag
-few_variables limits v own within rates a givens lines = by_entries limits.entries within
-  where
-    by_entries : (entries : Option ℕ) → IfSome entries (λ most. (length v.variables ≤ 9) × (most_entries ≤ most))
-        → flag_if_large (option_map_or (λ most. nat_lt most (table_size (problem_of_lines v own))) entries false) ≡ None
-    by_entries None h = refl
-    by_entries (Some most) h =
-        let few : table_size (problem_of_lines v own) ≤ most = omega (arith, few_entries v own h.0 rates a givens lines, h.1) in
-        let small : nat_lt most (table_size (problem_of_lines v own)) ≡ false = grind (arith, nat_tests) in
-        rw small refl
+    let small : nat_lt most_entries (table_rows q * table_columns q) ≡ false = grind (arith, nat_tests) in
+    rw small refl

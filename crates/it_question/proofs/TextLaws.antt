@@ -7,8 +7,7 @@ use Rattle.it_forms.proofs.LetterLemmas.{cleaned_append}
 use Rattle.it_question.specs.Files.{IsFileWithin, TextReadsBack}
 use Rattle.it_question.specs.Lines.{LineView, split_lines, file_end, letters_of_lines}
 use Rattle.it_question.specs.QuestionForms.{file}
-use Rattle.it_question.specs.QuestionLimits.{usual}
-use Rattle.it_question.specs.declared.sizes.Limits.{Limits}
+use Rattle.it_question.specs.declared.sizes.FileLimits.{FileLimits}
 use Rattle.it_question.specs.Questions.{BodyView, QuestionView}
 use Rattle.it_question.specs.LineTexts.{text_of_lines}
 use Rattle.it_question.specs.Texts.{question_line_count, with_texts}
@@ -22,7 +21,7 @@ use Rattle.it_question.proofs.WholeFileLemmas.{the_end, said, says_file}
 first_of : BodyView → List LineView → QuestionView
 first_of q lines = record { body = q; text = text_of_lines (texts_of (take (question_line_count q) lines)) }
 
-first_alone : (limits : Limits) (q : BodyView) (lines : List LineView) → QuestionAt limits lines q → IsFileWithin limits (first_of q lines).text (first_of q lines ∷ [])
+first_alone : (limits : FileLimits) (q : BodyView) (lines : List LineView) → QuestionAt limits lines q → IsFileWithin limits (first_of q lines).text (first_of q lines ∷ [])
 unfolding first_of
 first_alone limits q lines h =
     let t = read_again 1 (take (question_line_count q) lines) h.whole in
@@ -33,7 +32,7 @@ first_alone limits q lines h =
     (ap (λ (i : ℕ). text_of_lines (texts_of (take i t.again))) (sym h.long) ∙ t.text)
     (says_file (file limits) with_texts (first_of q lines).text t.again (q ∷ []) t.cut says)
 
-one_question_file : (limits : Limits) (qs : List BodyView) (lines : List LineView) (prefix rs : List QuestionView) (q : QuestionView) → AreAt limits lines qs
+one_question_file : (limits : FileLimits) (qs : List BodyView) (lines : List LineView) (prefix rs : List QuestionView) (q : QuestionView) → AreAt limits lines qs
     → with_texts lines qs ≡ prefix ++ q ∷ rs → IsFileWithin limits q.text (q ∷ [])
 unfolding first_of
 one_question_file limits [] lines [] rs q a h = absurd cc
@@ -44,6 +43,6 @@ one_question_file limits (b ∷ qs) lines (f ∷ prefix) rs q a h = let tails : 
     ≡ prefix ++ q ∷ rs = cc in one_question_file limits qs (drop (question_line_count b) lines) prefix rs q a.1 tails
 
 pub text_reads_back : TextReadsBack
-text_reads_back bytes qs rs q prefix asked e =
-    one_question_file usual asked.tree.0 asked.lines prefix rs q (questions_at usual asked.lines asked.tree.0
-    (lines_sound 1 (split_lines bytes) asked.lines asked.cut) (said (file usual) with_texts bytes qs asked)) (asked.says ∙ e)
+text_reads_back limits bytes qs rs q prefix asked e =
+    one_question_file limits asked.tree.0 asked.lines prefix rs q (questions_at limits asked.lines asked.tree.0
+    (lines_sound 1 (split_lines bytes) asked.lines asked.cut) (said (file limits) with_texts bytes qs asked)) (asked.says ∙ e)

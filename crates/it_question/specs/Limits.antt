@@ -7,7 +7,7 @@ use Rattle.it_syntax.specs.Givens.{IsRelationOf, IsGivenOf}
 use Rattle.it_question.specs.QuestionLimits.{most_auxiliaries, most_lines, most_names, wide}
 use Rattle.it_question.specs.OwnLines.{OwnLinesView, RegionView}
 use Rattle.it_question.specs.Questions.{VerbView, Prove, Eliminate, Contain, BodyView}
-use Rattle.it_question.specs.declared.sizes.Limits.{Limits}
+use Rattle.it_question.specs.declared.sizes.FileLimits.{FileLimits}
 use Rattle.it_space.specs.Spaces.{most_rates, most_variables}
 
 -- at most 64 lines of each kind over the names of v, where no `given` line has a rate
@@ -45,7 +45,7 @@ IsVerbOver v (Eliminate rates) = AreRatesOf (length v.rates) rates
 IsVerbOver v (Contain first second tries) = IsRegionOf v first × IsRegionOf v second × (length tries ≤ most_lines) × All (IsTryOf (length first.names.variables)) tries
 
 -- at least one variable, no more variables than the limits say and no more rates than a space has, and lines over them
-pub record IsQuestionWithin (limits : Limits) (q : BodyView) : Type 0 where
+pub record IsQuestionWithin (limits : FileLimits) (q : BodyView) : Type 0 where
   pub some : 1 ≤ length q.names.variables
   pub few : length q.names.variables ≤ limits.variables
   pub few_rates : length q.names.rates ≤ most_rates

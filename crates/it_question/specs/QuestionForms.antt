@@ -1,6 +1,6 @@
 -- The grammar of question files. `Word` flags H or I in the place of a name, `Twice` a name that is taken or was named before, `Name`
 -- one that is unknown, `Many` the first letter past a limit, `Large` the word of a verb whose question's table is too large, and the
--- first `region` of a question with more names than a containment may have. The forms from `containment` on take the limits of a file.
+-- first `region` of a question with more names than a containment may have. The forms from `verb` on take the limits of a file.
 use Rattle.std.specs.Prelude.{ℕ, ◌+◌, ◌-◌, ◌==◌, nat_lt, Bool, true, false, List, [], ◌∷◌, ◌++◌, length, is_some, Option, Some, None, if◌then◌else◌, codes, unwrap_or, map}
 use Rattle.std.specs.List.{list_all, list_any}
 use Rattle.it_forms.specs.declared.types.Symbol.TheVariants.{Comma, Semicolon, Assign}
@@ -17,8 +17,8 @@ use Rattle.it_question.specs.OwnLines.{OwnLinesView, RegionView, no_lines}
 use Rattle.it_question.specs.Questions.{VerbView, BodyView, Prove, Eliminate, Contain}
 use Rattle.it_question.specs.NewNames.{NameSortView, Variable, Rate, with_name, no_names, is_taken, new_flag, once_flag}
 use Rattle.it_question.specs.ProblemLines.{givens_alone, lines_with}
-use Rattle.it_question.specs.TableSizes.{size_flag}
-use Rattle.it_question.specs.declared.sizes.Limits.{Limits}
+use Rattle.it_question.specs.TableSizes.{size_flag, table_flag}
+use Rattle.it_question.specs.declared.sizes.FileLimits.{FileLimits}
 use Rattle.it_forms.specs.Forms.{Kind, Keyword, LineEnd, is_of, Terminal, Form, Give, Take, If, While}
 use Rattle.it_forms.specs.Words.{◌>>=◌, ◌>>◌, word, flagged_word, any_word, symbol, each_after, each_flagged, zero_alone, line_end, to_end, file_end, limit_flag}
 use Rattle.it_space.specs.Spaces.{most_rates}
@@ -148,31 +148,31 @@ unfoldable pub region_flag : NamesView → Option Code
 region_flag v = if nat_lt most_names (length v.variables) then Some codes.Large else None
 
 -- two regions, `try` lines and `contain`, after the first `region`, in a question with the own lines `own`
-unfoldable pub containment : Limits → OwnLinesView → NamesView → Form VerbView
-containment limits own v = do
+unfoldable pub containment : OwnLinesView → NamesView → Form VerbView
+containment own v = do
   first ← region (givens_left most_lines own) (rows_left most_lines own) v
   Take (word (codes "region"))
   second ← region (givens_left (givens_left most_lines own) first.lines) (rows_left (rows_left most_lines own) first.lines) v
   tries ← more_tries (auxiliary_env v second.names) (env_of first.names) (unnamed_sets second.auxiliaries) []
-  Take (flagged_word (codes "contain") (size_flag limits first.names (lines_with own first)))
+  Take (flagged_word (codes "contain") (size_flag first.names (lines_with own first)))
   line_end
   Give (Contain first second tries)
 
 -- ---- verbs, questions and files
 
 -- `prove`, `eliminate` or regions, in a question with the own lines `own`
-unfoldable pub verb : Limits → OwnLinesView → NamesView → Form VerbView
+unfoldable pub verb : FileLimits → OwnLinesView → NamesView → Form VerbView
 verb limits own v =
-    If (flagged_word (codes "prove") (size_flag limits v own)) (λ u. do
+    If (flagged_word (codes "prove") (table_flag limits v own)) (λ u. do
       x ← to_end (relation (scope_of v true))
       Give (Prove x))
-    (If (flagged_word (codes "eliminate") (size_flag limits v (givens_alone own))) (λ u. do
+    (If (flagged_word (codes "eliminate") (table_flag limits v (givens_alone own))) (λ u. do
       rates ← to_end (distinct (index_of v.rates))
       Give (Eliminate rates))
-    (Take (flagged_word (codes "region") (region_flag v)) >> containment limits own v))
+    (Take (flagged_word (codes "region") (region_flag v)) >> containment own v))
 
 -- after `vars`
-unfoldable pub question : Limits → Form BodyView
+unfoldable pub question : FileLimits → Form BodyView
 question limits = do
   variables ← new_names Variable limits.variables no_names
   names ← names_line Rate most_rates (codes "rates") variables
@@ -181,11 +181,11 @@ question limits = do
   Give (record { names = names; lines = own; verb = aim })
 
 -- the questions `qs` and further ones, at most 1000 in all
-unfoldable pub more_questions : Limits → List BodyView → Form (List BodyView)
+unfoldable pub more_questions : FileLimits → List BodyView → Form (List BodyView)
 more_questions limits qs = each_flagged (codes "vars") (λ qs. limit_flag (most_questions - length qs)) (λ qs. question limits) (λ qs q. qs ++ q ∷ []) qs
 
 -- questions up to the file's end
-unfoldable pub file : Limits → Form (List BodyView)
+unfoldable pub file : FileLimits → Form (List BodyView)
 file limits = do
   qs ← more_questions limits []
   file_end

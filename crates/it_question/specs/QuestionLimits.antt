@@ -1,10 +1,9 @@
 -- The most bytes, questions, names of variables, auxiliaries and lines. Of rates it is the most of a space. How large the questions of a
 -- file may be is a value that the forms take.
-use Rattle.std.specs.Prelude.{ℕ, ◌-◌, min, length, Some, None}
+use Rattle.std.specs.Prelude.{ℕ, ◌-◌, min, length, true, false}
 use Rattle.it_syntax.specs.NamesViews.{NamesView}
 use Rattle.it_question.specs.OwnLines.{OwnLinesView}
-use Rattle.it_question.specs.TableSizes.{most_entries}
-use Rattle.it_question.specs.declared.sizes.Limits.{Limits}
+use Rattle.it_question.specs.declared.sizes.FileLimits.{FileLimits}
 
 -- the most bytes of a file
 abbrev pub most_file_bytes : ℕ
@@ -19,12 +18,12 @@ abbrev pub most_names : ℕ
 most_names = 10
 
 -- how large questions may be where nothing else is said
-abbrev pub usual : Limits
-usual = record { variables = most_names; entries = Some most_entries }
+abbrev pub usual : FileLimits
+usual = record { variables = most_names; large_tables = false }
 
 -- questions may have n names of variables, and tables of any size
-abbrev pub wide : ℕ → Limits
-wide n = record { variables = n; entries = None }
+abbrev pub wide : ℕ → FileLimits
+wide n = record { variables = n; large_tables = true }
 
 -- the most auxiliaries of a region
 abbrev pub most_auxiliaries : ℕ

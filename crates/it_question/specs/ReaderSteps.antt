@@ -1,5 +1,5 @@
 -- What the contracts of the readers' own functions say of their steps. No public clause cites it.
-use Rattle.std.specs.Prelude.{◌≡◌, ℕ, ◌≤◌, ◌+◌, List, ◌++◌, length, ◌==◌, Bool, not, [], ◌∷◌, Option, Some, None, IfSome, ◌⊎◌, if◌then◌else◌, codes}
+use Rattle.std.specs.Prelude.{◌≡◌, ℕ, ◌≤◌, ◌+◌, List, ◌++◌, length, ◌==◌, Bool, not, [], ◌∷◌, Option, Some, None, ◌⊎◌, if◌then◌else◌, codes}
 use Rattle.it_forms.specs.declared.types.Code.{Code}
 use Rattle.it_forms.specs.declared.types.Code.TheVariants as codes
 use Rattle.it_question.specs.OwnLines.{OwnLinesView, RegionView}
@@ -9,8 +9,7 @@ use Rattle.it_question.specs.Lines.{plain_text, LineView, IsLine, IsFilled}
 use Rattle.it_question.specs.QuestionForms.{own_words, more_tries}
 use Rattle.it_question.specs.QuestionLimits.{auxiliaries_left, most_lines}
 use Rattle.it_question.specs.ProblemLines.{lines_with}
-use Rattle.it_question.specs.TableSizes.{most_entries, size_flag}
-use Rattle.it_question.specs.declared.sizes.Limits.{Limits}
+use Rattle.it_question.specs.TableSizes.{size_flag}
 use Rattle.it_question.specs.TrySets.{auxiliary_env, unnamed_sets}
 use Rattle.it_question.specs.declared.tries.Regions.{Regions}
 use Rattle.it_syntax.specs.Givens.{GivenView}
@@ -40,10 +39,6 @@ IsLineAdded n bytes old new =
     (SpellsUntil 0 (plain_text bytes) [] None × (new ≡ old))
     ⊎ ((l : LineView) × (new ≡ old ++ l ∷ []) × IsLine n bytes l × IsFilled l.tokens l.misspelling)
 
--- each table of a question of n variables is within the limits: they don't bound it, or n is small and they allow as much as usual
-abbrev pub AreAllWithin : Limits → ℕ → Type 0
-AreAllWithin limits n = IfSome limits.entries (λ most. (n ≤ 9) × (most_entries ≤ most))
-
 -- the flag of a verb's word: `Large` if the question's table is too large
 abbrev pub flag_if_large : Bool → Option Code
 flag_if_large large = if large then Some codes.Large else None
@@ -65,12 +60,12 @@ abbrev pub most_of_region : NamesView → ℕ
 most_of_region v = length v.variables + auxiliaries_left v
 
 -- the flag of `contain`, in a question with the own lines `own` and the first region `first`
-abbrev pub containment_flag : Limits → OwnLinesView → RegionView → Option Code
-containment_flag limits own first = size_flag limits first.names (lines_with own first)
+abbrev pub containment_flag : OwnLinesView → RegionView → Option Code
+containment_flag own first = size_flag first.names (lines_with own first)
 
 -- the `contain` line, in a question with the own lines `own` and the first region `first`
-abbrev pub contain_line : Limits → OwnLinesView → RegionView → Form (Unit {0})
-contain_line limits own first = Then (Take (flagged_word (codes "contain") (containment_flag limits own first))) (λ u. line_end)
+abbrev pub contain_line : OwnLinesView → RegionView → Form (Unit {0})
+contain_line own first = Then (Take (flagged_word (codes "contain") (containment_flag own first))) (λ u. line_end)
 
 -- the names of the second region's auxiliaries
 abbrev pub auxiliaries_of : Regions → Environment

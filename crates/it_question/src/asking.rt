@@ -16,7 +16,7 @@ ghost use Rattle.it_question.specs.Cursors.{Parses, ParsesBy};
 ghost use Rattle.it_question.specs.QuestionForms as forms;
 ghost use Rattle.it_question.specs.Questions.{verb_view, Prove, Eliminate};
 ghost use Rattle.it_question.specs.QuestionForms.{region_flag};
-ghost use Rattle.it_question.specs.QuestionLimits.{most_names, usual};
+ghost use Rattle.it_question.specs.QuestionLimits.{most_names};
 ghost use Rattle.it_question.specs.ReaderSteps.{flag_if_large};
 
 use crate::bodies::Body;
@@ -25,10 +25,10 @@ use crate::names::{names_line, names_to_end};
 use crate::own::{MOST_LINES, own_lines};
 use crate::parts::relation;
 use crate::rates::rates;
-use crate::regions::containment;
-use crate::sizes::{Limits, MOST_NAMES};
+use crate::regions::{MOST_NAMES, containment};
+use crate::sizes::FileLimits;
 use crate::sorts::NameSort;
-use crate::tables::{elimination_is_large, proof_is_large};
+use crate::tables::{elimination_is_beyond, proof_is_beyond};
 use crate::types::{OwnLines, Verb};
 use crate::words::{ELIMINATE, PROVE, RATES, REGION, VARS, after_word};
 use it_syntax::Names;
@@ -76,7 +76,7 @@ fn verb(
     cursor: &mut Cursor<'_>,
     names: &Names,
     lines: &OwnLines,
-    limits: Limits,
+    limits: FileLimits,
 ) -> Result<Verb, Stop>
     requires space { IsSpace (space_of names.now) }
     requires lines { AreLinesOver names.now lines.now }
@@ -85,13 +85,13 @@ fn verb(
     match cursor.front() {
         Some((Piece::Word(word), after)) => {
             if word == PROVE {
-                if proof_is_large(alloc, names, lines, limits)? {
+                if proof_is_beyond(alloc, names, lines, limits)? {
                     return Err(Stop::Fault(Code::Large));
                 }
                 *cursor = after;
                 proof(alloc, cursor, names)
             } else if word == ELIMINATE {
-                if elimination_is_large(alloc, names, lines, limits)? {
+                if elimination_is_beyond(alloc, names, lines, limits)? {
                     return Err(Stop::Fault(Code::Large));
                 }
                 *cursor = after;
@@ -101,7 +101,7 @@ fn verb(
                     return Err(Stop::Fault(Code::Large));
                 }
                 *cursor = after;
-                containment(alloc, cursor, names, lines, limits)
+                containment(alloc, cursor, names, lines)
             } else {
                 Err(Stop::Fault(Code::Word))
             }
@@ -112,7 +112,7 @@ fn verb(
 
 /// A question, after its `vars`.
 #[tactic(auto, unfolding(crate::specs::QuestionForms::question, it_forms::specs::FormReading::read))]
-fn question(alloc: Global, cursor: &mut Cursor<'_>, limits: Limits) -> Result<Body, Stop>
+fn question(alloc: Global, cursor: &mut Cursor<'_>, limits: FileLimits) -> Result<Body, Stop>
     requires { limits.variables ≤ most_variables }
     ensures { ParsesBy body_view result (forms.question limits) cursor.old cursor.new }
 {
@@ -153,7 +153,7 @@ fn add(bodies: &mut Vec<Body>, next: Body) -> Result<(), Stop>
 }
 
 /// The questions that stand there, at most `MOST_QUESTIONS`.
-fn questions(alloc: Global, cursor: &mut Cursor<'_>, limits: Limits) -> Result<Vec<Body>, Stop>
+fn questions(alloc: Global, cursor: &mut Cursor<'_>, limits: FileLimits) -> Result<Vec<Body>, Stop>
     requires { limits.variables ≤ most_variables }
     ensures { ParsesBy (λ x. map body_view x.items) result (forms.more_questions limits []) cursor.old cursor.new }
 {
@@ -171,20 +171,9 @@ fn questions(alloc: Global, cursor: &mut Cursor<'_>, limits: Limits) -> Result<V
     Ok(found)
 }
 
-/// The questions of a file, up to its end.
-pub fn bodies(alloc: Global, cursor: &mut Cursor<'_>) -> Result<Vec<Body>, Stop>
-    ensures { ParsesBy (λ x. map body_view x.items) result (forms.file usual) cursor.old cursor.new }
-{
-    bodies_within(alloc, cursor, Limits::usual())
-}
-
-/// The questions of a file whose questions have these limits, up to its end.
+/// The questions of a file with these limits, up to its end.
 #[tactic(auto, unfolding(crate::specs::QuestionForms::file, it_forms::specs::FormReading::read))]
-pub fn bodies_within(
-    alloc: Global,
-    cursor: &mut Cursor<'_>,
-    limits: Limits,
-) -> Result<Vec<Body>, Stop>
+pub fn bodies(alloc: Global, cursor: &mut Cursor<'_>, limits: FileLimits) -> Result<Vec<Body>, Stop>
     requires { limits.variables ≤ most_variables }
     ensures { ParsesBy (λ x. map body_view x.items) result (forms.file limits) cursor.old cursor.new }
 {

@@ -2,19 +2,18 @@
 ghost use Rattle.std.specs.Prelude.{◌≤◌, ◌^◌, length, map, All, IfOk, IfErr};
 ghost use Rattle.it_question.specs.Cursors.{line_view, letters_left};
 ghost use Rattle.it_space.specs.Spaces.{most_variables};
-ghost use Rattle.it_question.specs.Files.{IsFile, IsFileWithin, IsFirstFaultWithin, IsFirstFileFault};
+ghost use Rattle.it_question.specs.Files.{IsFileWithin, IsFirstFaultWithin};
 ghost use Rattle.it_question.specs.WholeFiles.{place_of};
 ghost use Rattle.it_question.specs.Stops.{IsLeft, IfFault, IsFaultAt, IsStopAt};
-ghost use Rattle.it_question.specs.Limits.{IsQuestion, IsQuestionWithin};
-ghost use Rattle.it_question.specs.QuestionLimits.{usual};
+ghost use Rattle.it_question.specs.Limits.{IsQuestionWithin};
 ghost use Rattle.it_question.specs.Lines.{letters_of_lines};
 ghost use Rattle.it_syntax.specs.Lines.{most_text_bytes};
 
-use crate::asking::bodies_within;
+use crate::asking::bodies;
 use crate::cursor::{Cursor, Line};
 use crate::lines::file_lines;
 use crate::places::{count, letters_left, place};
-use crate::sizes::Limits;
+use crate::sizes::FileLimits;
 use crate::texts::with_texts;
 use crate::types::{FileFault, Question};
 use it_syntax::rest::Stop;
@@ -45,7 +44,7 @@ pub fn stop_fault(lines: &[Line], cursor: Cursor<'_>, stop: Stop) -> FileFault
     }
 }
 
-/// The questions that a file asks, in order. A file has lines that end with a line feed, which the last may lack; a carriage
+/// The questions that a file asks, in order, within these limits. A file has lines that end with a line feed, which the last may lack; a carriage
 /// return directly before a line feed or the file's end counts for nothing, `#` begins a comment up to the line's end, a
 /// tab is read as a space, and lines without tokens are passed over.
 ///
@@ -53,24 +52,12 @@ pub fn stop_fault(lines: &[Line], cursor: Cursor<'_>, stop: Stop) -> FileFault
 /// a number above 2^64 - 1, `Many` at a word of more than 16 bytes and at the first token past a limit, `Word` at what
 /// no rule allows there, `Name` at a name of which none of that kind is declared, `Twice` at a new name that is taken or a
 /// name that is named again, `Unfinished` at the file's end inside a question. A line's end has the column after its last
-/// token, and the file's end the line after the last one and column 1.
-pub fn questions(alloc: Global, bytes: &[u8]) -> Result<Vec<Question>, FileFault>
-    requires { length bytes.now ≤ most_text_bytes }
-    ensures read { IfOk result (λ qs. IsFile bytes.now qs.items) }
-    ensures limits { IfOk result (λ qs. All (λ q. IsQuestion q.body) qs.items) }
-    ensures usual { IfOk result (λ qs. All (λ q. IsQuestionWithin usual q.body) qs.items) }
-    ensures fault { IfErr result (IsFirstFileFault bytes.now) }
-{
-    questions_within(alloc, bytes, Limits::usual())
-}
-
-/// The questions of a file whose questions have these limits, in order, and the faults: as `questions`, which has the usual
-/// limits. `Many` is at a name past `limits.variables`, and `Large` at the word of a verb whose question's table has more than
-/// `limits.entries` entries, and at the first `region` of a question of more than ten names.
-pub fn questions_within(
+/// token, and the file's end the line after the last one and column 1. `Large` is at the word of a verb whose question's table is
+/// too large, unless `limits.large_tables`, and at the first `region` of a question with more names than a containment may have.
+pub fn questions(
     alloc: Global,
     bytes: &[u8],
-    limits: Limits,
+    limits: FileLimits,
 ) -> Result<Vec<Question>, FileFault>
     requires short { length bytes.now ≤ most_text_bytes }
     requires names { limits.variables ≤ most_variables }
@@ -80,7 +67,7 @@ pub fn questions_within(
 {
     let lines = file_lines(alloc, bytes)?;
     let mut cursor = Cursor::at(lines.as_slice());
-    match bodies_within(alloc, &mut cursor, limits) {
+    match bodies(alloc, &mut cursor, limits) {
         Ok(bodies) => {
             // named before it is answered, so that the contract of the call stands at the answer
             let questions = with_texts(alloc, lines, bodies)?;

@@ -25,11 +25,11 @@ mod tries;
 pub mod types;
 mod words;
 
-pub use files::{questions, questions_within};
+pub use files::questions;
 pub use laws::{
     file_has_one, file_is_one, questions_stand_alone, text_reads_back, texts_are_ascii,
 };
 pub use plain::first_line;
-pub use sizes::Limits;
+pub use sizes::FileLimits;
 pub use tables::{line_constraints, region_constraints};
 pub use types::{FileFault, OwnLines, Question, Region, Verb};

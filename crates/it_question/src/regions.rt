@@ -15,7 +15,6 @@ ghost use Rattle.it_question.specs.Sorts.{AreQuestionNames};
 use crate::cursor::Cursor;
 use crate::names::names_line;
 use crate::own::{MOST_LINES, own_lines};
-use crate::sizes::{Limits, MOST_NAMES};
 use crate::sorts::NameSort;
 use crate::tables::containment_is_large;
 use crate::tries::{Regions, tries};
@@ -25,6 +24,10 @@ use it_syntax::Names;
 use it_syntax::rest::Stop;
 use it_syntax::types::Code;
 use std::alloc::Global;
+
+/// The most names of variables of a question where nothing else is said, and of a containment in any file, a region's auxiliaries
+/// among them.
+pub const MOST_NAMES: usize = 10;
 
 /// The most auxiliaries of a region.
 const MOST_AUXILIARIES: usize = 4;
@@ -93,18 +96,17 @@ fn contain(
     names: &Names,
     lines: &OwnLines,
     first: &Region,
-    limits: Limits,
 ) -> Result<(), Stop>
     requires space { IsSpace (space_of names.now) }
     requires lines { AreLinesOver names.now lines.now }
     requires region { IsRegionOf names.now first.now }
     requires few_givens { length lines.now.givens + length first.now.lines.givens ≤ most_lines }
     requires few_rows { length lines.now.rows + length first.now.lines.rows ≤ most_lines }
-    ensures { Parses result (contain_line limits lines.now first.now) cursor.old cursor.new }
+    ensures { Parses result (contain_line lines.now first.now) cursor.old cursor.new }
 {
     match after_word(*cursor, CONTAIN) {
         Some(after) => {
-            if containment_is_large(alloc, names, lines, first, limits)? {
+            if containment_is_large(alloc, names, lines, first)? {
                 return Err(Stop::Fault(Code::Large));
             }
             *cursor = after;
@@ -121,11 +123,10 @@ pub fn containment(
     cursor: &mut Cursor<'_>,
     names: &Names,
     lines: &OwnLines,
-    limits: Limits,
 ) -> Result<Verb, Stop>
     requires names { AreQuestionNames most_names names.now }
     requires lines { AreLinesOver names.now lines.now }
-    ensures { ParsesBy verb_view result (forms.containment limits lines.now names.now) cursor.old cursor.new }
+    ensures { ParsesBy verb_view result (forms.containment lines.now names.now) cursor.old cursor.new }
 {
     let most_givens = lines.givens_left(MOST_LINES);
     let most_rows = lines.rows_left(MOST_LINES);
@@ -140,7 +141,7 @@ pub fn containment(
         second: second.names(),
     };
     let tries = tries(alloc, cursor, regions, second.auxiliaries())?;
-    contain(alloc, cursor, names, lines, &first, limits)?;
+    contain(alloc, cursor, names, lines, &first)?;
     Ok(Verb::Contain {
         first,
         second,

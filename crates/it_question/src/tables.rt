@@ -1,6 +1,5 @@
 //! The constraints of a question's lines, and whether the table of the problem that they pose is too large.
-ghost use Rattle.std.specs.Bool.{OnTrue};
-ghost use Rattle.std.specs.Prelude.{◌≡◌, ◌+◌, ◌≤◌, length, All, IfOk, IfErr};
+ghost use Rattle.std.specs.Prelude.{◌≡◌, ◌+◌, ◌≤◌, nat_lt, length, All, IfOk, IfErr};
 ghost use Rattle.it_problems.specs.Problems.{IsProblem};
 ghost use Rattle.it_space.specs.Spaces.{IsSpace};
 ghost use Rattle.it_closure.specs.Sizes.{table_size};
@@ -10,13 +9,13 @@ ghost use Rattle.it_demand.specs.Origins.{AreStated};
 ghost use Rattle.it_demand.specs.QuestionSpaces.{space_of};
 ghost use Rattle.it_question.specs.Limits.{AreLinesOver, IsRegionOf};
 ghost use Rattle.it_question.specs.QuestionLimits.{most_lines};
-ghost use Rattle.it_question.specs.ReaderSteps.{AreAllWithin, containment_flag, flag_if_large};
+ghost use Rattle.it_question.specs.ReaderSteps.{containment_flag, flag_if_large};
 ghost use Rattle.it_question.specs.LineOrigins.{line_origins};
 ghost use Rattle.it_question.specs.LineDemands.{line_demands};
 ghost use Rattle.it_question.specs.ProblemLines.{givens_alone, lines_with};
-ghost use Rattle.it_question.specs.TableSizes.{is_beyond, size_flag};
+ghost use Rattle.it_question.specs.TableSizes.{most_entries, size_flag, table_flag};
 
-use crate::sizes::{Limits, MOST_ENTRIES};
+use crate::sizes::FileLimits;
 use crate::types::{OwnLines, Region};
 use it_closure::size;
 use it_demand::{given_constraints, row_constraints};
@@ -26,7 +25,10 @@ use it_syntax::Names;
 use it_syntax::rest::Stop;
 use std::alloc::{AllocError, Global};
 
-/// With at most this many variables no table has more than `MOST_ENTRIES` entries, within the limits of a question's lines.
+/// The most entries of the table of a question.
+pub const MOST_ENTRIES: u64 = 4000000;
+
+/// With at most this many variables no table has more entries, within the limits of a question's lines.
 const MOST_SMALL: u8 = 9;
 
 /// The constraints of a question's own lines, those of the `given` lines first.
@@ -79,71 +81,82 @@ pub fn region_constraints(
     Ok(constraints)
 }
 
-/// Whether each table of a question of this space is within the limits, whatever its lines are.
-fn is_small(space: Space, limits: Limits) -> bool
-    ensures { OnTrue result (AreAllWithin limits space.variables) }
-{
-    match limits.entries {
-        Some(most) => space.variables <= MOST_SMALL && MOST_ENTRIES <= most,
-        None => true,
-    }
-}
-
 /// Whether the table of the problem of `space` and `constraints` is too large.
-fn is_large(
-    alloc: Global,
-    space: Space,
-    constraints: Vec<Constraint>,
-    limits: Limits,
-) -> Result<bool, Stop>
+fn is_large(alloc: Global, space: Space, constraints: Vec<Constraint>) -> Result<bool, Stop>
     requires { IsProblem (record { space = space; constraints = constraints.items }) }
-    ensures large { IfOk result (λ large. large ≡ is_beyond limits (table_size (record { space = space; constraints = constraints.items }))) }
+    ensures large { IfOk result (λ large. large ≡ nat_lt most_entries (table_size (record { space = space; constraints = constraints.items }))) }
     ensures memory { IfErr result (λ e. e ≡ Memory) }
 {
     let size = size(alloc, &Problem { space, constraints })?;
-    Ok(limits.is_beyond(size))
+    Ok(MOST_ENTRIES < size)
 }
 
 /// Whether the table of a question that asks for a proof is too large.
-pub fn proof_is_large(
-    alloc: Global,
-    names: &Names,
-    lines: &OwnLines,
-    limits: Limits,
-) -> Result<bool, Stop>
+fn proof_is_large(alloc: Global, names: &Names, lines: &OwnLines) -> Result<bool, Stop>
     requires space { IsSpace (space_of names.now) }
     requires lines { AreLinesOver names.now lines.now }
-    ensures large { IfOk result (λ large. size_flag limits names.now lines.now ≡ flag_if_large large) }
+    ensures large { IfOk result (λ large. size_flag names.now lines.now ≡ flag_if_large large) }
     ensures memory { IfErr result (λ e. e ≡ Memory) }
 {
     let space = names.space();
-    if is_small(space, limits) {
+    if space.variables <= MOST_SMALL {
         return Ok(false);
     }
     let constraints = line_constraints(alloc, lines, space)?;
-    let large = is_large(alloc, space, constraints, limits)?;
+    let large = is_large(alloc, space, constraints)?;
     Ok(large)
 }
 
 /// Whether the table of a question that asks for an elimination is too large; its `row` lines are no part of it.
-pub fn elimination_is_large(
-    alloc: Global,
-    names: &Names,
-    lines: &OwnLines,
-    limits: Limits,
-) -> Result<bool, Stop>
+fn elimination_is_large(alloc: Global, names: &Names, lines: &OwnLines) -> Result<bool, Stop>
     requires space { IsSpace (space_of names.now) }
     requires lines { AreLinesOver names.now lines.now }
-    ensures large { IfOk result (λ large. size_flag limits names.now (givens_alone lines.now) ≡ flag_if_large large) }
+    ensures large { IfOk result (λ large. size_flag names.now (givens_alone lines.now) ≡ flag_if_large large) }
     ensures memory { IfErr result (λ e. e ≡ Memory) }
 {
     let space = names.space();
-    if is_small(space, limits) {
+    if space.variables <= MOST_SMALL {
         return Ok(false);
     }
     let constraints = given_constraints(alloc, lines.givens(), 1, space)?;
-    let large = is_large(alloc, space, constraints, limits)?;
+    let large = is_large(alloc, space, constraints)?;
     Ok(large)
+}
+
+/// Whether the table of a question that asks for a proof is larger than these limits allow.
+pub fn proof_is_beyond(
+    alloc: Global,
+    names: &Names,
+    lines: &OwnLines,
+    limits: FileLimits,
+) -> Result<bool, Stop>
+    requires space { IsSpace (space_of names.now) }
+    requires lines { AreLinesOver names.now lines.now }
+    ensures large { IfOk result (λ large. table_flag limits names.now lines.now ≡ flag_if_large large) }
+    ensures memory { IfErr result (λ e. e ≡ Memory) }
+{
+    if limits.large_tables {
+        return Ok(false);
+    }
+    proof_is_large(alloc, names, lines)
+}
+
+/// Whether the table of a question that asks for an elimination is larger than these limits allow.
+pub fn elimination_is_beyond(
+    alloc: Global,
+    names: &Names,
+    lines: &OwnLines,
+    limits: FileLimits,
+) -> Result<bool, Stop>
+    requires space { IsSpace (space_of names.now) }
+    requires lines { AreLinesOver names.now lines.now }
+    ensures large { IfOk result (λ large. table_flag limits names.now (givens_alone lines.now) ≡ flag_if_large large) }
+    ensures memory { IfErr result (λ e. e ≡ Memory) }
+{
+    if limits.large_tables {
+        return Ok(false);
+    }
+    elimination_is_large(alloc, names, lines)
 }
 
 /// Whether the table of a question about a containment, with the first region `first`, is too large.
@@ -152,21 +165,20 @@ pub fn containment_is_large(
     names: &Names,
     lines: &OwnLines,
     first: &Region,
-    limits: Limits,
 ) -> Result<bool, Stop>
     requires space { IsSpace (space_of names.now) }
     requires lines { AreLinesOver names.now lines.now }
     requires region { IsRegionOf names.now first.now }
     requires few_givens { length lines.now.givens + length first.now.lines.givens ≤ most_lines }
     requires few_rows { length lines.now.rows + length first.now.lines.rows ≤ most_lines }
-    ensures large { IfOk result (λ large. containment_flag limits lines.now first.now ≡ flag_if_large large) }
+    ensures large { IfOk result (λ large. containment_flag lines.now first.now ≡ flag_if_large large) }
     ensures memory { IfErr result (λ e. e ≡ Memory) }
 {
     let space = first.space();
-    if is_small(space, limits) {
+    if space.variables <= MOST_SMALL {
         return Ok(false);
     }
     let constraints = region_constraints(alloc, lines, first, space)?;
-    let large = is_large(alloc, space, constraints, limits)?;
+    let large = is_large(alloc, space, constraints)?;
     Ok(large)
 }

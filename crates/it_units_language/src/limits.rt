@@ -2,7 +2,7 @@
 
 use crate::fixtures::LONGEST_FILE;
 use it_question::types::FileFault;
-use it_question::{Limits, questions_within};
+use it_question::{FileLimits, questions};
 use it_syntax::types::Code;
 use std::alloc::Global;
 
@@ -20,7 +20,7 @@ const ELEVEN_IN_REGIONS: &[u8] =
     b"vars A, B, C, D, E, F, G, J, K, L, M\nrates R\nregion\nregion\ncontain\n";
 
 /// Whether a file asks one question, of so many variables.
-fn asks_of(alloc: Global, file: &[u8], limits: Limits, variables: u8) -> bool {
+fn asks_of(alloc: Global, file: &[u8], limits: FileLimits, variables: u8) -> bool {
     if file.len() > LONGEST_FILE || limits.variables > MOST_VARIABLES {
         return false;
     }
@@ -34,7 +34,7 @@ fn asks_of(alloc: Global, file: &[u8], limits: Limits, variables: u8) -> bool {
 fn stops_at(
     alloc: Global,
     file: &[u8],
-    limits: Limits,
+    limits: FileLimits,
     line: u32,
     column: u32,
     code: Code,
@@ -50,16 +50,16 @@ fn stops_at(
 
 /// Whether twelve names are read with room for as many and for more, and refused at the first one past fewer.
 fn names_count(alloc: Global) -> bool {
-    asks_of(alloc, TWELVE, Limits::wide(12), 12)
-        && asks_of(alloc, TWELVE, Limits::wide(16), 12)
-        && stops_at(alloc, TWELVE, Limits::wide(11), 1, 39, Code::Many)
-        && stops_at(alloc, TWELVE, Limits::usual(), 1, 36, Code::Many)
+    asks_of(alloc, TWELVE, FileLimits::wide(12), 12)
+        && asks_of(alloc, TWELVE, FileLimits::wide(16), 12)
+        && stops_at(alloc, TWELVE, FileLimits::wide(11), 1, 39, Code::Many)
+        && stops_at(alloc, TWELVE, FileLimits::usual(), 1, 36, Code::Many)
 }
 
 /// Whether a large table is refused at the verb by the usual limits alone.
 fn entries_count(alloc: Global) -> bool {
-    stops_at(alloc, TEN, Limits::usual(), 2, 1, Code::Large)
-        && asks_of(alloc, TEN, Limits::wide(10), 10)
+    stops_at(alloc, TEN, FileLimits::usual(), 2, 1, Code::Large)
+        && asks_of(alloc, TEN, FileLimits::wide(10), 10)
 }
 
 #[test]
@@ -74,5 +74,5 @@ fn wide_files_bound_no_table(rt: HostRuntime) {
 
 #[test]
 fn containments_have_ten_names_in_any_file(rt: HostRuntime) {
-    assert!(rt; stops_at(rt.alloc(), ELEVEN_IN_REGIONS, Limits::wide(16), 3, 1, Code::Large));
+    assert!(rt; stops_at(rt.alloc(), ELEVEN_IN_REGIONS, FileLimits::wide(16), 3, 1, Code::Large));
 }

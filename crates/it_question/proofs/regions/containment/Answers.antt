@@ -25,7 +25,7 @@ with_names P q a b s t n m e g h p = subst (λ (k : ℕ). P (tried q b t k)) h
 pub returns-in_err-tries : goal.returns-in_err-tries
 returns-in_err-tries c =
     let p = err_from_is_err_and c.from_residual-in_err-tries.result c.from_residual-in_err-tries.ensures.1 in
-    rw (p.1, p.2) (tries_stop c.args.limits c.args.lines.now c.args.names.now (letters_left c.args.cursor.now)
+    rw (p.1, p.2) (tries_stop c.args.lines.now c.args.names.now (letters_left c.args.cursor.now)
     (letters_left c.region.new.cursor) (letters_left c.word.new.cursor) (letters_left c.region-2.new.cursor)
     c.in_ok-first.first c.in_ok-second.second c.givens_left-most_givens.result c.rows_left-most_rows.result
     c.givens_left-givens.result c.rows_left-rows.result
@@ -46,7 +46,7 @@ returns-in_err-tries c =
 pub returns-in_err-contain : goal.returns-in_err-contain
 returns-in_err-contain c =
     let p = err_from_is_err_and c.from_residual-in_err-contain.result c.from_residual-in_err-contain.ensures.1 in
-    rw (p.1, p.2) (contain_stops c.args.limits c.args.lines.now c.args.names.now (letters_left c.args.cursor.now)
+    rw (p.1, p.2) (contain_stops c.args.lines.now c.args.names.now (letters_left c.args.cursor.now)
     (letters_left c.region.new.cursor) (letters_left c.word.new.cursor) (letters_left c.region-2.new.cursor)
     c.in_ok-first.first c.in_ok-second.second c.givens_left-most_givens.result c.rows_left-most_rows.result
     c.givens_left-givens.result c.rows_left-rows.result
@@ -66,7 +66,7 @@ returns-in_err-contain c =
     c.in_err-contain.field-0.0 (letters_left c.contain.new.cursor) c.in_err-contain.ensures)
 
 pub returns : goal.returns
-returns c = contain_gives c.args.limits c.args.lines.now c.args.names.now (letters_left c.args.cursor.now)
+returns c = contain_gives c.args.lines.now c.args.names.now (letters_left c.args.cursor.now)
     (letters_left c.region.new.cursor) (letters_left c.word.new.cursor) (letters_left c.region-2.new.cursor)
     c.in_ok-first.first c.in_ok-second.second c.givens_left-most_givens.result c.rows_left-most_rows.result
     c.givens_left-givens.result c.rows_left-rows.result

@@ -1,12 +1,10 @@
-use Rattle.std.proofs.Common.{◌++◌, sym, subst, arith, length, length-append}
+use Rattle.std.proofs.Common.{◌++◌, ap, sym, subst, arith, length, length-append}
 use Rattle.std.specs.Prelude.{All}
 use Rattle.it_space.specs.declared.spaces.Space.{Space}
 use Rattle.it_space.specs.Spaces.{IsSpace}
 use Rattle.it_syntax.specs.Givens.{IsGivenOf, IsRelationOf}
 use Rattle.it_question.specs.ProblemLines.{lines_with}
 use Rattle.std.proofs.lemmas.List.Elements.{All-append}
-use Rattle.std.proofs.lemmas.Bool.{OnTrue_at}
-use Rattle.it_question.specs.ReaderSteps.{AreAllWithin}
 use Rattle.it_question.proofs.TableLemmas.{region_space, region_givens, region_rows, few_variables, lines_problem, space_flag}
 use Rattle.it_question.proofs.tables.containment_is_large.Goals as goal
 
@@ -35,19 +33,18 @@ is_large-requires c =
     c.in_ok-constraints.ensures
 
 pub returns-clause-large : goal.returns-clause-large
-returns-clause-large c = space_flag c.args.limits c.space-space.result c.args.first.now.names
+returns-clause-large c = space_flag c.space-space.result c.args.first.now.names
     (lines_with c.args.lines.now c.args.first.now) c.in_ok-constraints.constraints.items c.in_ok-large.large
     c.space-space.ensures.counts c.in_ok-constraints.ensures c.in_ok-large.ensures.large
 
-pub returns-then-is_small-clause-large : goal.returns-then-is_small-clause-large
-returns-then-is_small-clause-large c =
+pub returns-then-space-le-MOST_SMALL-clause-large : goal.returns-then-space-le-MOST_SMALL-clause-large
+returns-then-space-le-MOST_SMALL-clause-large c =
     let own = c.args.lines.now in
     let first = c.args.first.now in
     let space = region_space c.args.names.now first c.requires.space c.requires.region in
     let givens = region_givens c.args.names.now first own.givens c.requires.region c.requires.lines.givens in
-    few_variables c.args.limits first.names (lines_with own first)
-    (subst (λ (s : Space). AreAllWithin c.args.limits s.variables) c.space-space.ensures.counts
-    (OnTrue_at c.if-is_small.true c.is_small.ensures)) space.few_rates
+    few_variables first.names (lines_with own first)
+    (omega (arith, ap (λ (s : Space). s.variables) c.space-space.ensures.counts, c.if-space-le-MOST_SMALL.true)) space.few_rates
     (All-append (IsGivenOf (length first.names.variables)) own.givens first.lines.givens givens c.requires.region.lines.givens)
     (omega (
       arith,

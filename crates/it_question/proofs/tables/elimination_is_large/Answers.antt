@@ -1,11 +1,9 @@
-use Rattle.std.proofs.Common.{map, sym, subst, arith}
+use Rattle.std.proofs.Common.{ap, map, sym, subst, arith}
 use Rattle.std.specs.Prelude.{All}
 use Rattle.it_space.specs.declared.spaces.Space.{Space}
 use Rattle.it_space.specs.Spaces.{IsSpace}
 use Rattle.it_syntax.specs.Givens.{IsGivenOf, given_view}
 use Rattle.it_question.specs.ProblemLines.{givens_alone}
-use Rattle.std.proofs.lemmas.Bool.{OnTrue_at}
-use Rattle.it_question.specs.ReaderSteps.{AreAllWithin}
 use Rattle.it_question.proofs.TableLemmas.{few_variables, givens_stated, lines_problem, space_flag}
 use Rattle.it_question.proofs.tables.elimination_is_large.Goals as goal
 
@@ -19,14 +17,13 @@ is_large-requires c =
     c.args.lines.now.givens c.in_ok-constraints.constraints.items c.givens.ensures.value c.in_ok-constraints.ensures)
 
 pub returns-clause-large : goal.returns-clause-large
-returns-clause-large c = space_flag c.args.limits c.space-space.result c.args.names.now
+returns-clause-large c = space_flag c.space-space.result c.args.names.now
     (givens_alone c.args.lines.now) c.in_ok-constraints.constraints.items c.in_ok-large.large c.space-space.ensures.counts
     (givens_stated c.space-space.result (map given_view c.givens.result.now) c.args.lines.now.givens c.in_ok-constraints.constraints.items
     c.givens.ensures.value c.in_ok-constraints.ensures) c.in_ok-large.ensures.large
 
-pub returns-then-is_small-clause-large : goal.returns-then-is_small-clause-large
-returns-then-is_small-clause-large c =
-    few_variables c.args.limits c.args.names.now (givens_alone c.args.lines.now)
-    (subst (λ (s : Space). AreAllWithin c.args.limits s.variables) c.space-space.ensures.counts
-    (OnTrue_at c.if-is_small.true c.is_small.ensures))
+pub returns-then-space-le-MOST_SMALL-clause-large : goal.returns-then-space-le-MOST_SMALL-clause-large
+returns-then-space-le-MOST_SMALL-clause-large c =
+    few_variables c.args.names.now (givens_alone c.args.lines.now)
+    (omega (arith, ap (λ (s : Space). s.variables) c.space-space.ensures.counts, c.if-space-le-MOST_SMALL.true))
     c.requires.space.few_rates c.requires.lines.givens c.requires.lines.few_givens (omega arith)

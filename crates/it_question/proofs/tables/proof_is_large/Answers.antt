@@ -1,10 +1,8 @@
-use Rattle.std.proofs.Common.{sym, subst, arith}
+use Rattle.std.proofs.Common.{ap, sym, subst, arith}
 use Rattle.std.specs.Prelude.{All}
 use Rattle.it_space.specs.declared.spaces.Space.{Space}
 use Rattle.it_space.specs.Spaces.{IsSpace}
 use Rattle.it_syntax.specs.Givens.{IsGivenOf}
-use Rattle.std.proofs.lemmas.Bool.{OnTrue_at}
-use Rattle.it_question.specs.ReaderSteps.{AreAllWithin}
 use Rattle.it_question.proofs.TableLemmas.{few_variables, lines_problem, space_flag}
 use Rattle.it_question.proofs.tables.proof_is_large.Goals as goal
 
@@ -17,13 +15,12 @@ is_large-requires c =
     (omega (arith, c.requires.lines.few_givens)) (omega (arith, c.requires.lines.few_rows)) c.in_ok-constraints.ensures
 
 pub returns-clause-large : goal.returns-clause-large
-returns-clause-large c = space_flag c.args.limits c.space-space.result c.args.names.now
+returns-clause-large c = space_flag c.space-space.result c.args.names.now
     c.args.lines.now c.in_ok-constraints.constraints.items c.in_ok-large.large c.space-space.ensures.counts
     c.in_ok-constraints.ensures c.in_ok-large.ensures.large
 
-pub returns-then-is_small-clause-large : goal.returns-then-is_small-clause-large
-returns-then-is_small-clause-large c =
-    few_variables c.args.limits c.args.names.now c.args.lines.now
-    (subst (λ (s : Space). AreAllWithin c.args.limits s.variables) c.space-space.ensures.counts
-    (OnTrue_at c.if-is_small.true c.is_small.ensures))
+pub returns-then-space-le-MOST_SMALL-clause-large : goal.returns-then-space-le-MOST_SMALL-clause-large
+returns-then-space-le-MOST_SMALL-clause-large c =
+    few_variables c.args.names.now c.args.lines.now
+    (omega (arith, ap (λ (s : Space). s.variables) c.space-space.ensures.counts, c.if-space-le-MOST_SMALL.true))
     c.requires.space.few_rates c.requires.lines.givens c.requires.lines.few_givens c.requires.lines.few_rows
