@@ -35,6 +35,7 @@ use Rattle.it_forms.proofs.LetterLemmas.{letters_append, letters_cleaned}
 use Rattle.it_question.specs.LineTexts.{without_leading, unless_blank, without_trailing, text_of_lines}
 use Rattle.it_question.specs.Texts.{question_line_count, with_texts}
 use Rattle.it_space.specs.Spaces.{most_rates}
+use Rattle.it_question.specs.QuestionLimits.{names_within}
 
 -- ---- bytes of tokens
 
@@ -217,8 +218,8 @@ no_names_ascii = record { variables = All-nil IsAscii; rates = All-nil IsAscii }
 names_ascii : (limits : FileLimits) (q : BodyView) (m k : FlaggedLetters) → Spells (question limits) q m k → AsciiWords (letters m) → AsciiNames q.names
 unfolding question Spells
 names_ascii limits q m k s h =
-    let first = new_names_ascii Variable limits.variables no_names s.0 m s.1 s.2 no_names_ascii h in
-    subst (λ (x : BodyView). AsciiNames x.names) s.3.3.3.3.0 (names_line_ascii Rate most_rates (codes "rates") s.0 s.3.0 s.1 s.3.1 s.3.2 first (words_after (new_names Variable limits.variables no_names) s.0 m s.1 s.2 h))
+    let first = new_names_ascii Variable (names_within limits) no_names s.0 m s.1 s.2 no_names_ascii h in
+    subst (λ (x : BodyView). AsciiNames x.names) s.3.3.3.3.0 (names_line_ascii Rate most_rates (codes "rates") s.0 s.3.0 s.1 s.3.1 s.3.2 first (words_after (new_names Variable (names_within limits) no_names) s.0 m s.1 s.2 h))
 
 -- ---- files
 

@@ -11,7 +11,6 @@ use Rattle.it_question.specs.Limits.{IsQuestion, IsQuestionWithin}
 use Rattle.it_question.specs.Lines.{LineView, AreLinesOf, letters_of_lines}
 use Rattle.it_question.specs.QuestionForms.{file}
 use Rattle.it_question.specs.QuestionLimits.{usual}
-use Rattle.it_space.specs.Spaces.{most_variables}
 use Rattle.it_question.specs.Questions.{BodyView, QuestionView}
 use Rattle.it_question.specs.TableSizes.{HasSmallTable}
 use Rattle.it_question.specs.Texts.{question_line_count, with_texts}
@@ -39,10 +38,10 @@ from_map P f (x ∷ xs) h = All-cons (λ y. P (f y)) x xs (All-head P (f x) (map
 all_limited : (limits : FileLimits) (ls r : List Letter) (ys : List BodyView) → read (file limits) ls ≡ Ok (ys, r) → All (IsQuestionWithin limits) ys
 all_limited limits ls r ys e = All-weaker (IsRead limits) (IsQuestionWithin limits) (λ q h. h.limits) ys (file_limited limits ls r ys e)
 
-pub bodies_limited : (limits : FileLimits) (bodies : List Body) (lines : List LineView) (r : List Letter) → limits.variables ≤ most_variables
+pub bodies_limited : (limits : FileLimits) (bodies : List Body) (lines : List LineView) (r : List Letter)
     → read (file limits) (letters_of_lines lines) ≡ Ok (map body_view bodies, r) → All (λ b. IsQuestion (body_view b)) bodies
-bodies_limited limits bodies lines r few e = from_map IsQuestion body_view bodies (All-weaker (IsQuestionWithin limits) IsQuestion
-    (λ q h. within_any limits q few h) (map body_view bodies) (all_limited limits (letters_of_lines lines) r (map body_view bodies) e))
+bodies_limited limits bodies lines r e = from_map IsQuestion body_view bodies (All-weaker (IsQuestionWithin limits) IsQuestion
+    (λ q h. within_any limits q h) (map body_view bodies) (all_limited limits (letters_of_lines lines) r (map body_view bodies) e))
 
 pub questions_limited : (limits : FileLimits) (qs : List QuestionView) (lines : List LineView) (ys : List BodyView) (r : List Letter)
     → read (file limits) (letters_of_lines lines) ≡ Ok (ys, r) → qs ≡ with_texts lines ys
@@ -62,10 +61,10 @@ file_is_read limits bytes qs asked =
     (asked_is_read (file limits) _ (file_has limits) with_texts bytes qs asked)))
 
 -- so they keep the limits of a question
-pub file_limits : (limits : FileLimits) (bytes : List ℕ) (qs : List QuestionView) → limits.variables ≤ most_variables
+pub file_limits : (limits : FileLimits) (bytes : List ℕ) (qs : List QuestionView)
     → IsFileWithin limits bytes qs → All (λ (q : QuestionView). IsQuestion q.body) qs
-file_limits limits bytes qs few asked = All-weaker (λ (q : QuestionView). IsRead limits q.body) (λ (q : QuestionView). IsQuestion q.body)
-    (λ q h. within_any limits q.body few h.limits) qs (file_is_read limits bytes qs asked)
+file_limits limits bytes qs asked = All-weaker (λ (q : QuestionView). IsRead limits q.body) (λ (q : QuestionView). IsQuestion q.body)
+    (λ q h. within_any limits q.body h.limits) qs (file_is_read limits bytes qs asked)
 
 -- and in a usual file their tables aren't too large
 pub file_has_small_tables : (bytes : List ℕ) (qs : List QuestionView) → IsFile bytes qs → All (λ (q : QuestionView). HasSmallTable q.body) qs

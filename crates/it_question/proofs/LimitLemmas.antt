@@ -30,7 +30,7 @@ use Rattle.it_question.specs.declared.sizes.FileLimits.{FileLimits}
 use Rattle.it_question.specs.Limits.{AreLinesOver, IsRegionOf, IsTryOf, AreRatesOf, IsVerbOver, IsQuestion, IsQuestionWithin}
 use Rattle.it_question.specs.NewNames.{NameSortView, Variable, Rate, with_name, no_names, is_taken, new_flag, once_flag}
 use Rattle.it_question.specs.QuestionForms.{count, new_name, more_new, new_names, names_line, own_line, own_words, own_keyword, more_own_lines, own_lines, once, more_once, distinct, auxiliary, set, part, more_parts, try_line, more_tries, region, region_flag, containment, verb, question, more_questions, file}
-use Rattle.it_question.specs.QuestionLimits.{auxiliaries_left, givens_left, most_lines, most_names, most_questions, rows_left}
+use Rattle.it_question.specs.QuestionLimits.{auxiliaries_left, givens_left, most_lines, most_names, most_questions, names_within, rows_left}
 use Rattle.it_question.specs.OwnLines.{OwnLinesView, RegionView, no_lines}
 use Rattle.it_question.specs.Sorts.{AreQuestionNames}
 use Rattle.it_question.specs.Questions.{VerbView, Prove, Eliminate, Contain, BodyView}
@@ -415,11 +415,15 @@ pub record IsRead (allowed : FileLimits) (q : BodyView) : Type 0 where
   pub limits : IsQuestionWithin allowed q
   pub small : HasTableWithin allowed q
 
--- a question within limits that a space meets, as those of all files
-pub within_any : (limits : FileLimits) (q : BodyView) → limits.variables ≤ most_variables → IsQuestionWithin limits q → IsQuestion q
-within_any limits q h k = record {
+-- no file allows more names than a space has
+pub within_space : (limits : FileLimits) → names_within limits ≤ most_variables
+within_space limits = min-le_right limits.variables most_variables
+
+-- a question of a file with limits is one of any file
+pub within_any : (limits : FileLimits) (q : BodyView) → IsQuestionWithin limits q → IsQuestion q
+within_any limits q k = record {
   some = k.some;
-  few = omega (arith, k.few, h);
+  few = omega (arith, k.few, within_space limits);
   few_rates = k.few_rates;
   lines = k.lines;
   verb = k.verb;
@@ -440,9 +444,9 @@ are_names most variables names hv hn =
 
 question_keeps : (limits : FileLimits) → Always (question limits) (λ p q. IsRead limits q)
 unfolding question Always
-question_keeps limits = always_weaker (new_names Variable limits.variables no_names) _ _
+question_keeps limits = always_weaker (new_names Variable (names_within limits) no_names) _ _
     (λ p variables hv. always_weaker (names_line Rate most_rates (codes "rates") variables) _ _
-    (λ q names hn. let n = are_names limits.variables variables names hv hn in
+    (λ q names hn. let n = are_names (names_within limits) variables names hv hn in
     always_weaker (own_lines most_lines most_lines names) _ _
     (λ r own ho. always_weaker (verb limits own names) _ _ (λ s aim ha.
     record {
@@ -456,7 +460,7 @@ question_keeps limits = always_weaker (new_names Variable limits.variables no_na
       };
       small = ha.small;
     })
-    (verb_keeps limits own names)) (own_lines_keep most_lines most_lines names)) (names_line_keeps Rate most_rates (codes "rates") variables)) (new_names_keep Variable limits.variables no_names)
+    (verb_keeps limits own names)) (own_lines_keep most_lines most_lines names)) (names_line_keeps Rate most_rates (codes "rates") variables)) (new_names_keep Variable (names_within limits) no_names)
 
 file_keeps : (limits : FileLimits) → Always (file limits) (λ p qs. All (IsRead limits) qs)
 unfolding file more_questions Always

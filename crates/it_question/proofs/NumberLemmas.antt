@@ -29,7 +29,7 @@ use Rattle.it_question.specs.declared.sizes.FileLimits.{FileLimits}
 use Rattle.it_question.specs.Files.{IsFileWithin}
 use Rattle.it_question.specs.Lines.{LineView, AreLines, letters_of_lines, split_lines}
 use Rattle.it_question.specs.QuestionForms.{own_words, own_keyword, own_line, more_own_lines, own_lines, names_line, new_names, distinct, more_tries, region, containment, verb, question, more_questions, file}
-use Rattle.it_question.specs.QuestionLimits.{auxiliaries_left, givens_left, most_lines, most_questions, rows_left}
+use Rattle.it_question.specs.QuestionLimits.{auxiliaries_left, givens_left, most_lines, most_questions, names_within, rows_left}
 use Rattle.it_question.specs.OwnLines.{OwnLinesView, RegionView, no_lines}
 use Rattle.it_question.specs.Questions.{VerbView, BodyView, QuestionView}
 use Rattle.it_question.specs.Questions as views
@@ -215,7 +215,7 @@ verb_small limits own v = (
 
 question_small : (limits : FileLimits) → Always (question limits) (λ p q. AreSmall p → QuestionHasSmallNumbers q)
 unfolding question Always
-question_small limits = always_any (new_names Variable limits.variables no_names) _ (λ p variables. always_any (names_line Rate most_rates (codes "rates") variables) _
+question_small limits = always_any (new_names Variable (names_within limits) no_names) _ (λ p variables. always_any (names_line Rate most_rates (codes "rates") variables) _
     (λ q names. always_weaker (own_lines most_lines most_lines names) _ _ (λ r own ho. always_weaker (verb limits own names) _ _ (λ w aim ha small.
     let after = rest_small q _ (rest_small p _ small) in (ho (front_small r _ after), ha (front_small w _ (rest_small r _ after))))
     (verb_small limits own names)) (own_lines_small most_lines most_lines names)))

@@ -9,7 +9,7 @@ use Rattle.it_forms.specs.declared.types.Code.TheVariants as codes
 use Rattle.it_forms.specs.Letters.{Letter}
 use Rattle.it_syntax.specs.MeasureWords.{is_measure}
 use Rattle.it_question.specs.TrySets.{Sets, unnamed_sets, is_named, with_set, auxiliary_env}
-use Rattle.it_question.specs.QuestionLimits.{auxiliaries_left, givens_left, most_lines, most_names, most_questions, rows_left}
+use Rattle.it_question.specs.QuestionLimits.{auxiliaries_left, givens_left, most_lines, most_names, most_questions, names_within, rows_left}
 use Rattle.it_syntax.specs.LineForms.{names, relation, given}
 use Rattle.it_syntax.specs.NamesViews.{NamesView, index_of}
 use Rattle.it_syntax.specs.Scopes.{env_of, scope_of, Environment}
@@ -174,7 +174,7 @@ verb limits own v =
 -- after `vars`
 unfoldable pub question : FileLimits → Form BodyView
 question limits = do
-  variables ← new_names Variable limits.variables no_names
+  variables ← new_names Variable (names_within limits) no_names
   names ← names_line Rate most_rates (codes "rates") variables
   own ← own_lines most_lines most_lines names
   aim ← verb limits own names

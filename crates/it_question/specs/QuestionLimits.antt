@@ -1,6 +1,7 @@
 -- The most bytes, questions, names of variables, auxiliaries and lines. Of rates it is the most of a space. How large the questions of a
 -- file may be is a value that the forms take.
 use Rattle.std.specs.Prelude.{ℕ, ◌-◌, min, length, true, false}
+use Rattle.it_space.specs.Spaces.{most_variables}
 use Rattle.it_syntax.specs.NamesViews.{NamesView}
 use Rattle.it_question.specs.OwnLines.{OwnLinesView}
 use Rattle.it_question.specs.declared.sizes.FileLimits.{FileLimits}
@@ -24,6 +25,10 @@ usual = record { variables = most_names; large_tables = false }
 -- questions may have n names of variables, and tables of any size
 abbrev pub wide : ℕ → FileLimits
 wide n = record { variables = n; large_tables = true }
+
+-- the most names of variables of a question of a file with these limits: no more than a space has
+abbrev pub names_within : FileLimits → ℕ
+names_within limits = min limits.variables most_variables
 
 -- the most auxiliaries of a region
 abbrev pub most_auxiliaries : ℕ

@@ -113,16 +113,10 @@ fn verb(
 /// A question, after its `vars`.
 #[tactic(auto, unfolding(crate::specs::QuestionForms::question, it_forms::specs::FormReading::read))]
 fn question(alloc: Global, cursor: &mut Cursor<'_>, limits: FileLimits) -> Result<Body, Stop>
-    requires { limits.variables ≤ most_variables }
     ensures { ParsesBy body_view result (forms.question limits) cursor.old cursor.new }
 {
     let mut names = Names::new(alloc);
-    names_to_end(
-        cursor,
-        &mut names,
-        NameSort::Variable,
-        limits.variables as usize,
-    )?;
+    names_to_end(cursor, &mut names, NameSort::Variable, limits.most_names())?;
     names_line(cursor, &mut names, NameSort::Rate, MOST_RATES, RATES)?;
     let lines = own_lines(alloc, cursor, &names, MOST_LINES, MOST_LINES)?;
     let verb = verb(alloc, cursor, &names, &lines, limits)?;
@@ -154,7 +148,6 @@ fn add(bodies: &mut Vec<Body>, next: Body) -> Result<(), Stop>
 
 /// The questions that stand there, at most `MOST_QUESTIONS`.
 fn questions(alloc: Global, cursor: &mut Cursor<'_>, limits: FileLimits) -> Result<Vec<Body>, Stop>
-    requires { limits.variables ≤ most_variables }
     ensures { ParsesBy (λ x. map body_view x.items) result (forms.more_questions limits []) cursor.old cursor.new }
 {
     let mut found = Vec::new(alloc);
@@ -174,7 +167,6 @@ fn questions(alloc: Global, cursor: &mut Cursor<'_>, limits: FileLimits) -> Resu
 /// The questions of a file with these limits, up to its end.
 #[tactic(auto, unfolding(crate::specs::QuestionForms::file, it_forms::specs::FormReading::read))]
 pub fn bodies(alloc: Global, cursor: &mut Cursor<'_>, limits: FileLimits) -> Result<Vec<Body>, Stop>
-    requires { limits.variables ≤ most_variables }
     ensures { ParsesBy (λ x. map body_view x.items) result (forms.file limits) cursor.old cursor.new }
 {
     let found = questions(alloc, cursor, limits)?;

@@ -1,7 +1,6 @@
 //! The questions of a file.
 ghost use Rattle.std.specs.Prelude.{◌≤◌, ◌^◌, length, map, All, IfOk, IfErr};
 ghost use Rattle.it_question.specs.Cursors.{line_view, letters_left};
-ghost use Rattle.it_space.specs.Spaces.{most_variables};
 ghost use Rattle.it_question.specs.Files.{IsFileWithin, IsFirstFaultWithin};
 ghost use Rattle.it_question.specs.WholeFiles.{place_of};
 ghost use Rattle.it_question.specs.Stops.{IsLeft, IfFault, IsFaultAt, IsStopAt};
@@ -59,8 +58,7 @@ pub fn questions(
     bytes: &[u8],
     limits: FileLimits,
 ) -> Result<Vec<Question>, FileFault>
-    requires short { length bytes.now ≤ most_text_bytes }
-    requires names { limits.variables ≤ most_variables }
+    requires { length bytes.now ≤ most_text_bytes }
     ensures read { IfOk result (λ qs. IsFileWithin limits bytes.now qs.items) }
     ensures limits { IfOk result (λ qs. All (λ q. IsQuestionWithin limits q.body) qs.items) }
     ensures fault { IfErr result (IsFirstFaultWithin limits bytes.now) }

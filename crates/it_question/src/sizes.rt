@@ -1,8 +1,12 @@
 //! How large the questions of a file may be.
-ghost use Rattle.std.specs.Prelude.{◌≡◌};
-ghost use Rattle.it_question.specs.QuestionLimits.{wide};
+ghost use Rattle.std.specs.Prelude.{◌≡◌, ◌≤◌};
+ghost use Rattle.it_space.specs.Spaces.{most_variables};
+ghost use Rattle.it_question.specs.QuestionLimits.{names_within, wide};
 
 use crate::regions::MOST_NAMES;
+
+/// The most variables of a space.
+const MOST_VARIABLES: u8 = 16;
 
 /// How large the questions of a file may be: how many variables they may name, and whether their tables may have any size. A
 /// containment has at most ten names and a table that isn't too large in any file.
@@ -27,5 +31,13 @@ impl FileLimits {
             variables,
             large_tables: true,
         }
+    }
+
+    /// The most variables that a question may name: no more than a space has.
+    pub fn most_names(self) -> usize
+        ensures most { result ≡ names_within self }
+        ensures few { result ≤ most_variables }
+    {
+        usize::from(self.variables.min(MOST_VARIABLES))
     }
 }

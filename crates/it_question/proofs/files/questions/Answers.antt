@@ -35,7 +35,7 @@ same_lines P items lines e h = subst (λ (ls : List Line). P (map line_view ls))
 
 pub with_texts-requires : goal.with_texts-requires
 with_texts-requires c = bodies_limited c.args.limits c.in-Ok.bodies.items (map line_view c.in_ok-lines.lines.items)
-    (letters_left c.bodies.new.cursor) c.requires.names
+    (letters_left c.bodies.new.cursor)
     (items_are_read c.args.limits _ _ _ _ c.at-cursor.ensures c.as_slice.ensures.value c.in-Ok.ensures)
 
 pub returns-in_ok-questions-in-Ok-clause-read : goal.returns-in_ok-questions-in-Ok-clause-read
@@ -54,7 +54,7 @@ returns-in_ok-questions-in-Ok-clause-limits c =
 pub stop_fault-requires-clause-few : goal.stop_fault-requires-clause-few
 stop_fault-requires-clause-few c = same_lines (λ ls. length (letters_of_lines ls) ≤ 4294967296) c.in_ok-lines.lines.items
     c.as_slice-in-Err.result.now c.as_slice-in-Err.ensures.value
-    (few_letters c.args.bytes.now (map line_view c.in_ok-lines.lines.items) c.in_ok-lines.ensures c.requires.short)
+    (few_letters c.args.bytes.now (map line_view c.in_ok-lines.lines.items) c.in_ok-lines.ensures c.requires)
 
 pub stop_fault-requires-clause-there : goal.stop_fault-requires-clause-there
 stop_fault-requires-clause-there c = same_lines (λ ls. IfFault c.in-Err.stop (IsLeft ls (letters_left c.bodies.new.cursor)))
