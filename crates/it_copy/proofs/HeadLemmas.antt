@@ -210,6 +210,6 @@ head_fault bytes lines stops.Memory r fault cut h at = subst (IsFirstHeadFault b
 head_fault bytes lines (stops.Fault c) r Memory cut h at = absurd at
 head_fault bytes lines (stops.Fault c) r (Fault line column code) cut h at = (
   no_head bytes lines cut h.none,
-  first_form_fault copy_file _ copy_file_has copy_file_ends bytes lines (stops.Fault c) r
+  first_form_fault (copy_file usual) _ (copy_file_has usual) (copy_file_ends usual) bytes lines (stops.Fault c) r
       (Fault line column code) cut h.stops at,
 )
