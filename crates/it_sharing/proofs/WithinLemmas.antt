@@ -9,6 +9,6 @@ use Rattle.it_sharing.proofs.SharingLimits.{sharing_limited}
 use Rattle.it_sharing.proofs.SharingOutlines.{sharing_has}
 
 pub sharing_is_within : SharingIsWithin
-sharing_is_within bytes x s =
+sharing_is_within limits bytes x s =
     subst (λ (y : SharingView). IsSharing y × IsBoundWhereBest y) s.says
-    (sharing_limited (letters_of_lines s.lines) [] s.tree.0 (asked_is_read sharing _ sharing_has (λ lines y. y) bytes x s))
+    (sharing_limited limits (letters_of_lines s.lines) [] s.tree.0 (asked_is_read (sharing limits) _ (sharing_has limits) (λ lines y. y) bytes x s))
