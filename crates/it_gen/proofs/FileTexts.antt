@@ -134,8 +134,8 @@ unfolding question_text vars_line prove_line
 question_lines_are x more = simp append_assoc
 
 -- four variables without lines have a small table
-four_small : size_flag usual four_variables no_lines ≡ None
-four_small = few_variables usual four_variables no_lines (omega arith, omega arith) (omega arith) (All-nil (IsGivenOf 4)) (omega arith) (omega arith)
+four_small : size_flag four_variables no_lines ≡ None
+four_small = few_variables four_variables no_lines (omega arith) (omega arith) (All-nil (IsGivenOf 4)) (omega arith) (omega arith)
 
 end_says : (k : FlaggedLetters) → Spells line_end tt ((End, None) ∷ k) k
 unfolding Spells

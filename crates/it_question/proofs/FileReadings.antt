@@ -7,7 +7,7 @@ use Rattle.it_question.specs.declared.sizes.FileLimits.{FileLimits}
 use Rattle.it_question.specs.declared.bodies.Body.{Body}
 use Rattle.it_question.specs.Bodies.{body_view}
 use Rattle.it_question.specs.Files.{IsFile, IsFileWithin}
-use Rattle.it_question.specs.Limits.{IsQuestion, IsQuestionWithin}
+use Rattle.it_question.specs.Limits.{IsQuestion}
 use Rattle.it_question.specs.Lines.{LineView, AreLinesOf, letters_of_lines}
 use Rattle.it_question.specs.QuestionForms.{file}
 use Rattle.it_question.specs.QuestionLimits.{usual}
@@ -35,20 +35,19 @@ pub from_map : {X Y : Type 0} (P : Y → Type 0) (f : X → Y) (xs : List X) →
 from_map P f [] h = λ k d lt. absurd (omega (arith, lt))
 from_map P f (x ∷ xs) h = All-cons (λ y. P (f y)) x xs (All-head P (f x) (map f xs) h) (from_map P f xs (All-tail P (f x) (map f xs) h))
 
-all_limited : (limits : FileLimits) (ls r : List Letter) (ys : List BodyView) → read (file limits) ls ≡ Ok (ys, r) → All (IsQuestionWithin limits) ys
-all_limited limits ls r ys e = All-weaker (IsRead limits) (IsQuestionWithin limits) (λ q h. h.limits) ys (file_limited limits ls r ys e)
+all_limited : (limits : FileLimits) (ls r : List Letter) (ys : List BodyView) → read (file limits) ls ≡ Ok (ys, r) → All IsQuestion ys
+all_limited limits ls r ys e = All-weaker (IsRead limits) IsQuestion (λ q h. within_any limits q h.limits) ys (file_limited limits ls r ys e)
 
 pub bodies_limited : (limits : FileLimits) (bodies : List Body) (lines : List LineView) (r : List Letter)
     → read (file limits) (letters_of_lines lines) ≡ Ok (map body_view bodies, r) → All (λ b. IsQuestion (body_view b)) bodies
-bodies_limited limits bodies lines r e = from_map IsQuestion body_view bodies (All-weaker (IsQuestionWithin limits) IsQuestion
-    (λ q h. within_any limits q h) (map body_view bodies) (all_limited limits (letters_of_lines lines) r (map body_view bodies) e))
+bodies_limited limits bodies lines r e = from_map IsQuestion body_view bodies (all_limited limits (letters_of_lines lines) r (map body_view bodies) e)
 
 pub questions_limited : (limits : FileLimits) (qs : List QuestionView) (lines : List LineView) (ys : List BodyView) (r : List Letter)
     → read (file limits) (letters_of_lines lines) ≡ Ok (ys, r) → qs ≡ with_texts lines ys
-    → All (λ q. IsQuestionWithin limits q.body) qs
+    → All (λ q. IsQuestion q.body) qs
 questions_limited limits qs lines ys r e are =
     let same : map (λ (q : QuestionView). q.body) qs ≡ ys = ap (map (λ (q : QuestionView). q.body)) are ∙ body_again lines ys in
-    from_map (IsQuestionWithin limits) (λ (q : QuestionView). q.body) qs (subst (All (IsQuestionWithin limits)) (sym same)
+    from_map IsQuestion (λ (q : QuestionView). q.body) qs (subst (All IsQuestion) (sym same)
     (all_limited limits (letters_of_lines lines) r ys e))
 
 -- the questions of a file with these limits are read

@@ -4,7 +4,7 @@ ghost use Rattle.it_question.specs.Cursors.{line_view, letters_left};
 ghost use Rattle.it_question.specs.Files.{IsFileWithin, IsFirstFaultWithin};
 ghost use Rattle.it_question.specs.WholeFiles.{place_of};
 ghost use Rattle.it_question.specs.Stops.{IsLeft, IfFault, IsFaultAt, IsStopAt};
-ghost use Rattle.it_question.specs.Limits.{IsQuestionWithin};
+ghost use Rattle.it_question.specs.Limits.{IsQuestion};
 ghost use Rattle.it_question.specs.Lines.{letters_of_lines};
 ghost use Rattle.it_syntax.specs.Lines.{most_text_bytes};
 
@@ -60,7 +60,7 @@ pub fn questions(
 ) -> Result<Vec<Question>, FileFault>
     requires { length bytes.now ≤ most_text_bytes }
     ensures read { IfOk result (λ qs. IsFileWithin limits bytes.now qs.items) }
-    ensures limits { IfOk result (λ qs. All (λ q. IsQuestionWithin limits q.body) qs.items) }
+    ensures limits { IfOk result (λ qs. All (λ q. IsQuestion q.body) qs.items) }
     ensures fault { IfErr result (IsFirstFaultWithin limits bytes.now) }
 {
     let lines = file_lines(alloc, bytes)?;
