@@ -2,7 +2,9 @@
 use Rattle.std.proofs.Common.{Bool, ◌≡◌, ◌≢◌, ℕ, ◌+◌, List, [], ◌∷◌, ◌++◌, map, flat_map, Option, None, false, refl, sym, ap, ap₂, subst, ◌∙◌, arith}
 use Rattle.std.proofs.lemmas.Bool.{false≢true}
 use Rattle.it_space.specs.Answers.{AnswerView, CertificateView}
+use Rattle.it_question.specs.declared.sizes.FileLimits.{FileLimits}
 use Rattle.it_question.specs.Questions.{BodyView, QuestionView}
+use Rattle.it_question.specs.QuestionLimits.{usual}
 use Rattle.it_question.specs.Files.{FileFaultIsOne, FileIsOne, FileOrFault}
 use Rattle.it_copy.specs.declared.types.CopyFault.{CopyFault}
 use Rattle.it_copy.specs.CopyLines.{CopyView}
@@ -32,7 +34,7 @@ use Rattle.it_cli.specs.Counts.{AreCounted, IsBenchLine, bench_line, no_counts}
 use Rattle.it_cli.specs.Laws.{ModesAreDetermined, ModesHaveOneReading, OneOutput}
 use Rattle.it_cli.specs.Modes.{HasOneReading, IsDetermined, Mode, Replies, WholeOutput}
 use Rattle.it_cli.specs.Outputs.{answer_mode, bench_mode, best_mode, check_mode, copy_mode, mode_of, outer_mode, sharing_mode}
-use Rattle.it_cli.specs.Right.{budgets_of, effort_of, limits_of}
+use Rattle.it_cli.specs.Right.{budgets_of, effort_of, limits_of, limits_of_names}
 use Rattle.it_cli.specs.ToldOrigins.{AreToldOrigins, IsRightTold, ToldReply}
 use Rattle.it_cli.specs.SharingReplies.{Answered, Factored, IsRightSharing, Many, SharingReply, said_by}
 use Rattle.it_cli.specs.declared.status.Status.{Status}
@@ -59,12 +61,12 @@ module _ (m : Mode) (d : IsDetermined m) where
 
 -- ---- each mode has one reading of bytes
 
-files_are_one : FileIsOne → FileFaultIsOne → FileOrFault → (budgets : Budgets) (plans : List Plan) (format : Format)
-    → HasOneReading (answer_mode budgets plans format)
-files_are_one one_file one_fault apart budgets plans format = record { one_reading = one_file; one_fault = one_fault; apart = apart }
+files_are_one : FileIsOne → FileFaultIsOne → FileOrFault → (limits : FileLimits) (budgets : Budgets) (plans : List Plan) (format : Format)
+    → HasOneReading (answer_mode limits budgets plans format)
+files_are_one one_file one_fault apart limits budgets plans format = record { one_reading = one_file limits; one_fault = one_fault limits; apart = apart limits }
 
-lines_are_one : HasOneReading check_mode
-lines_are_one = record {
+lines_are_one : (limits : FileLimits) → HasOneReading (check_mode limits)
+lines_are_one limits = record {
   one_reading = λ bytes xs ys a b. a ∙ sym b;
   one_fault = λ bytes line column row place c d f g. absurd f;
   apart = λ bytes xs line column c a f. f;
@@ -86,20 +88,20 @@ pub record CopiesAreOne : Type 0 where
   pub misfit : OneMisfit
   pub either : ExtensionOrMisfit
 
-heads_are_one : CopiesAreOne → (report : Bool) (effort : Effort) → HasOneReading (copy_mode report effort)
-heads_are_one one report effort = record {
-  one_reading = λ bytes xs ys a b. let same = one.file bytes a.copies b.copies a.questions b.questions a.read b.read
+heads_are_one : CopiesAreOne → (limits : FileLimits) (report : Bool) (effort : Effort) → HasOneReading (copy_mode limits report effort)
+heads_are_one one limits report effort = record {
+  one_reading = λ bytes xs ys a b. let same = one.file limits bytes a.copies b.copies a.questions b.questions a.read b.read
       in a.are ∙ ap₂ (λ (cs : List CopyView) (qs : List QuestionView). map (with_copies cs) qs) same.0 same.1 ∙ sym b.are;
-  one_fault = one.fault;
-  apart = λ bytes xs line column c a f. one.apart bytes a.copies a.questions line column c a.read f;
+  one_fault = one.fault limits;
+  apart = λ bytes xs line column c a f. one.apart limits bytes a.copies a.questions line column c a.read f;
 }
 
-factored_are_one : CopiesAreOne → (report : Bool) (effort : Effort) → HasOneReading (best_mode report effort)
-factored_are_one one report effort = let mode = heads_are_one one report effort
+factored_are_one : CopiesAreOne → (limits : FileLimits) (report : Bool) (effort : Effort) → HasOneReading (best_mode limits report effort)
+factored_are_one one limits report effort = let mode = heads_are_one one limits report effort
     in record { one_reading = mode.one_reading; one_fault = mode.one_fault; apart = mode.apart }
 
-bounded_are_one : FileIsOne → FileFaultIsOne → FileOrFault → (report : Bool) (limits : Limits) → HasOneReading (outer_mode report limits)
-bounded_are_one one_file one_fault apart report limits = record { one_reading = one_file; one_fault = one_fault; apart = apart }
+bounded_are_one : FileIsOne → FileFaultIsOne → FileOrFault → (file : FileLimits) (report : Bool) (limits : Limits) → HasOneReading (outer_mode file report limits)
+bounded_are_one one_file one_fault apart file report limits = record { one_reading = one_file file; one_fault = one_fault file; apart = apart file }
 
 -- a sharing file has one reading or one fault
 pub record SharingsAreOne : Type 0 where
@@ -107,22 +109,22 @@ pub record SharingsAreOne : Type 0 where
   pub fault : SharingFaultIsOne
   pub apart : SharingOrFault
 
-sharing_files_are_one : SharingsAreOne → (report : Bool) (effort : Effort) → HasOneReading (sharing_mode report effort)
-sharing_files_are_one one report effort = record {
-  one_reading = λ bytes xs ys a b. a.is ∙ ap (λ x. said_by bytes x ∷ []) (one.file bytes a.file b.file a.read b.read) ∙ sym b.is;
-  one_fault = one.fault;
-  apart = λ bytes xs line column c a f. one.apart bytes a.file line column c a.read f;
+sharing_files_are_one : SharingsAreOne → (limits : FileLimits) (report : Bool) (effort : Effort) → HasOneReading (sharing_mode limits report effort)
+sharing_files_are_one one limits report effort = record {
+  one_reading = λ bytes xs ys a b. a.is ∙ ap (λ x. said_by bytes x ∷ []) (one.file limits bytes a.file b.file a.read b.read) ∙ sym b.is;
+  one_fault = one.fault limits;
+  apart = λ bytes xs line column c a f. one.apart limits bytes a.file line column c a.read f;
 }
 
 module _ (one_file : FileIsOne) (one_fault : FileFaultIsOne) (apart : FileOrFault) (copies : CopiesAreOne) (sharings : SharingsAreOne) where
   pub modes_have_one_reading : ModesHaveOneReading
-  modes_have_one_reading plans (Answer format run pivots rows tries) = files_are_one one_file one_fault apart (budgets_of run pivots rows tries) plans format
-  modes_have_one_reading plans Check = lines_are_one
+  modes_have_one_reading plans (Answer format run pivots rows tries names) = files_are_one one_file one_fault apart (limits_of_names names) (budgets_of run pivots rows tries) plans format
+  modes_have_one_reading plans (Check names) = lines_are_one (limits_of_names names)
   modes_have_one_reading plans (Bench seed count run pivots rows tries) = nothing_is_one (budgets_of run pivots rows tries) plans seed count
-  modes_have_one_reading plans (Copy report run pivots) = heads_are_one copies report (effort_of run pivots)
-  modes_have_one_reading plans (Best report run pivots) = factored_are_one copies report (effort_of run pivots)
-  modes_have_one_reading plans (Outer report run pivots rows tries) = bounded_are_one one_file one_fault apart report (limits_of run pivots rows tries)
-  modes_have_one_reading plans (Sharing report run pivots) = sharing_files_are_one sharings report (effort_of run pivots)
+  modes_have_one_reading plans (Copy report run pivots names) = heads_are_one copies (limits_of_names names) report (effort_of run pivots)
+  modes_have_one_reading plans (Best report run pivots names) = factored_are_one copies (limits_of_names names) report (effort_of run pivots)
+  modes_have_one_reading plans (Outer report run pivots rows tries names) = bounded_are_one one_file one_fault apart (limits_of_names names) report (limits_of run pivots rows tries)
+  modes_have_one_reading plans (Sharing report run pivots names) = sharing_files_are_one sharings (limits_of_names names) report (effort_of run pivots)
 
 -- ---- and one reply to an item, where no quick run comes first
 
@@ -152,30 +154,30 @@ one_told format other one_answer budgets defined plans q a b f g =
 one_line : OneRightAnswer → FileIsOne → (budgets : Budgets) → budgets.effort.quick ≡ false → (plans : List Plan) (seed count : ℕ) (line other : List ℕ)
     → IsBenchLine budgets plans seed count line → IsBenchLine budgets plans seed count other → line ≡ other
 one_line one_answer one_file budgets defined plans seed count line other a b =
-    let same = one_file (generated_file seed count) a.questions b.questions a.asked b.asked in
+    let same = one_file usual (generated_file seed count) a.questions b.questions a.asked b.asked in
     let moved : AreCounted budgets plans [] no_counts b.questions a.counts = subst
     (λ (qs : List QuestionView). AreCounted budgets plans [] no_counts qs a.counts) same a.counted in
     a.is ∙ ap (bench_line seed count) (one_count one_answer budgets defined plans [] no_counts b.questions a.counts b.counts moved b.counted) ∙ sym b.is
 
 -- what is asked of a question with some copies is one question, or there is one reason against it
-module _ (one : CopiesAreOne) where
-  asked_is_one : (q d e : BodyView) (cs : List CopyView) → IsAskedWith q cs d → IsAskedWith q cs e → d ≡ e
+module _ (one : CopiesAreOne) (limits : FileLimits) where
+  asked_is_one : (q d e : BodyView) (cs : List CopyView) → IsAskedWith limits q cs d → IsAskedWith limits q cs e → d ≡ e
   asked_is_one q d e [] a b = a ∙ sym b
-  asked_is_one q d e (c ∷ cs) a b = one.extension q d e (c ∷ cs) a b
+  asked_is_one q d e (c ∷ cs) a b = one.extension limits q d e (c ∷ cs) a b
 
   asked_or_misfit : (x : CopyQuestion) (e : BodyView) (cs : List CopyView) (f : CopyFault) → x.copies ≡ cs
-      → IsAskedWith x.question.body cs e → IsToldMisfit x f → ⊥
+      → IsAskedWith limits x.question.body cs e → IsToldMisfit limits x f → ⊥
   asked_or_misfit x e [] f is a (some, told, misfit) = some is
-  asked_or_misfit x e (c ∷ cs) f is a (some, told, misfit) = one.either x.question.body e (c ∷ cs) f told a
-      (subst (λ (ds : List CopyView). IsMisfit x.question.body ds f) is misfit)
+  asked_or_misfit x e (c ∷ cs) f is a (some, told, misfit) = one.either limits x.question.body e (c ∷ cs) f told a
+      (subst (λ (ds : List CopyView). IsMisfit limits x.question.body ds f) is misfit)
 
 module _ (one_factor : OneRightReply) (effort : Effort) (defined : effort.quick ≡ false) where
-  one_best : CopiesAreOne → (x : CopyQuestion) (a b : BestReply) → IsRightBestReply effort x a → IsRightBestReply effort x b → a ≡ b
-  one_best one x (Misfit f) (Misfit g) (some, told, is) (some', other, so) = ap Misfit (one.misfit x.question.body x.copies f g told other is so)
-  one_best one x (Misfit f) (Extended e a) misfit (asked, right) = absurd (asked_or_misfit one x e x.copies f refl asked misfit)
-  one_best one x (Extended e a) (Misfit f) (asked, right) misfit = absurd (asked_or_misfit one x e x.copies f refl asked misfit)
-  one_best one x (Extended d a) (Extended e b) (asked, right) (other, is_right) =
-      let same : e ≡ d = asked_is_one one x.question.body e d x.copies other asked in
+  one_best : CopiesAreOne → (limits : FileLimits) (x : CopyQuestion) (a b : BestReply) → IsRightBestReply limits effort x a → IsRightBestReply limits effort x b → a ≡ b
+  one_best one limits x (Misfit f) (Misfit g) (some, told, is) (some', other, so) = ap Misfit (one.misfit limits x.question.body x.copies f g told other is so)
+  one_best one limits x (Misfit f) (Extended e a) misfit (asked, right) = absurd (asked_or_misfit one limits x e x.copies f refl asked misfit)
+  one_best one limits x (Extended e a) (Misfit f) (asked, right) misfit = absurd (asked_or_misfit one limits x e x.copies f refl asked misfit)
+  one_best one limits x (Extended d a) (Extended e b) (asked, right) (other, is_right) =
+      let same : e ≡ d = asked_is_one one limits x.question.body e d x.copies other asked in
       ap₂ Extended (sym same) (one_factor effort d a b defined right (subst (λ (q : BodyView). IsRightReply effort q b) same is_right))
 
 module _ (one_answer : OneRightAnswer) (effort : Effort) (defined : effort.quick ≡ false) where
@@ -184,12 +186,12 @@ module _ (one_answer : OneRightAnswer) (effort : Effort) (defined : effort.quick
   same_proof e a b f g = ap (λ (r : Reply). r.answer) (one_answer (record { effort = effort; rows = 1; tries = 1 }) [] e
       (record { answer = a; found = [] }) (record { answer = b; found = [] }) defined f g)
 
-  one_copy : CopiesAreOne → (x : CopyQuestion) (a b : CopyReply) → IsRightCopy effort x a → IsRightCopy effort x b → a ≡ b
-  one_copy one x (Misfit f) (Misfit g) (told, is) (other, so) = ap Misfit (one.misfit x.question.body x.copies f g told other is so)
-  one_copy one x (Misfit f) (Extended e a) (told, is) (extension, right) = absurd (one.either x.question.body e x.copies f told extension is)
-  one_copy one x (Extended e a) (Misfit f) (extension, right) (told, is) = absurd (one.either x.question.body e x.copies f told extension is)
-  one_copy one x (Extended d a) (Extended e b) (extension, right) (other, is_right) =
-      let same : e ≡ d = one.extension x.question.body e d x.copies other extension in
+  one_copy : CopiesAreOne → (limits : FileLimits) (x : CopyQuestion) (a b : CopyReply) → IsRightCopy limits effort x a → IsRightCopy limits effort x b → a ≡ b
+  one_copy one limits x (Misfit f) (Misfit g) (told, is) (other, so) = ap Misfit (one.misfit limits x.question.body x.copies f g told other is so)
+  one_copy one limits x (Misfit f) (Extended e a) (told, is) (extension, right) = absurd (one.either limits x.question.body e x.copies f told extension is)
+  one_copy one limits x (Extended e a) (Misfit f) (extension, right) (told, is) = absurd (one.either limits x.question.body e x.copies f told extension is)
+  one_copy one limits x (Extended d a) (Extended e b) (extension, right) (other, is_right) =
+      let same : e ≡ d = one.extension limits x.question.body e d x.copies other extension in
       ap₂ Extended (sym same) (same_proof d a b right (subst (λ (q : BodyView). IsRightProof effort q b) same is_right))
 
   one_sharing : OneRightReply → (x : SharingView) (a b : SharingReply) → IsRightSharing effort x a → IsRightSharing effort x b → a ≡ b
@@ -208,31 +210,34 @@ module _ (one_answer : OneRightAnswer) (effort : Effort) (defined : effort.quick
 module _ (reading : ModesHaveOneReading) (one_answer : OneRightAnswer) (one_file : FileIsOne) (one_verdict : reports.OneVerdict)
     (copies : CopiesAreOne) (one_factor : OneRightReply) (one_bound : OneRightTold) where
   pub modes_are_determined : ModesAreDetermined
-  modes_are_determined plans (Answer format run pivots rows tries) bland = record {
-    reading = reading plans (Answer format run pivots rows tries);
+  modes_are_determined plans (Answer format run pivots rows tries names) bland = record {
+    reading = reading plans (Answer format run pivots rows tries names);
     one_reply = λ s x a b f g.
         one_told format bland.1 one_answer (budgets_of run pivots rows tries) (not_quick run pivots bland.0)
         (map (plan_after_all (flat_map (λ (t : ToldReply). t.reply.found) s)) plans) x.body a b f g;
   }
-  modes_are_determined plans Check bland = record { reading = reading plans Check; one_reply = λ s x a b f g. one_verdict x a b f g }
+  modes_are_determined plans (Check names) bland = record {
+    reading = reading plans (Check names);
+    one_reply = λ s x a b f g. one_verdict (limits_of_names names) x a b f g;
+  }
   modes_are_determined plans (Bench seed count run pivots rows tries) bland = record {
     reading = reading plans (Bench seed count run pivots rows tries);
     one_reply = λ s x a b f g. one_line one_answer one_file (budgets_of run pivots rows tries) (not_quick run pivots bland) plans seed count a b f g;
   }
-  modes_are_determined plans (Copy report run pivots) bland = record {
-    reading = reading plans (Copy report run pivots);
-    one_reply = λ s x a b f g. one_copy one_answer (effort_of run pivots) (not_quick run pivots bland) copies x a b f g;
+  modes_are_determined plans (Copy report run pivots names) bland = record {
+    reading = reading plans (Copy report run pivots names);
+    one_reply = λ s x a b f g. one_copy one_answer (effort_of run pivots) (not_quick run pivots bland) copies (limits_of_names names) x a b f g;
   }
-  modes_are_determined plans (Best report run pivots) bland = record {
-    reading = reading plans (Best report run pivots);
-    one_reply = λ s x a b f g. one_best one_factor (effort_of run pivots) (not_quick run pivots bland) copies x a b f g;
+  modes_are_determined plans (Best report run pivots names) bland = record {
+    reading = reading plans (Best report run pivots names);
+    one_reply = λ s x a b f g. one_best one_factor (effort_of run pivots) (not_quick run pivots bland) copies (limits_of_names names) x a b f g;
   }
-  modes_are_determined plans (Outer report run pivots rows tries) bland = record {
-    reading = reading plans (Outer report run pivots rows tries);
+  modes_are_determined plans (Outer report run pivots rows tries names) bland = record {
+    reading = reading plans (Outer report run pivots rows tries names);
     one_reply = λ s x a b f g. one_bound report (limits_of run pivots rows tries) x.body a b (not_quick run pivots bland) f g;
   }
-  modes_are_determined plans (Sharing report run pivots) bland = record {
-    reading = reading plans (Sharing report run pivots);
+  modes_are_determined plans (Sharing report run pivots names) bland = record {
+    reading = reading plans (Sharing report run pivots names);
     one_reply = λ s x a b f g. one_sharing one_answer (effort_of run pivots) (not_quick run pivots bland) one_factor x.says a b f g;
   }
 

@@ -18,7 +18,7 @@ use Rattle.it_contain.specs.Proposals.{Plan}
 use Rattle.it_answer.specs.declared.types.Budgets.{Budgets}
 use Rattle.it_answer.specs.RightAnswers.{IsRightAnswer}
 use Rattle.it_report.specs.LineVerdicts.{LineVerdict, is_invalid}
-use Rattle.it_cli.specs.Right.{budgets_of}
+use Rattle.it_cli.specs.Right.{budgets_of, limits_of_names}
 use Rattle.it_gen.specs.GeneratedFiles.{generated_file}
 use Rattle.it_cli.specs.Counts.{AreCounted, IsBenchLine, no_counts}
 use Rattle.it_cli.specs.declared.counts.Counts.{Counts}
@@ -41,9 +41,9 @@ Headline = (r : Call) (s : Status) (settings : Settings) (most : ℕ) (bytes old
 
 -- In mode `check` it gained the verdict on each line, and the status says whether one is invalid.
 abbrev pub VerdictsAreWritten : Type 0
-VerdictsAreWritten = (r : Call) (s : Status) (bytes old new : List ℕ) → Ends r s → (s ≡ Done) ⊎ (s ≡ Invalid) → settings_of r.words ≡ Some Check
+VerdictsAreWritten = (r : Call) (s : Status) (names : Option ℕ) (bytes old new : List ℕ) → Ends r s → (s ≡ Done) ⊎ (s ≡ Invalid) → settings_of r.words ≡ Some (Check names)
     → r.left ≡ Some bytes → r.taken ≡ Some old → r.taken_after ≡ Some new
-    → (verdicts : List LineVerdict) × (out : List ℕ) × Verdicts bytes verdicts out × (new ≡ old ++ out) × (s ≡ verdict_status (list_any is_invalid verdicts))
+    → (verdicts : List LineVerdict) × (out : List ℕ) × Verdicts (limits_of_names names) bytes verdicts out × (new ≡ old ++ out) × (s ≡ verdict_status (list_any is_invalid verdicts))
 
 -- In mode `bench` it gained the line of counts, and the source is as it was.
 abbrev pub CountsAreWritten : Type 0
@@ -103,13 +103,13 @@ CountsAddUp = (budgets : Budgets) (plans : List Plan) (seed count : ℕ) (questi
 
 -- targets are decided by the defined run alone, and nothing is told that a search proposes
 abbrev pub AreByBland : Settings → Type 0
-AreByBland (Answer format run pivots rows tries) = (run ≡ Bland) × (format ≢ Derived)
-AreByBland Check = Unit {0}
+AreByBland (Answer format run pivots rows tries names) = (run ≡ Bland) × (format ≢ Derived)
+AreByBland (Check names) = Unit {0}
 AreByBland (Bench seed count run pivots rows tries) = run ≡ Bland
-AreByBland (Copy report run pivots) = run ≡ Bland
-AreByBland (Best report run pivots) = run ≡ Bland
-AreByBland (Outer report run pivots rows tries) = run ≡ Bland
-AreByBland (Sharing report run pivots) = run ≡ Bland
+AreByBland (Copy report run pivots names) = run ≡ Bland
+AreByBland (Best report run pivots names) = run ≡ Bland
+AreByBland (Outer report run pivots rows tries names) = run ≡ Bland
+AreByBland (Sharing report run pivots names) = run ≡ Bland
 
 -- in each mode bytes ask for one list of items, or have one first fault, and not both
 abbrev pub ModesHaveOneReading : Type 0
@@ -133,7 +133,8 @@ NoLineIsOutOfSteps = (budgets : Budgets) (plans : List Plan) (q : BodyView) (ste
 
 -- what is written of the verdicts on a report, whichever way they are cut off, is a prefix of a whole output
 abbrev pub VerdictsArePrefix : Type 0
-VerdictsArePrefix = (plans : List Plan) (bytes out : List ℕ) → IsFirstOutput plans Check bytes out ⊎ IsOutputInPart plans Check bytes out → IsPrefixOfOutput plans Check bytes out
+VerdictsArePrefix = (plans : List Plan) (names : Option ℕ) (bytes out : List ℕ) → IsFirstOutput plans (Check names) bytes out ⊎ IsOutputInPart plans (Check names) bytes out
+    → IsPrefixOfOutput plans (Check names) bytes out
 
 -- what is written of the line of counts where a write fails is a prefix of a whole output; where allocation fails, nothing or a
 -- whole output
