@@ -6,9 +6,6 @@ use it_question::{FileLimits, questions};
 use it_syntax::types::Code;
 use std::alloc::Global;
 
-/// The most variables of a space.
-const MOST_VARIABLES: u8 = 16;
-
 /// A question of twelve names.
 const TWELVE: &[u8] = b"vars A, B, C, D, E, F, G, J, K, L, M, N\nprove H(A) >= 0\n";
 
@@ -21,10 +18,10 @@ const ELEVEN_IN_REGIONS: &[u8] =
 
 /// Whether a file asks one question, of so many variables.
 fn asks_of(alloc: Global, file: &[u8], limits: FileLimits, variables: u8) -> bool {
-    if file.len() > LONGEST_FILE || limits.variables > MOST_VARIABLES {
+    if file.len() > LONGEST_FILE {
         return false;
     }
-    match questions_within(alloc, file, limits) {
+    match questions(alloc, file, limits) {
         Ok(asked) => asked.len() == 1 && asked[0].space().variables == variables,
         Err(_) => false,
     }
@@ -39,10 +36,10 @@ fn stops_at(
     column: u32,
     code: Code,
 ) -> bool {
-    if file.len() > LONGEST_FILE || limits.variables > MOST_VARIABLES {
+    if file.len() > LONGEST_FILE {
         return false;
     }
-    match questions_within(alloc, file, limits) {
+    match questions(alloc, file, limits) {
         Ok(_) => false,
         Err(fault) => fault == FileFault::Fault { line, column, code },
     }
@@ -53,12 +50,12 @@ fn names_count(alloc: Global) -> bool {
     asks_of(alloc, TWELVE, FileLimits::wide(12), 12)
         && asks_of(alloc, TWELVE, FileLimits::wide(16), 12)
         && stops_at(alloc, TWELVE, FileLimits::wide(11), 1, 39, Code::Many)
-        && stops_at(alloc, TWELVE, FileLimits::usual(), 1, 36, Code::Many)
+        && stops_at(alloc, TWELVE, FileLimits::USUAL, 1, 36, Code::Many)
 }
 
 /// Whether a large table is refused at the verb by the usual limits alone.
 fn entries_count(alloc: Global) -> bool {
-    stops_at(alloc, TEN, FileLimits::usual(), 2, 1, Code::Large)
+    stops_at(alloc, TEN, FileLimits::USUAL, 2, 1, Code::Large)
         && asks_of(alloc, TEN, FileLimits::wide(10), 10)
 }
 
@@ -74,5 +71,14 @@ fn wide_files_bound_no_table(rt: HostRuntime) {
 
 #[test]
 fn containments_have_ten_names_in_any_file(rt: HostRuntime) {
-    assert!(rt; stops_at(rt.alloc(), ELEVEN_IN_REGIONS, FileLimits::wide(16), 3, 1, Code::Large));
+    assert!(rt;
+        stops_at(
+            rt.alloc(),
+            ELEVEN_IN_REGIONS,
+            FileLimits::wide(16),
+            3,
+            1,
+            Code::Large
+        )
+    );
 }
