@@ -26,6 +26,10 @@ usual = record { variables = most_names; large_tables = false }
 abbrev pub wide : ℕ → FileLimits
 wide n = record { variables = n; large_tables = true }
 
+-- questions may have as many names of variables as a space, and tables of any size
+abbrev pub widest : FileLimits
+widest = wide most_variables
+
 -- the most names of variables of a question of a file with these limits: no more than a space has
 abbrev pub names_within : FileLimits → ℕ
 names_within limits = min limits.variables most_variables

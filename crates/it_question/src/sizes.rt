@@ -23,6 +23,12 @@ impl FileLimits {
         large_tables: false,
     };
 
+    /// The limits that allow the most: as many names as a space has variables, with tables of any size.
+    pub const WIDEST: FileLimits = FileLimits {
+        variables: MOST_VARIABLES,
+        large_tables: true,
+    };
+
     /// The limits of files whose questions may name up to `variables` variables, with tables of any size.
     pub fn wide(variables: u8) -> FileLimits
         ensures { result ≡ wide variables }
