@@ -6,7 +6,8 @@ use Rattle.it_space.specs.Answers.{AnswerView, answer_view}
 use Rattle.it_space.specs.Answers.AnswerView.{Yes, Undecided, Contained}
 use Rattle.it_space.specs.Rows.{IsCanonical}
 use Rattle.it_problems.specs.Problems.{ProblemView}
-use Rattle.it_question.specs.Files.{IsFile}
+use Rattle.it_question.specs.declared.sizes.FileLimits.{FileLimits}
+use Rattle.it_question.specs.Files.{IsFile, IsFileWithin}
 use Rattle.it_question.specs.Questions.{BodyView, QuestionView, VerbView, Prove, Eliminate, Contain}
 use Rattle.it_canon.specs.QuestionDemands.{problem_of}
 use Rattle.it_prove.specs.Reach.{effort_under, is_in_reach}
@@ -68,6 +69,6 @@ AYesAscends = (budgets : Budgets) (plans : List Plan) (q : BodyView) (reply : Re
 
 -- at a question of a file an overflow comes at step 1 or later
 abbrev pub NoStepIsZero : Type 0
-NoStepIsZero = (bytes : List ℕ) (qs : List QuestionView) → IsFile bytes qs
+NoStepIsZero = (limits : FileLimits) (bytes : List ℕ) (qs : List QuestionView) → IsFileWithin limits bytes qs
     → All (λ q. (budgets : Budgets) (plans : List Plan) (found : List Candidate)
     → IsRightAnswer budgets plans q.body (record { answer = Undecided (Width 0); found = found }) → ⊥) qs

@@ -7,7 +7,8 @@ use Rattle.it_space.specs.declared.answers.Mark.TheVariants as marks
 use Rattle.it_space.specs.declared.spaces.Space.{Space}
 use Rattle.it_space.specs.Answers.{CertificateView}
 use Rattle.it_space.specs.Rows.{Terms, value}
-use Rattle.it_question.specs.Files.{IsFile}
+use Rattle.it_question.specs.declared.sizes.FileLimits.{FileLimits}
+use Rattle.it_question.specs.Files.{IsFileWithin}
 use Rattle.it_question.specs.Questions.{BodyView, QuestionView}
 use Rattle.it_question.specs.TableSizes.{HasSmallTable}
 use Rattle.it_demand.specs.QuestionSpaces.{space_of}
@@ -103,4 +104,4 @@ NeverOutOfSteps = (limits : Limits) (q : BodyView) (row : Terms) (k : ℕ) → I
 
 -- what a reply to a question of a file shows is true
 abbrev pub WhatIsShownIsTrue : Type 0
-WhatIsShownIsTrue = (bytes : List ℕ) (qs : List QuestionView) → IsFile bytes qs → All (λ q. (reply : ReplyView) → ShowsReply q.body reply → IsTrueReply q.body reply) qs
+WhatIsShownIsTrue = (limits : FileLimits) (bytes : List ℕ) (qs : List QuestionView) → IsFileWithin limits bytes qs → All (λ q. (reply : ReplyView) → ShowsReply q.body reply → IsTrueReply q.body reply) qs

@@ -5,8 +5,7 @@ use Rattle.it_space.specs.declared.answers.Mark.{Mark}
 use Rattle.it_space.specs.declared.spaces.Space.{Space}
 use Rattle.it_problems.specs.Problems.{ProblemView}
 use Rattle.it_space.specs.Rows.{Terms}
-use Rattle.it_closure.specs.Sizes.{table_size}
-use Rattle.it_question.specs.TableSizes.{most_entries}
+use Rattle.it_closure.specs.Sizes.{most_entries, table_size}
 use Rattle.it_prove.specs.declared.types.Effort.{Effort}
 use Rattle.it_outer.specs.declared.types.Bounds.{Bounds}
 use Rattle.it_outer.specs.declared.types.Limits.{Limits}

@@ -14,11 +14,10 @@ ghost use Rattle.it_rates.specs.Asked.{under_all_lines};
 
 use crate::marks::with_marks;
 use crate::types::{RepliedProblem, Reply};
-use it_closure::size;
+use it_closure::{MOST_ENTRIES, size};
 use it_outer::{Bounds, Limits, Outer, outer};
 use it_problems::Problem;
 use it_prove::Effort;
-use it_question::readers::MOST_ENTRIES;
 use it_question::types::{Question, Verb};
 use it_rates::problem_of_lines;
 use it_space::Space;

@@ -5,6 +5,7 @@ use Rattle.std.proofs.lemmas.List.{length-map, get_or-map}
 use Rattle.it_canon.specs.QuestionDemands.{problem_of}
 use Rattle.it_prove.specs.declared.types.Effort.{Effort}
 use Rattle.it_space.specs.Answers.{AnswerView}
+use Rattle.it_question.specs.declared.sizes.FileLimits.{FileLimits}
 use Rattle.it_question.specs.Questions.{BodyView, QuestionView, VerbView, Prove, Eliminate, Contain}
 use Rattle.it_copy.specs.CopyLines.{CopyView}
 use Rattle.it_copy.specs.declared.types.CopyFault.{CopyFault}
@@ -65,15 +66,15 @@ module _ (m : Mode) (x : m.Item) (k : ℕ) (fault : CopyFault) (reply : m.Reply)
   misfit_reported texts own r same is told some = misfit_told (report_text texts (misfit_members (misfit_words fault)) ++ codes "\n") r
       (is ∙ ap (λ (s : SourceTexts). report_text s (misfit_members (misfit_words fault)) ++ codes "\n") (sym same)) told some
 
-pub proof_reported : {E : Type 0} (effort : Effort) (x : CopyQuestion) (k : ℕ) (e : BodyView) (texts : SourceTexts) (r : Result (Vec ℕ) E)
-    → texts ≡ copy_texts x → IsExtension x.question.body x.copies e
-    → IfOk r (λ t. IsReportOf effort texts e t.items) → IfOk r (λ t. IsTextOf (copy_mode true effort) [] k x t.items)
-proof_reported effort x k e texts (Ok t) same extension told = record {
+pub proof_reported : {E : Type 0} (limits : FileLimits) (effort : Effort) (x : CopyQuestion) (k : ℕ) (e : BodyView) (texts : SourceTexts) (r : Result (Vec ℕ) E)
+    → texts ≡ copy_texts x → IsExtension limits x.question.body x.copies e
+    → IfOk r (λ t. IsReportOf effort texts e t.items) → IfOk r (λ t. IsTextOf (copy_mode limits true effort) [] k x t.items)
+proof_reported limits effort x k e texts (Ok t) same extension told = record {
   reply = Extended e told.answer;
   right = (extension, told.right);
   is = told.is ∙ ap (λ (s : SourceTexts). report_text s (answer_members e.names told.answer) ++ codes "\n") same;
 }
-proof_reported effort x k e texts (Err f) same extension told = tt
+proof_reported limits effort x k e texts (Err f) same extension told = tt
 
 -- the head and the text as they are written
 pub texts_are : (head text : List ℕ) (copies : List CopyView) (q : QuestionView) → head ≡ head_text copies → text ≡ q.text

@@ -8,6 +8,7 @@ use Rattle.it_space.specs.Answers.AnswerView.{Yes, No, Undecided, Region, Contai
 use Rattle.it_syntax.specs.Meaning.{RelationView}
 use Rattle.it_question.specs.Questions.{BodyView, QuestionView, VerbView, Prove, Eliminate, Contain}
 use Rattle.it_forms.specs.declared.types.Code.{Code}
+use Rattle.it_question.specs.QuestionLimits.{usual}
 use Rattle.it_question.specs.Files.{FileFaultAt, FileIsOne, FileOrFault}
 use Rattle.it_gen.specs.GeneratedFiles.{GeneratedIsFile, IsProve, generated_file}
 use Rattle.it_canon.specs.QuestionDemands.{problem_of}
@@ -134,7 +135,7 @@ answers_add_up budgets plans before counts (q ∷ qs) end all (reply, right, res
 pub counts_add_up : GeneratedIsFile → FileIsOne → CountsAddUp
 counts_add_up generated one_reading budgets plans seed count questions counts few asked counted =
     let file = generated seed count few in
-    let same : file.questions ≡ questions = one_reading (generated_file seed count) file.questions questions file.asked asked in
+    let same : file.questions ≡ questions = one_reading usual (generated_file seed count) file.questions questions file.asked asked in
     let all : All IsProve questions = subst (λ (qs : List QuestionView). All IsProve qs) same file.prove in
     let sum = answers_add_up budgets plans [] no_counts questions counts all counted in
     (sum.0 ∙ (let n : length questions ≡ count = ap length (sym same) ∙ file.counted in omega (arith, n)), sum.1, sum.2, sum.3)
@@ -144,4 +145,4 @@ pub generated_has_no_fault : GeneratedIsFile → FileOrFault → (seed count : �
     → count ≤ 1000 → bytes ≡ generated_file seed count → FileFaultAt bytes line column code → ⊥
 generated_has_no_fault generated apart seed count bytes line column code few is fault =
     let file = generated seed count few in
-    apart (generated_file seed count) file.questions line column code file.asked (subst (λ (b : List ℕ). FileFaultAt b line column code) is fault)
+    apart usual (generated_file seed count) file.questions line column code file.asked (subst (λ (b : List ℕ). FileFaultAt b line column code) is fault)

@@ -18,7 +18,7 @@ use Rattle.it_space.specs.Answers.{AnswerView, CertificateView, answer_view, cer
 use Rattle.it_space.specs.declared.answers.Mark.{Mark}
 use Rattle.it_space.specs.Answers as views
 use Rattle.it_space.specs.Rows.{Terms, IsOver}
-use Rattle.it_space.specs.Spaces.{size_of}
+use Rattle.it_space.specs.Spaces.{size_of, most_variables}
 use Rattle.it_polymatroid.specs.Certificates.{Form}
 use Rattle.it_polymatroid.specs.Elementals.{elementals}
 use Rattle.it_space.proofs.EveryLemmas.{every_of}
@@ -27,7 +27,6 @@ use Rattle.it_syntax.specs.NamesViews.{NamesView}
 use Rattle.it_question.specs.AsciiTexts.{IsAsciiQuestion}
 use Rattle.it_certificate.specs.Values.{IsWritable}
 use Rattle.it_question.specs.Limits.{IsQuestion, IsRegionOf, IsVerbOver}
-use Rattle.it_question.specs.QuestionLimits.{most_names}
 use Rattle.it_question.specs.OwnLines.{RegionView}
 use Rattle.it_question.specs.Questions.{BodyView, QuestionView, VerbView, Prove, Eliminate, Contain}
 use Rattle.it_demand.specs.Demands.{Demand}
@@ -126,13 +125,13 @@ cause_of_due p effort m (t ∷ ts) cause (inr e) = cause_of_due p effort m ts ca
 -- ---- an answer to `prove`
 
 -- a question of a file has few names, also with those of its first region
-few_names : (q : BodyView) → IsQuestion q → (length (problem_names q).variables ≤ most_names) × (length (problem_names q).rates ≤ 16)
+few_names : (q : BodyView) → IsQuestion q → (length (problem_names q).variables ≤ most_variables) × (length (problem_names q).rates ≤ 16)
 few_names q k = by_verb q.verb k.verb
   where
-    by_verb : (verb : VerbView) → IsVerbOver q.names verb → (length (names_under q.names verb).variables ≤ most_names) × (length (names_under q.names verb).rates ≤ 16)
+    by_verb : (verb : VerbView) → IsVerbOver q.names verb → (length (names_under q.names verb).variables ≤ most_variables) × (length (names_under q.names verb).rates ≤ 16)
     by_verb (Prove r) over = (k.few, k.few_rates)
     by_verb (Eliminate rates) over = (k.few, k.few_rates)
-    by_verb (Contain a b tries) over = (over.0.few_variables, subst (λ (rs : List (List ℕ)). length rs ≤ 16) (sym over.0.rates) k.few_rates)
+    by_verb (Contain a b tries) over = (omega (arith, over.0.few_variables), subst (λ (rs : List (List ℕ)). length rs ≤ 16) (sym over.0.rates) k.few_rates)
 
 printable_proof : (effort : Effort) (q : BodyView) (r : RelationView) (m : ℕ) (answer : Answer) → IsQuestion q
     → m ≡ length (question_demands q) → ShowsBy q (Prove r) (answer_view answer)
@@ -142,7 +141,7 @@ printable_proof effort q r m (answers.Yes proofs) k few shown due = certificates
 printable_proof effort q r m (answers.No is_back point) k few shown due =
     let size : length point ≡ size_of (space_of (problem_names q)) = point_size q (targets (variable_count q) r) is_back point shown in
     let names = few_names q k in
-    (omega (arith, size, pow_pos (variable_count q)), omega (arith, size, pow_mono {i = variable_count q} {j = most_names} names.0, names.1))
+    (omega (arith, size, pow_pos (variable_count q)), omega (arith, size, pow_mono {i = variable_count q} {j = most_variables} names.0, names.1))
 printable_proof effort q r m (answers.Undecided cause) k few shown due = cause_of_due (problem_of q) effort (length (problem_names q).rates)
     (map (terms_in q) (targets (variable_count q) r)) cause due
 printable_proof effort q r m (answers.Region rows) k few shown due = absurd shown

@@ -5,6 +5,7 @@ use Rattle.it_outside.specs.Causes.{next_count}
 use Rattle.it_outside.specs.Traffic.{Gains, TookPrefix}
 use Rattle.it_forms.specs.declared.types.Code.{Code}
 use Rattle.it_prove.specs.declared.types.Effort.{Effort}
+use Rattle.it_question.specs.declared.sizes.FileLimits.{FileLimits}
 use Rattle.it_question.specs.Questions.{BodyView, QuestionView}
 use Rattle.it_canon.specs.QuestionDemands.{terms_in, question_origins}
 use Rattle.it_copy.specs.declared.types.CopyLine.{CopyLine}
@@ -150,9 +151,9 @@ ToldFor Answers = AnswerView
 ToldFor Factors = ReplyView
 
 -- a right reply
-abbrev pub IsRightFor : (wanted : Wanted) → Effort → CopyQuestion → ReplyWith (ToldFor wanted) → Type 0
-IsRightFor Answers = IsRightCopy
-IsRightFor Factors = IsRightBestReply
+abbrev pub IsRightFor : FileLimits → (wanted : Wanted) → Effort → CopyQuestion → ReplyWith (ToldFor wanted) → Type 0
+IsRightFor limits Answers = IsRightCopy limits
+IsRightFor limits Factors = IsRightBestReply limits
 
 -- its lines, or the line of a report
 abbrev pub lines_for : (wanted : Wanted) → Bool → ℕ → CopyQuestion → ReplyWith (ToldFor wanted) → List ℕ
@@ -160,12 +161,12 @@ lines_for Answers = copy_lines
 lines_for Factors = best_lines
 
 -- mode `copy` or `best`
-abbrev pub head_mode : Wanted → Bool → Effort → Mode
-head_mode wanted report effort = done_mode AsksWithCopies CopyFileFaultAt (λ (earlier : List (ReplyWith (ToldFor wanted))). IsRightFor wanted effort) (lines_for wanted report)
+abbrev pub head_mode : FileLimits → Wanted → Bool → Effort → Mode
+head_mode limits wanted report effort = done_mode (AsksWithCopies limits) (CopyFileFaultAt limits) (λ (earlier : List (ReplyWith (ToldFor wanted))). IsRightFor limits wanted effort) (lines_for wanted report)
 
 -- the mode of a request
 abbrev pub request_mode : Request → Mode
-request_mode request = head_mode request.wanted request.report request.effort
+request_mode request = head_mode request.limits request.wanted request.report request.effort
 
 -- ---- the same of a sink, by its meaning and its states before and after
 

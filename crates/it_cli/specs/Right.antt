@@ -1,8 +1,10 @@
 -- Right answers to questions in order.
-use Rattle.std.specs.Prelude.{ℕ, List, map, Option}
+use Rattle.std.specs.Prelude.{ℕ, List, map, Option, Some, None}
 use Rattle.it_settings.specs.declared.types.Run.{Run}
 use Rattle.it_settings.specs.declared.types.Run.TheVariants.{Bland, Quick}
 use Rattle.it_elemental.specs.Generators.{Generator}
+use Rattle.it_question.specs.declared.sizes.FileLimits.{FileLimits}
+use Rattle.it_question.specs.QuestionLimits.{usual, wide}
 use Rattle.it_question.specs.Questions.{BodyView, QuestionView}
 use Rattle.it_demand.specs.Demands.{Demand}
 use Rattle.it_canon.specs.QuestionDemands.{question_demands, terms_in}
@@ -29,6 +31,11 @@ budgets_of run pivots rows tries = record { effort = effort_of run pivots; rows 
 -- the limits of a search for outer bounds: the rows that one more ray leaves, the rays, and the effort for a row
 abbrev pub limits_of : Run → Option ℕ → ℕ → ℕ → Limits
 limits_of run pivots rows tries = record { rows = rows; rays = tries; effort = effort_of run pivots }
+
+-- the limits of files whose questions may name n variables, where their number is given
+abbrev pub limits_of_names : Option ℕ → FileLimits
+limits_of_names None = usual
+limits_of_names (Some n) = wide n
 
 -- a right answer by boxes that had these plans before the first question, and know of the candidates `before` that were found
 -- for earlier ones

@@ -24,15 +24,16 @@ use it_answer::{AnsweredProblem, Budgets, answer, target_rows};
 use it_contain::Proposer;
 use it_outside::{Sink, write_all};
 use it_print::{answer_line, proof_text};
-use it_question::questions;
 use it_question::types::{FileFault, Question};
+use it_question::{FileLimits, questions};
 use it_settings::types::Format;
 use it_syntax::types::Code;
 use std::alloc::{AllocError, Global};
 
-/// Answers a question file.
+/// Answers a question file with these limits.
 pub fn answer_file<K: Sink>(
     alloc: Global,
+    limits: FileLimits,
     format: Format,
     budgets: Budgets,
     bytes: &[u8],
@@ -40,10 +41,18 @@ pub fn answer_file<K: Sink>(
     sink: &mut K,
 ) -> Status
     requires { length bytes.now ≤ most_file_bytes }
-    ensures { EndsForBytes K.taken K.faults (answer_mode budgets (map plan boxes.old.items) format) sink.old sink.new bytes.now result }
+    ensures { EndsForBytes K.taken K.faults (answer_mode limits budgets (map plan boxes.old.items) format) sink.old sink.new bytes.now result }
 {
-    match questions(alloc, bytes) {
-        Ok(questions) => answer_all(alloc, format, budgets, questions.as_slice(), boxes, sink),
+    match questions(alloc, bytes, limits) {
+        Ok(questions) => answer_all(
+            alloc,
+            limits,
+            format,
+            budgets,
+            questions.as_slice(),
+            boxes,
+            sink,
+        ),
         Err(FileFault::Fault { line, column, code }) => tell_fault(alloc, line, column, code, sink),
         Err(FileFault::Memory) => Status::Memory,
     }
@@ -52,6 +61,7 @@ pub fn answer_file<K: Sink>(
 /// Writes each answer as soon as it is there.
 fn answer_all<K: Sink>(
     alloc: Global,
+    limits: FileLimits,
     format: Format,
     budgets: Budgets,
     questions: &[Question],
@@ -59,7 +69,7 @@ fn answer_all<K: Sink>(
     sink: &mut K,
 ) -> Status
     requires ascii { All IsAsciiQuestion questions.now }
-    ensures { EndsForItems K.taken K.faults (answer_mode budgets (map plan boxes.old.items) format) sink.old sink.new questions.now result }
+    ensures { EndsForItems K.taken K.faults (answer_mode limits budgets (map plan boxes.old.items) format) sink.old sink.new questions.now result }
 {
     for (i, question) in questions.iter().enumerate() {
         let Ok(text) = answer_one(alloc, format, budgets, i + 1, question, boxes) else {

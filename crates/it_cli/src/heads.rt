@@ -13,6 +13,7 @@ use it_copy::copy_file;
 use it_copy::types::CopyLine;
 use it_outside::{Sink, write_all};
 use it_prove::Effort;
+use it_question::FileLimits;
 use it_question::types::{FileFault, Question};
 use std::alloc::{AllocError, Global};
 
@@ -25,17 +26,19 @@ pub enum Wanted {
     Factors,
 }
 
-/// What is asked of each question, whether the reply is a line of a report, and the effort for each target.
+/// The limits of the file, what is asked of each question, whether the reply is a line of a report, and the effort for each target.
 #[derive(Clone, Copy)]
 struct Request {
+    limits: FileLimits,
     wanted: Wanted,
     report: bool,
     effort: Effort,
 }
 
-/// Answers the questions of a file with a head, or finds their factors.
+/// Answers the questions of a file with a head and these limits, or finds their factors.
 pub fn reply_to_file<K: Sink>(
     alloc: Global,
+    limits: FileLimits,
     wanted: Wanted,
     report: bool,
     effort: Effort,
@@ -43,14 +46,15 @@ pub fn reply_to_file<K: Sink>(
     sink: &mut K,
 ) -> Status
     requires { length bytes.now ≤ most_file_bytes }
-    ensures { EndsForBytes K.taken K.faults (head_mode wanted report effort) sink.old sink.new bytes.now result }
+    ensures { EndsForBytes K.taken K.faults (head_mode limits wanted report effort) sink.old sink.new bytes.now result }
 {
     let request = Request {
+        limits,
         wanted,
         report,
         effort,
     };
-    match copy_file(alloc, bytes) {
+    match copy_file(alloc, bytes, limits) {
         Ok(file) => reply_all(
             alloc,
             request,
@@ -99,7 +103,23 @@ fn text(
     ensures { IfOk result (λ text. IsTextOf (request_mode request) [] k (with_copies (map copy_view copies.now) question.now) text.items) }
 {
     match request.wanted {
-        Wanted::Answers => answer_text(alloc, request.report, request.effort, copies, k, question),
-        Wanted::Factors => factor_text(alloc, request.report, request.effort, copies, k, question),
+        Wanted::Answers => answer_text(
+            alloc,
+            request.limits,
+            request.report,
+            request.effort,
+            copies,
+            k,
+            question,
+        ),
+        Wanted::Factors => factor_text(
+            alloc,
+            request.limits,
+            request.report,
+            request.effort,
+            copies,
+            k,
+            question,
+        ),
     }
 }

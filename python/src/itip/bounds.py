@@ -241,7 +241,7 @@ def bound_words(program: Itip, pivots: Budget, most_rows: int = 512, most_rays: 
     settings = {"--run": program.run, "--rows": most_rows, "--tries": most_rays}
     if budget != "usual":
         settings["--pivots"] = "none" if budget is None else budget
-    return tuple(str(word) for pair in settings.items() for word in pair)
+    return (*(str(word) for pair in settings.items() for word in pair), *program.name_words())
 
 
 def bound_lines(asked: Naming, program: Itip, words: Names) -> list[str]:
