@@ -1,5 +1,5 @@
 -- Steps of texts.
-use Rattle.std.proofs.Common.{◌≡◌, ℕ, ◌<◌, ◌≤◌, ◌*◌, ◌%◌, ◌^◌, ◌-◌, List, ◌∷◌, ◌++◌, ◌+◌, Some, Bool, true, false, if◌then◌else◌, sym, ap, ◌∙◌, arith, append_assoc, append-nil, codes, ◌||◌, drop, [], ℤ, map, filter, cond, refl}
+use Rattle.std.proofs.Common.{◌&&◌, int_lt, bit_or, length, ◌≡◌, ℕ, ◌<◌, ◌≤◌, ◌*◌, ◌%◌, ◌^◌, ◌-◌, List, ◌∷◌, ◌++◌, ◌+◌, Some, Bool, true, false, if◌then◌else◌, sym, ap, ◌∙◌, arith, append_assoc, append-nil, codes, ◌||◌, drop, [], ℤ, map, filter, cond, refl}
 use Rattle.it_space.specs.Answers.{is_nonzero_weight}
 use Rattle.it_problems.specs.declared.problems.Origin.{Origin}
 use Rattle.std.specs.List.{slice_get}
@@ -9,7 +9,9 @@ use Rattle.it_space.specs.Sets.{has_member}
 use Rattle.it_space.specs.Spaces.{most_variables}
 use Rattle.it_space.proofs.SpaceLemmas.{few_sets}
 use Rattle.std.proofs.lemmas.Nat.{pow_below}
-use Rattle.it_print.specs.Lines.{joined_texts, members_from, or_zero, sum_text, weight_text}
+use Rattle.std.specs.Fmt.{signed_decimal}
+use Rattle.it_syntax.specs.NamesViews.{NamesView}
+use Rattle.it_print.specs.Lines.{coordinate_text, each_raises, is_told, joined_texts, members_from, or_zero, pair_texts, sum_text, weight_text}
 
 -- a list's first element, and what is written after it
 pub joined_step : (separator : List ℕ) (some wanted : Bool) (text : List ℕ) (rest : List (List ℕ)) (out : List ℕ)
@@ -73,3 +75,21 @@ set_step names i set name some out e =
     name_is_first : (names : List (List ℕ)) (i : ℕ) → slice_get names i ≡ Some name → drop i names ≡ name ∷ drop (i + 1) names
     name_is_first names i e = drop_more names i name (slice_get_within names i name e)
         ∙ ap (λ n. n ∷ drop (i + 1) names) (get_or_from_slice_get names i name name e)
+
+-- whether each variable from i on raises a value, by the first of them and the others
+pub raise_step : (names : List (List ℕ)) (i : ℕ) (p : ℕ → ℤ) (s : ℕ) → i < length names
+    → each_raises i (drop i names) p s ≡ ((has_member s i || int_lt (p s) (p (bit_or s (2 ^ i)))) && each_raises (i + 1) (drop (i + 1) names) p s)
+raise_step names i p s h = ap (λ ns. each_raises i ns p s) (drop_more names i [] h)
+
+-- one more value of a point
+pub pair_step : (v : NamesView) (values : List ℤ) (i : ℕ) (x : ℤ) (some : Bool) (out : List ℕ) → slice_get values i ≡ Some x
+    → (out ++ joined_texts (codes " ") some (if is_told v values (i + 1) then (coordinate_text v (i + 1) ++ codes "=" ++ signed_decimal x) ∷ [] else []))
+      ++ joined_texts (codes " ") (some || is_told v values (i + 1)) (pair_texts v (is_told v values) (i + 1 + 1) (drop (i + 1) values))
+    ≡ out ++ joined_texts (codes " ") some (pair_texts v (is_told v values) (i + 1) (drop i values))
+pair_step v values i x some out e =
+    joined_step (codes " ") some (is_told v values (i + 1)) (coordinate_text v (i + 1) ++ codes "=" ++ signed_decimal x)
+      (pair_texts v (is_told v values) (i + 1 + 1) (drop (i + 1) values)) out
+    ∙ ap (λ xs. out ++ joined_texts (codes " ") some (pair_texts v (is_told v values) (i + 1) xs)) (sym value_is_first)
+  where
+    value_is_first : drop i values ≡ x ∷ drop (i + 1) values
+    value_is_first = drop_more values i x (slice_get_within values i x e) ∙ ap (λ y. y ∷ drop (i + 1) values) (get_or_from_slice_get values i x x e)
