@@ -25,6 +25,10 @@ ANSWERS = {"prove": ("yes", "no", "undecided"), "eliminate": ("region", "undecid
 FACTORS = ("best", "none", "unbounded")
 
 
+# a whole number as decimal text
+DECIMAL = re.compile("-?[0-9]{1,39}")
+
+
 class Written(str):
     """A number of a line, as it is written."""
 
@@ -148,7 +152,7 @@ def plain(value):
     if isinstance(value, list):
         for member in value:
             plain(member)
-    elif isinstance(value, str) and re.search("[\ud800-\udfff]", value):
+    elif isinstance(value, str) and not value.isascii() and re.search("[\ud800-\udfff]", value):
         raise NoReading
 
 
@@ -186,7 +190,7 @@ def count(value, key, most=2**32 - 1):
 
 def decimal(value, key):
     """A whole number as decimal text."""
-    rule(isinstance(value, str) and not isinstance(value, Written) and re.fullmatch("-?[0-9]{1,39}", value), key)
+    rule(isinstance(value, str) and not isinstance(value, Written) and DECIMAL.fullmatch(value), key)
     rule(abs(int(value)) <= LIMIT, key)
     return int(value)
 
