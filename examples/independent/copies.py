@@ -75,7 +75,8 @@ def extended(question, copies, limits=USUAL):
         raise Misfit("verb")
     names, lines, added = list(question.names), question.givens, []
     for number, copy in enumerate(copies, 1):
-        if copy.name in names + question.rates or not {copy.of, *copy.over} <= set(names) or copy.of in copy.over or len(names) == limits.variables:
+        taken, full = copy.name in names + question.rates, len(names) == limits.variables
+        if taken or full or not {copy.of, *copy.over} <= set(names) or copy.of in copy.over:
             raise Misfit(f"copy {number}")
         old, over, new = 2 ** names.index(copy.of), sum(2 ** names.index(name) for name in set(copy.over)), 2 ** len(names)
         rows = [row_of([(1, new | part), (-1, old | part)]) for part in range(over + 1) if part | over == over]
