@@ -27,7 +27,6 @@ use Rattle.it_copy.specs.Extensions.{IsExtension, extended}
 use Rattle.it_copy.specs.Files.{copies_with_questions, IsCopyFile}
 use Rattle.it_copy.proofs.CopyOutlines.{copy_file_has}
 use Rattle.it_copy.proofs.LimitLemmas.{extended_is_question}
-use Rattle.it_sharing.specs.SharingFiles.{IsSharingFile}
 use Rattle.it_sharing.specs.Sharings.{IsSharing, SharingView, made_question}
 use Rattle.it_sharing.proofs.QuestionLimits.{question_limited}
 use Rattle.it_sharing.proofs.WithinLemmas.{sharing_is_within}
