@@ -9,6 +9,7 @@ pub use crate::lines::file_lines;
 pub use crate::names::{names_to_end, new_name};
 pub use crate::own::MOST_LINES;
 pub use crate::parts::{names_set, relation};
+pub use crate::regions::MOST_NAMES;
 pub use crate::sorts::NameSort;
 pub use crate::texts::with_texts;
 pub use crate::words::{after_word, comma, line_end, word};
