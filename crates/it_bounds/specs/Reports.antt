@@ -29,7 +29,8 @@ pub record ToldReply : Type 0 where
 
 -- the steps are those of the rays, where a report is asked for and the reply has rays
 abbrev pub AreToldSteps : Bool → Limits → BodyView → ReplyView → Option (List StepView) → Type 0
-AreToldSteps true limits q (Bounded rows proofs rays) steps = AreMade (hull_frame limits.rows q) (limits_for q limits).effort (first_rows (kept_rates q (gone_rates q.verb))) rays steps
+AreToldSteps true limits q (Bounded rows proofs rays) steps = AreMade (hull_frame limits.rows q) (limits_for q limits).effort
+    (first_rows (kept_rates q (gone_rates q.verb))) rays steps
 AreToldSteps report limits q reply steps = steps ≡ None
 
 -- the right reply to a question, with the steps that are asked for

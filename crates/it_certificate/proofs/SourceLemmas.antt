@@ -185,7 +185,8 @@ module _ (limits : FileLimits) where
   by_size q copies proof placed few (inl small) = inl (record { made = record { proof = proof; placed = placed }; few = few; small = small; is = refl })
   by_size q copies proof placed few (inr large) = inr (λ x. large x.small)
 
-  extension_or_not : (q : BodyView) (copies : List CopyView) → IsExtension limits q copies (extended q copies) ⊎ (IsExtension limits q copies (extended q copies) → ⊥)
+  extension_or_not : (q : BodyView) (copies : List CopyView)
+      → IsExtension limits q copies (extended q copies) ⊎ (IsExtension limits q copies (extended q copies) → ⊥)
   extension_or_not q copies = by_verb q.verb refl
     where
       by_count : IsProof q.verb → first_unplaced limits 1 q.names copies ≡ None → (most_lines < length (extended q copies).lines.givens)
@@ -221,13 +222,15 @@ module _ (limits : FileLimits) where
   -- bytes ask for copies in one question, or they don't
   by_copies : (bytes : List ℕ) → length bytes ≤ 1048577 → ((copies : List CopyView) × (qs : List QuestionView) × IsCopyFile limits bytes copies qs)
       ⊎ ((line : ℕ) × (column : ℕ) × (c : Code) × CopyFileFaultAt limits bytes line column c)
-      → ((q : QuestionView) × (copies : List CopyView) × AsksOnly limits bytes q copies) ⊎ ((q : QuestionView) (copies : List CopyView) → AsksOnly limits bytes q copies → ⊥)
+      → ((q : QuestionView) × (copies : List CopyView) × AsksOnly limits bytes q copies)
+      ⊎ ((q : QuestionView) (copies : List CopyView) → AsksOnly limits bytes q copies → ⊥)
   by_copies bytes short (inl h) = by_questions h.1 refl
     where
       other : (q : QuestionView) (copies : List CopyView) → AsksOnly limits bytes q copies → (copies ≡ h.0) × (q ∷ [] ≡ h.1)
       other q copies a = copy_file_is_one limits bytes copies h.0 (q ∷ []) h.1 a.reads h.2
 
-      by_extension : (q : QuestionView) → h.1 ≡ q ∷ [] → IsExtension limits q.body h.0 (extended q.body h.0) ⊎ (IsExtension limits q.body h.0 (extended q.body h.0) → ⊥)
+      by_extension : (q : QuestionView) → h.1 ≡ q ∷ []
+          → IsExtension limits q.body h.0 (extended q.body h.0) ⊎ (IsExtension limits q.body h.0 (extended q.body h.0) → ⊥)
           → ((q : QuestionView) × (copies : List CopyView) × AsksOnly limits bytes q copies)
           ⊎ ((q : QuestionView) (copies : List CopyView) → AsksOnly limits bytes q copies → ⊥)
       by_extension q e (inl x) = inl (q, h.0, record { short = short; reads = subst (IsCopyFile limits bytes h.0) e h.2; extension = x })
@@ -269,7 +272,8 @@ module _ (limits : FileLimits) where
       by_length (inl long) = (None, none_made d there text (sym e) (λ x h. let short = h.short in omega (arith, short, long)))
       by_length (inr short) = by_reading (by_sharing text short (sharing_has_one limits text))
 
-  copies_there : (d : Data) → is_some (get (codes "sharing") d) ≡ false → is_some (get (codes "copies") d) ≡ true → (o p : Option (List ℕ)) → text_of (get (codes "copies") d) ≡ o → text_of (get (codes "question") d) ≡ p → SourceThere d
+  copies_there : (d : Data) → is_some (get (codes "sharing") d) ≡ false → is_some (get (codes "copies") d) ≡ true → (o p : Option (List ℕ))
+      → text_of (get (codes "copies") d) ≡ o → text_of (get (codes "question") d) ≡ p → SourceThere d
   copies_there d no_sharing there None p e f = (None, no_head_given d no_sharing there (sym e))
   copies_there d no_sharing there (Some head) None e f = (None, no_question_given d no_sharing there (sym f))
   copies_there d no_sharing there (Some head) (Some text) e f = by_length (cases_lt 1048577 (length (head ++ text)))
@@ -283,7 +287,8 @@ module _ (limits : FileLimits) where
       by_length (inl long) = (None, none_asked d no_sharing there head text (sym e) (sym f) (λ q copies h. let short = h.short in omega (arith, short, long)))
       by_length (inr short) = by_reading (by_copies (head ++ text) short (copy_file_has_one limits (head ++ text)))
 
-  text_there : (d : Data) → is_some (get (codes "sharing") d) ≡ false → is_some (get (codes "copies") d) ≡ false → (o : Option (List ℕ)) → text_of (get (codes "question") d) ≡ o → SourceThere d
+  text_there : (d : Data) → is_some (get (codes "sharing") d) ≡ false → is_some (get (codes "copies") d) ≡ false → (o : Option (List ℕ))
+      → text_of (get (codes "question") d) ≡ o → SourceThere d
   text_there d no_sharing no_copies None e = (None, no_text_given d no_sharing no_copies (sym e))
   text_there d no_sharing no_copies (Some text) e = by_length (cases_lt 1048577 (length text))
     where
@@ -317,19 +322,23 @@ module _ (limits : FileLimits) where
 
   pub one_source : (d : Data) (a b : Source) → IsSourceOf limits d a → IsSourceOf limits d b → a ≡ b
   one_source d (Text p) (Text q) h k =
-      ap Text (first_question p q (file_is_one limits h.text (p ∷ []) (q ∷ []) h.reads (subst (λ (t : List ℕ). IsFileWithin limits t (q ∷ [])) (one_text (get (codes "question") d) h.text k.text h.there k.there) k.reads)))
+      ap Text (first_question p q (file_is_one limits h.text (p ∷ []) (q ∷ []) h.reads
+          (subst (λ (t : List ℕ). IsFileWithin limits t (q ∷ [])) (one_text (get (codes "question") d) h.text k.text h.there k.there) k.reads)))
   one_source d (Text p) (Copies q copies) h k = absurd (text_or_none (get (codes "copies") d) k.head h.no_copies k.head_there)
   one_source d (Text p) (Sharing x) h k = absurd (text_or_none (get (codes "sharing") d) k.text h.no_sharing k.there)
   one_source d (Copies p copies) (Text q) h k = absurd (text_or_none (get (codes "copies") d) h.head k.no_copies h.head_there)
   one_source d (Copies p copies) (Copies q others) h k =
-      let e : k.head ++ k.text ≡ h.head ++ h.text = ap₂ (λ (a b : List ℕ). a ++ b) (one_text (get (codes "copies") d) h.head k.head h.head_there k.head_there) (one_text (get (codes "question") d) h.text k.text h.text_there k.text_there) in
+      let e : k.head ++ k.text ≡ h.head ++ h.text = ap₂ (λ (a b : List ℕ). a ++ b)
+          (one_text (get (codes "copies") d) h.head k.head h.head_there k.head_there)
+          (one_text (get (codes "question") d) h.text k.text h.text_there k.text_there) in
       let same = copy_file_is_one limits (h.head ++ h.text) copies others (p ∷ []) (q ∷ []) h.asks.reads
       (subst (λ (t : List ℕ). IsCopyFile limits t others (q ∷ [])) e k.asks.reads) in
       ap₂ Copies (first_question p q same.1) same.0
   one_source d (Copies p copies) (Sharing x) h k = absurd (text_or_none (get (codes "sharing") d) k.text h.no_sharing k.there)
   one_source d (Sharing x) (Text q) h k = absurd (text_or_none (get (codes "sharing") d) h.text k.no_sharing h.there)
   one_source d (Sharing x) (Copies q copies) h k = absurd (text_or_none (get (codes "sharing") d) h.text k.no_sharing h.there)
-  one_source d (Sharing x) (Sharing y) h k = ap Sharing (sharing_is_one limits h.text x y h.makes.reads (subst (λ (t : List ℕ). IsSharingFile limits t y) (one_text (get (codes "sharing") d) h.text k.text h.there k.there) k.makes.reads))
+  one_source d (Sharing x) (Sharing y) h k = ap Sharing (sharing_is_one limits h.text x y h.makes.reads
+      (subst (λ (t : List ℕ). IsSharingFile limits t y) (one_text (get (codes "sharing") d) h.text k.text h.there k.there) k.makes.reads))
 
   -- ---- what the readers gave
 

@@ -64,7 +64,8 @@ GivesCopied limits bytes (Err Memory) = Unit {0}
 
 -- what the extender of the only one of some questions gave
 abbrev pub GivesExtended : FileLimits → List CopyView → List QuestionView → Result QuestionView Refusal → Type 0
-GivesExtended limits copies qs (Ok e) = (q : QuestionView) × (qs ≡ q ∷ []) × IsExtension limits q.body copies (extended q.body copies) × (asked (Copies q copies) ≡ e)
+GivesExtended limits copies qs (Ok e) = (q : QuestionView) × (qs ≡ q ∷ []) × IsExtension limits q.body copies (extended q.body copies)
+    × (asked (Copies q copies) ≡ e)
 GivesExtended limits copies qs (Err Shape) = (q : QuestionView) → qs ≡ q ∷ [] → IsExtension limits q.body copies (extended q.body copies) → ⊥
 GivesExtended limits copies qs (Err Memory) = Unit {0}
 

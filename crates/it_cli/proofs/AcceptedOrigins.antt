@@ -74,7 +74,8 @@ module _ (p : ProblemView) where
 
 -- ---- the line of a region with certificates of its rows
 
-module _ (allowed : FileLimits) (back : ReadsBack) (origins_back : OriginsReadBack) (q : QuestionView) (short : length q.text ≤ 1048577) (file : IsFileWithin allowed q.text (q ∷ [])) where
+module _ (allowed : FileLimits) (back : ReadsBack) (origins_back : OriginsReadBack) (q : QuestionView) (short : length q.text ≤ 1048577)
+    (file : IsFileWithin allowed q.text (q ∷ [])) where
   region_accepted : (rows : List (Mark × Terms)) (ws : List CertificateView) → HasQuestionShape q.body (Region rows) → All (λ r. All IsNumberedAmount r.1) rows
       → AllZip (IsToldOrigin (problem_of (under_all_lines q.body))) (region_rows rows) ws → IsAccepted allowed (derived_text q.text q.body.names rows ws)
   region_accepted rows ws fits amounts told =
@@ -135,7 +136,8 @@ pub told_accepted : (allowed : FileLimits) → ReadsBack → OriginsReadBack →
     (told : ToldReply) → IfSome budgets.effort.pivots (λ n. n < 2 ^ 32) → budgets.tries < 2 ^ 32 → length q.text ≤ 1048577
     → IsFileWithin allowed q.text (q ∷ []) → IsRightTold format budgets plans q.body told → IsAccepted allowed (told_report q told.reply.answer told.origins)
 told_accepted allowed back origins_back format budgets plans q told few few_tries short file right =
-    by_origins allowed back origins_back q short file budgets plans few few_tries format told.reply.answer told.reply.found told.origins right.reply right.origins
+    by_origins allowed back origins_back q short file budgets plans few few_tries format told.reply.answer told.reply.found told.origins right.reply
+        right.origins
 
 pub reports_are_accepted : ReadsBack → OriginsReadBack → ReportsAreAccepted
 reports_are_accepted back origins_back allowed format budgets plans q told few few_tries short file right

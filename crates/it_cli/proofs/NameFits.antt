@@ -174,11 +174,15 @@ question_keeps limits =
 abbrev IfSoundAll : Fact (List BodyView)
 IfSoundAll p qs = Every IsSound p → Every (λ q. AreGood q.names) qs
 
-more_questions_keep : (limits : FileLimits) (p : List Letter) (qs : List BodyView) → IfSoundAll p qs → Always (more_questions limits qs) (λ q rs. IfSoundAll (p ++ q) rs)
+more_questions_keep : (limits : FileLimits) (p : List Letter) (qs : List BodyView) → IfSoundAll p qs
+    → Always (more_questions limits qs) (λ q rs. IfSoundAll (p ++ q) rs)
 unfolding Always more_questions
-more_questions_keep limits p qs s = loop_keeps (Keyword (codes "vars") ∷ []) (λ qs l. (limit_flag (most_questions - length qs), tt {0})) (λ qs u. Then (question limits) (λ q. Give (qs ++ q ∷ []))) IfSoundAll turn p qs s
+more_questions_keep limits p qs s = loop_keeps (Keyword (codes "vars") ∷ []) (λ qs l. (limit_flag (most_questions - length qs), tt {0}))
+    (λ qs u. Then (question limits) (λ q. Give (qs ++ q ∷ []))) IfSoundAll turn p qs s
   where
-    turn : (p : List Letter) (qs : List BodyView) → IfSoundAll p qs → OfEach (record { kinds = Keyword (codes "vars") ∷ []; says = λ l. (limit_flag (most_questions - length qs), tt {0}) }) (λ p0 b. Always (Then (question limits) (λ q. Give (qs ++ q ∷ []))) (λ q rs. IfSoundAll (p ++ (p0 ++ q)) rs))
+    turn : (p : List Letter) (qs : List BodyView) → IfSoundAll p qs
+        → OfEach (record { kinds = Keyword (codes "vars") ∷ []; says = λ l. (limit_flag (most_questions - length qs), tt {0}) })
+        (λ p0 b. Always (Then (question limits) (λ q. Give (qs ++ q ∷ []))) (λ q rs. IfSoundAll (p ++ (p0 ++ q)) rs))
     turn p qs s l e m = always_weaker (question limits) (λ q b. IfSound q b.names) _ (λ q b h all.
         let parts = every_back IsSound p ((l ∷ []) ++ (q ++ [])) all in
         every-append (λ b. AreGood b.names) qs (b ∷ []) (s (every_front IsSound p ((l ∷ []) ++ (q ++ [])) all))

@@ -70,7 +70,8 @@ module _ (m : Mode) (d : IsDetermined m) where
 
 files_are_one : FileIsOne → FileFaultIsOne → FileOrFault → (limits : FileLimits) (budgets : Budgets) (plans : List Plan) (format : Format)
     → HasOneReading (answer_mode limits budgets plans format)
-files_are_one one_file one_fault apart limits budgets plans format = record { one_reading = one_file limits; one_fault = one_fault limits; apart = apart limits }
+files_are_one one_file one_fault apart limits budgets plans format = record
+    { one_reading = one_file limits; one_fault = one_fault limits; apart = apart limits }
 
 lines_are_one : (limits : FileLimits) → HasOneReading (check_mode limits)
 lines_are_one limits = record {
@@ -107,7 +108,8 @@ factored_are_one : CopiesAreOne → (limits : FileLimits) (report : Bool) (effor
 factored_are_one one limits report effort = let mode = heads_are_one one limits report effort
     in record { one_reading = mode.one_reading; one_fault = mode.one_fault; apart = mode.apart }
 
-bounded_are_one : FileIsOne → FileFaultIsOne → FileOrFault → (file : FileLimits) (report : Bool) (limits : Limits) → HasOneReading (outer_mode file report limits)
+bounded_are_one : FileIsOne → FileFaultIsOne → FileOrFault → (file : FileLimits) (report : Bool) (limits : Limits)
+    → HasOneReading (outer_mode file report limits)
 bounded_are_one one_file one_fault apart file report limits = record { one_reading = one_file file; one_fault = one_fault file; apart = apart file }
 
 -- a sharing file has one reading or one fault
@@ -125,12 +127,14 @@ sharing_files_are_one one limits report effort = record {
 
 module _ (one_file : FileIsOne) (one_fault : FileFaultIsOne) (apart : FileOrFault) (copies : CopiesAreOne) (sharings : SharingsAreOne) where
   pub modes_have_one_reading : ModesHaveOneReading
-  modes_have_one_reading plans (Answer format run pivots rows tries names) = files_are_one one_file one_fault apart (limits_of_names names) (budgets_of run pivots rows tries) plans format
+  modes_have_one_reading plans (Answer format run pivots rows tries names) = files_are_one one_file one_fault apart (limits_of_names names)
+      (budgets_of run pivots rows tries) plans format
   modes_have_one_reading plans (Check names) = lines_are_one (limits_of_names names)
   modes_have_one_reading plans (Bench seed count run pivots rows tries) = nothing_is_one (budgets_of run pivots rows tries) plans seed count
   modes_have_one_reading plans (Copy report run pivots names) = heads_are_one copies (limits_of_names names) report (effort_of run pivots)
   modes_have_one_reading plans (Best report run pivots names) = factored_are_one copies (limits_of_names names) report (effort_of run pivots)
-  modes_have_one_reading plans (Outer report run pivots rows tries names) = bounded_are_one one_file one_fault apart (limits_of_names names) report (limits_of run pivots rows tries)
+  modes_have_one_reading plans (Outer report run pivots rows tries names) = bounded_are_one one_file one_fault apart (limits_of_names names) report
+      (limits_of run pivots rows tries)
   modes_have_one_reading plans (Sharing report run pivots names) = sharing_files_are_one sharings (limits_of_names names) report (effort_of run pivots)
 
 -- ---- and one reply to an item, where the defined run alone is made
@@ -159,7 +163,8 @@ one_told format other one_answer budgets defined plans q a b reach f g =
     (none_told format other q a.reply.answer a.origins f.origins ∙ sym (none_told format other q b.reply.answer b.origins g.origins))
 
 one_line : OneRightAnswer → FileIsOne → FileIsInReach → (budgets : Budgets) → budgets.effort.runs ≡ Defined
-    → (plans : List Plan) (seed count : ℕ) (line other : List ℕ) → IsBenchLine budgets plans seed count line → IsBenchLine budgets plans seed count other → line ≡ other
+    → (plans : List Plan) (seed count : ℕ) (line other : List ℕ) → IsBenchLine budgets plans seed count line → IsBenchLine budgets plans seed count other
+    → line ≡ other
 one_line one_answer one_file reach budgets defined plans seed count line other a b =
     let same = one_file usual (generated_file seed count) a.questions b.questions a.asked b.asked in
     let moved : AreCounted budgets plans [] no_counts b.questions a.counts = subst
@@ -181,7 +186,8 @@ module _ (one : CopiesAreOne) (limits : FileLimits) where
 
 -- the defined run about a question of a usual file, and about the question with copies, is in reach
 abbrev IsReached : CopyQuestion → Type 0
-IsReached x = (is_in_reach (problem_of x.question.body) ≡ true) × ((e : BodyView) → IsExtension usual x.question.body x.copies e → is_in_reach (problem_of e) ≡ true)
+IsReached x = (is_in_reach (problem_of x.question.body) ≡ true)
+    × ((e : BodyView) → IsExtension usual x.question.body x.copies e → is_in_reach (problem_of e) ≡ true)
 
 asked_in_reach : (q e : BodyView) (cs : List CopyView) → is_in_reach (problem_of q) ≡ true
     → ((d : BodyView) → IsExtension usual q cs d → is_in_reach (problem_of d) ≡ true) → IsAskedWith usual q cs e → is_in_reach (problem_of e) ≡ true

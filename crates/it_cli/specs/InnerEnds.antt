@@ -33,7 +33,7 @@ use Rattle.it_cli.specs.Ends.{Ends, call_of}
 use Rattle.it_cli.specs.Modes.{FirstOutput, Mode, OutputInPart, WholeOutput}
 use Rattle.it_cli.specs.Outputs.{done_mode}
 use Rattle.it_cli.specs.Refusals.{fault_line}
-use Rattle.it_cli.specs.declared.heads.Request.{Request}
+use Rattle.it_cli.specs.declared.requests.Request.{Request}
 use Rattle.it_cli.specs.declared.heads.Wanted.{Wanted}
 use Rattle.it_cli.specs.declared.heads.Wanted.TheVariants.{Answers, Factors}
 use Rattle.it_cli.specs.declared.status.Status.{Status}
@@ -162,11 +162,12 @@ lines_for Factors = best_lines
 
 -- mode `copy` or `best`
 abbrev pub head_mode : FileLimits → Wanted → Bool → Effort → Mode
-head_mode limits wanted report effort = done_mode (AsksWithCopies limits) (CopyFileFaultAt limits) (λ (earlier : List (ReplyWith (ToldFor wanted))). IsRightFor limits wanted effort) (lines_for wanted report)
+head_mode limits wanted report effort = done_mode (AsksWithCopies limits) (CopyFileFaultAt limits)
+    (λ (earlier : List (ReplyWith (ToldFor wanted))). IsRightFor limits wanted effort) (lines_for wanted report)
 
--- the mode of a request
-abbrev pub request_mode : Request → Mode
-request_mode request = head_mode request.limits request.wanted request.report request.effort
+-- the mode of a request for answers or factors
+abbrev pub request_mode : Wanted → Request → Mode
+request_mode wanted request = head_mode request.limits wanted request.report request.effort
 
 -- ---- the same of a sink, by its meaning and its states before and after
 

@@ -94,11 +94,13 @@ best_mode limits report effort = done_mode (AsksWithCopies limits) (CopyFileFaul
 
 -- one right reply to each question of a file that asks for outer bounds, as a line of a report or not
 abbrev pub outer_mode : FileLimits → Bool → Limits → Mode
-outer_mode file report limits = done_mode (IsFileWithin file) (FileFaultWithin file) (λ earlier q told. bounds.IsRightTold report limits q.body told) (bounds.told_lines report limits)
+outer_mode file report limits = done_mode (IsFileWithin file) (FileFaultWithin file) (λ earlier q told. bounds.IsRightTold report limits q.body told)
+    (bounds.told_lines report limits)
 
 -- one right reply to what a sharing file asks, as a line of a report or not
 abbrev pub sharing_mode : FileLimits → Bool → Effort → Mode
-sharing_mode limits report effort = done_mode (AsksOfSharing limits) (SharingFaultAt limits) (λ earlier x. IsRightSharing effort x.says) (λ k. sharing_lines report)
+sharing_mode limits report effort = done_mode (AsksOfSharing limits) (SharingFaultAt limits) (λ earlier x. IsRightSharing effort x.says)
+    (λ k. sharing_lines report)
 
 -- the mode that the words ask for; the boxes had these plans
 abbrev pub mode_of : List Plan → Settings → Mode

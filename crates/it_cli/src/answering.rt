@@ -18,6 +18,7 @@ ghost use Rattle.it_question.specs.QuestionLimits.{most_file_bytes};
 
 use crate::json_lines::{derived_line, json_line};
 use crate::refusals::fault_line;
+use crate::requests::AnswerRequest;
 use crate::status::Status;
 use crate::telling::tell;
 use it_answer::{AnsweredProblem, Budgets, answer, target_rows};
@@ -25,34 +26,24 @@ use it_contain::Proposer;
 use it_outside::{Sink, write_all};
 use it_print::{answer_line, proof_text};
 use it_question::types::{FileFault, Question};
-use it_question::{FileLimits, questions};
+use it_question::questions;
 use it_settings::types::Format;
 use it_syntax::types::Code;
 use std::alloc::{AllocError, Global};
 
-/// Answers a question file with these limits.
+/// Answers a question file.
 pub fn answer_file<K: Sink>(
     alloc: Global,
-    limits: FileLimits,
-    format: Format,
-    budgets: Budgets,
+    request: AnswerRequest,
     bytes: &[u8],
     boxes: &mut Vec<Box<dyn Proposer>>,
     sink: &mut K,
 ) -> Status
     requires { length bytes.now ≤ most_file_bytes }
-    ensures { EndsForBytes K.taken K.faults (answer_mode limits budgets (map plan boxes.old.items) format) sink.old sink.new bytes.now result }
+    ensures { EndsForBytes K.taken K.faults (answer_mode request.limits request.budgets (map plan boxes.old.items) request.format) sink.old sink.new bytes.now result }
 {
-    match questions(alloc, bytes, limits) {
-        Ok(questions) => answer_all(
-            alloc,
-            limits,
-            format,
-            budgets,
-            questions.as_slice(),
-            boxes,
-            sink,
-        ),
+    match questions(alloc, bytes, request.limits) {
+        Ok(questions) => answer_all(alloc, request, questions.as_slice(), boxes, sink),
         Err(FileFault::Fault { line, column, code }) => tell_fault(alloc, line, column, code, sink),
         Err(FileFault::Memory) => Status::Memory,
     }
@@ -61,18 +52,23 @@ pub fn answer_file<K: Sink>(
 /// Writes each answer as soon as it is there.
 fn answer_all<K: Sink>(
     alloc: Global,
-    limits: FileLimits,
-    format: Format,
-    budgets: Budgets,
+    request: AnswerRequest,
     questions: &[Question],
     boxes: &mut Vec<Box<dyn Proposer>>,
     sink: &mut K,
 ) -> Status
     requires ascii { All IsAsciiQuestion questions.now }
-    ensures { EndsForItems K.taken K.faults (answer_mode limits budgets (map plan boxes.old.items) format) sink.old sink.new questions.now result }
+    ensures { EndsForItems K.taken K.faults (answer_mode request.limits request.budgets (map plan boxes.old.items) request.format) sink.old sink.new questions.now result }
 {
     for (i, question) in questions.iter().enumerate() {
-        let Ok(text) = answer_one(alloc, format, budgets, i + 1, question, boxes) else {
+        let Ok(text) = answer_one(
+            alloc,
+            request.format,
+            request.budgets,
+            i + 1,
+            question,
+            boxes,
+        ) else {
             return Status::Memory;
         };
         let Ok(()) = write_all(sink, text.as_slice()) else {

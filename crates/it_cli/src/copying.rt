@@ -9,6 +9,7 @@ ghost use Rattle.it_cli.specs.Outputs.{copy_mode};
 use crate::answering::text_lines;
 use crate::misfits::{misfit_line, misfit_report};
 use crate::reporting::{head_text, proof_report};
+use crate::requests::Request;
 use it_answer::{Budgets, answer};
 use it_certificate::SourceText;
 use it_copy::extend;
@@ -22,21 +23,19 @@ use std::alloc::{AllocError, Global};
 /// of a report instead.
 pub fn answer_text(
     alloc: Global,
-    limits: FileLimits,
-    report: bool,
-    effort: Effort,
+    request: Request,
     copies: &[CopyLine],
     k: usize,
     question: &Question,
 ) -> Result<Vec<u8>, AllocError>
     requires names { AreNamed copies.now }
     requires few { length copies.now ≤ 4 }
-    ensures { IfOk result (λ text. IsTextOf (copy_mode limits report effort) [] k (with_copies (map copy_view copies.now) question.now) text.items) }
+    ensures { IfOk result (λ text. IsTextOf (copy_mode request.limits request.report request.effort) [] k (with_copies (map copy_view copies.now) question.now) text.items) }
 {
-    if report {
-        reply_report(alloc, limits, effort, copies, k, question)
+    if request.report {
+        reply_report(alloc, request.limits, request.effort, copies, k, question)
     } else {
-        reply_lines(alloc, limits, effort, copies, k, question)
+        reply_lines(alloc, request.limits, request.effort, copies, k, question)
     }
 }
 

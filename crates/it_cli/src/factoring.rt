@@ -8,6 +8,7 @@ ghost use Rattle.it_cli.specs.Outputs.{best_mode};
 
 use crate::misfits::{misfit_line, misfit_report};
 use crate::reporting::{factor_report, head_text};
+use crate::requests::Request;
 use it_certificate::SourceText;
 use it_copy::extend;
 use it_copy::types::CopyLine;
@@ -20,21 +21,19 @@ use std::alloc::{AllocError, Global};
 /// The line of the right reply to question `k`, counted from 1; with `report` the line of a report instead.
 pub fn factor_text(
     alloc: Global,
-    limits: FileLimits,
-    report: bool,
-    effort: Effort,
+    request: Request,
     copies: &[CopyLine],
     k: usize,
     question: &Question,
 ) -> Result<Vec<u8>, AllocError>
     requires names { AreNamed copies.now }
     requires few { length copies.now ≤ 4 }
-    ensures { IfOk result (λ text. IsTextOf (best_mode limits report effort) [] k (with_copies (map copy_view copies.now) question.now) text.items) }
+    ensures { IfOk result (λ text. IsTextOf (best_mode request.limits request.report request.effort) [] k (with_copies (map copy_view copies.now) question.now) text.items) }
 {
-    if report {
-        reply_report(alloc, limits, effort, copies, k, question)
+    if request.report {
+        reply_report(alloc, request.limits, request.effort, copies, k, question)
     } else {
-        reply_text(alloc, limits, effort, copies, k, question)
+        reply_text(alloc, request.limits, request.effort, copies, k, question)
     }
 }
 

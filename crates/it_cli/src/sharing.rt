@@ -12,6 +12,7 @@ use crate::answering::tell_fault;
 use crate::copying::proof_lines;
 use crate::factoring::factor_line;
 use crate::reporting::{factor_report, proof_report};
+use crate::requests::Request;
 use crate::status::Status;
 use crate::telling::tell;
 use it_certificate::{SourceText, misfit_json};
@@ -27,20 +28,18 @@ use std::alloc::{AllocError, Global};
 /// The line where the minimal and the maximal sets are too many.
 const MANY: &[u8] = b"misfit many\n";
 
-/// Answers what a sharing file with these limits asks.
+/// Answers what a sharing file asks.
 pub fn answer_sharing<K: Sink>(
     alloc: Global,
-    limits: FileLimits,
-    report: bool,
-    effort: Effort,
+    request: Request,
     bytes: &[u8],
     sink: &mut K,
 ) -> Status
     requires { length bytes.now ≤ most_file_bytes }
-    ensures { EndsForBytes K.taken K.faults (sharing_mode limits report effort) sink.old sink.new bytes.now result }
+    ensures { EndsForBytes K.taken K.faults (sharing_mode request.limits request.report request.effort) sink.old sink.new bytes.now result }
 {
-    match sharing(alloc, bytes, limits) {
-        Ok(sharing) => reply(alloc, limits, report, effort, bytes, &sharing, sink),
+    match sharing(alloc, bytes, request.limits) {
+        Ok(sharing) => reply(alloc, request, bytes, &sharing, sink),
         Err(FileFault::Fault { line, column, code }) => tell_fault(alloc, line, column, code, sink),
         Err(FileFault::Memory) => Status::Memory,
     }
@@ -49,16 +48,14 @@ pub fn answer_sharing<K: Sink>(
 /// Writes the lines for what a sharing file asks.
 fn reply<K: Sink>(
     alloc: Global,
-    limits: FileLimits,
-    report: bool,
-    effort: Effort,
+    request: Request,
     bytes: &[u8],
     sharing: &Sharing,
     sink: &mut K,
 ) -> Status
-    ensures { EndsForItems K.taken K.faults (sharing_mode limits report effort) sink.old sink.new (said_by bytes.now sharing.now ∷ []) result }
+    ensures { EndsForItems K.taken K.faults (sharing_mode request.limits request.report request.effort) sink.old sink.new (said_by bytes.now sharing.now ∷ []) result }
 {
-    match text(alloc, limits, report, effort, bytes, sharing) {
+    match text(alloc, request, bytes, sharing) {
         Ok(text) => tell(sink, text.as_slice(), Status::Done),
         Err(_) => Status::Memory,
     }
@@ -67,18 +64,16 @@ fn reply<K: Sink>(
 /// The lines of the right reply to what a sharing file asks; with `report` the line of a report instead.
 fn text(
     alloc: Global,
-    limits: FileLimits,
-    report: bool,
-    effort: Effort,
+    request: Request,
     bytes: &[u8],
     sharing: &Sharing,
 ) -> Result<Vec<u8>, AllocError>
-    ensures { IfOk result (λ text. IsTextOf (sharing_mode limits report effort) [] 1 (said_by bytes.now sharing.now) text.items) }
+    ensures { IfOk result (λ text. IsTextOf (sharing_mode request.limits request.report request.effort) [] 1 (said_by bytes.now sharing.now) text.items) }
 {
-    if report {
-        report_line(alloc, limits, effort, bytes, sharing)
+    if request.report {
+        report_line(alloc, request.limits, request.effort, bytes, sharing)
     } else {
-        lines(alloc, limits, effort, bytes, sharing)
+        lines(alloc, request.limits, request.effort, bytes, sharing)
     }
 }
 

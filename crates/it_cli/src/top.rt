@@ -13,6 +13,7 @@ use crate::bounding::find_bounds;
 use crate::checking::check_report;
 use crate::heads::{Wanted, reply_to_file};
 use crate::refusals::LONG;
+use crate::requests::{AnswerRequest, Request};
 use crate::sharing::answer_sharing;
 use crate::status::Status;
 use crate::telling::tell;
@@ -194,7 +195,12 @@ fn reply<K: Sink>(
         } => {
             let limits = limits_of_names(names);
             let budgets = budgets_of(run, pivots, rows, tries);
-            answer_file(alloc, limits, format, budgets, bytes, boxes, sink)
+            let request = AnswerRequest {
+                limits,
+                format,
+                budgets,
+            };
+            answer_file(alloc, request, bytes, boxes, sink)
         }
         Settings::Check { names } => check_report(alloc, limits_of_names(names), bytes, sink),
         Settings::Bench {
@@ -216,7 +222,12 @@ fn reply<K: Sink>(
         } => {
             let limits = limits_of_names(names);
             let effort = effort_of(run, pivots);
-            reply_to_file(alloc, limits, Wanted::Answers, report, effort, bytes, sink)
+            let request = Request {
+                limits,
+                report,
+                effort,
+            };
+            reply_to_file(alloc, Wanted::Answers, request, bytes, sink)
         }
         Settings::Best {
             report,
@@ -226,7 +237,12 @@ fn reply<K: Sink>(
         } => {
             let limits = limits_of_names(names);
             let effort = effort_of(run, pivots);
-            reply_to_file(alloc, limits, Wanted::Factors, report, effort, bytes, sink)
+            let request = Request {
+                limits,
+                report,
+                effort,
+            };
+            reply_to_file(alloc, Wanted::Factors, request, bytes, sink)
         }
         Settings::Outer {
             report,
@@ -248,7 +264,12 @@ fn reply<K: Sink>(
         } => {
             let limits = limits_of_names(names);
             let effort = effort_of(run, pivots);
-            answer_sharing(alloc, limits, report, effort, bytes, sink)
+            let request = Request {
+                limits,
+                report,
+                effort,
+            };
+            answer_sharing(alloc, request, bytes, sink)
         }
     }
 }

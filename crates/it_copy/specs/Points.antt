@@ -33,8 +33,10 @@ OneExtension = (limits : FileLimits) (q d e : BodyView) (cs : List CopyView) →
 
 -- a question has at most one reason against copies, apart from memory
 abbrev pub OneMisfit : Type 0
-OneMisfit = (limits : FileLimits) (q : BodyView) (cs : List CopyView) (f g : CopyFault) → (f ≡ Memory → ⊥) → (g ≡ Memory → ⊥) → IsMisfit limits q cs f → IsMisfit limits q cs g → f ≡ g
+OneMisfit = (limits : FileLimits) (q : BodyView) (cs : List CopyView) (f g : CopyFault) → (f ≡ Memory → ⊥) → (g ≡ Memory → ⊥) → IsMisfit limits q cs f
+    → IsMisfit limits q cs g → f ≡ g
 
 -- no question has both an extension by some copies and a reason against them, apart from memory
 abbrev pub ExtensionOrMisfit : Type 0
-ExtensionOrMisfit = (limits : FileLimits) (q e : BodyView) (cs : List CopyView) (f : CopyFault) → (f ≡ Memory → ⊥) → IsExtension limits q cs e → IsMisfit limits q cs f → ⊥
+ExtensionOrMisfit = (limits : FileLimits) (q e : BodyView) (cs : List CopyView) (f : CopyFault) → (f ≡ Memory → ⊥) → IsExtension limits q cs e
+    → IsMisfit limits q cs f → ⊥

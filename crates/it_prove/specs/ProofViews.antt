@@ -119,7 +119,8 @@ EndsAgree = (q : ProblemView) (target : Terms) (effort other : Effort) (w : Cert
 
 -- where the defined run alone is made a target has one outcome
 abbrev pub OneProofView : Type 0
-OneProofView = (q : ProblemView) (target : Terms) (effort : Effort) (o p : ProofView) → effort.runs ≡ Defined → EndsWith q target effort o → EndsWith q target effort p → o ≡ p
+OneProofView = (q : ProblemView) (target : Terms) (effort : Effort) (o p : ProofView) → effort.runs ≡ Defined → EndsWith q target effort o
+    → EndsWith q target effort p → o ≡ p
 
 -- the outcome of the defined run alone is one of the possible outcomes whichever runs are made
 abbrev pub DefinedEndsMayCome : Type 0

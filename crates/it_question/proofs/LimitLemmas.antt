@@ -468,12 +468,14 @@ question_keeps limits = always_weaker (new_names Variable (names_within limits) 
       };
       small = ha.small;
     })
-    (verb_keeps limits own names)) (own_lines_keep most_lines most_lines names)) (names_line_keeps Rate most_rates (codes "rates") variables)) (new_names_keep Variable (names_within limits) no_names)
+    (verb_keeps limits own names)) (own_lines_keep most_lines most_lines names)) (names_line_keeps Rate most_rates (codes "rates") variables))
+    (new_names_keep Variable (names_within limits) no_names)
 
 file_keeps : (limits : FileLimits) → Always (file limits) (λ p qs. All (IsRead limits) qs)
 unfolding file more_questions Always
 file_keeps limits = always_weaker (more_questions limits []) _ _ (λ p qs h l e m. h)
-    (each_keeps (Keyword (codes "vars") ∷ []) (λ qs l. (limit_flag (most_questions - length qs), tt {0})) (λ qs u. question limits) (λ qs q. qs ++ q ∷ []) (All (IsRead limits))
+    (each_keeps (Keyword (codes "vars") ∷ []) (λ qs l. (limit_flag (most_questions - length qs), tt {0})) (λ qs u. question limits) (λ qs q. qs ++ q ∷ [])
+    (All (IsRead limits))
     (λ qs h l e m. always_weaker (question limits) _ _ (λ p q hq. all_and_one (IsRead limits) qs q h hq) (question_keeps limits)) [] (All-nil (IsRead limits)))
 
 -- ---- what the readers hand on

@@ -215,7 +215,8 @@ verb_small limits own v = (
 
 question_small : (limits : FileLimits) → Always (question limits) (λ p q. AreSmall p → QuestionHasSmallNumbers q)
 unfolding question Always
-question_small limits = always_any (new_names Variable (names_within limits) no_names) _ (λ p variables. always_any (names_line Rate most_rates (codes "rates") variables) _
+question_small limits = always_any (new_names Variable (names_within limits) no_names) _
+    (λ p variables. always_any (names_line Rate most_rates (codes "rates") variables) _
     (λ q names. always_weaker (own_lines most_lines most_lines names) _ _ (λ r own ho. always_weaker (verb limits own names) _ _ (λ w aim ha small.
     let after = rest_small q _ (rest_small p _ small) in (ho (front_small r _ after), ha (front_small w _ (rest_small r _ after))))
     (verb_small limits own names)) (own_lines_small most_lines most_lines names)))
@@ -223,7 +224,8 @@ question_small limits = always_any (new_names Variable (names_within limits) no_
 pub file_small : (limits : FileLimits) → Always (file limits) (λ p qs. AreSmall p → Every QuestionHasSmallNumbers qs)
 unfolding file more_questions Always
 file_small limits = always_weaker (more_questions limits []) _ _ (λ p qs h l e u small. h (front_small p _ small))
-    (loop_keeps (Keyword (codes "vars") ∷ []) (λ qs l. (limit_flag (most_questions - length qs), tt {0})) (λ qs u. Then (question limits) (λ q. Give (qs ++ q ∷ []))) (λ p qs. AreSmall p → Every QuestionHasSmallNumbers qs)
+    (loop_keeps (Keyword (codes "vars") ∷ []) (λ qs l. (limit_flag (most_questions - length qs), tt {0}))
+    (λ qs u. Then (question limits) (λ q. Give (qs ++ q ∷ []))) (λ p qs. AreSmall p → Every QuestionHasSmallNumbers qs)
     (λ p qs h l e u. always_weaker (question limits) _ _ (λ q b k small. every_more QuestionHasSmallNumbers qs b (h (front_small p _ small))
     (k (front_small q _ (rest_small (l ∷ []) _ (rest_small p _ small))))) (question_small limits)) [] [] (λ small. tt))
 
@@ -265,7 +267,8 @@ texts_apart lines [] h = tt
 texts_apart lines (q ∷ qs) h = (h.0, texts_apart (drop (question_line_count q) lines) qs h.1)
 
 -- the questions of a file count by numbers of 64 bits
-pub file_has_small_numbers : (limits : FileLimits) (bytes : List ℕ) (qs : List QuestionView) → IsFileWithin limits bytes qs → Every (λ (q : QuestionView). QuestionHasSmallNumbers q.body) qs
+pub file_has_small_numbers : (limits : FileLimits) (bytes : List ℕ) (qs : List QuestionView) → IsFileWithin limits bytes qs
+    → Every (λ (q : QuestionView). QuestionHasSmallNumbers q.body) qs
 file_has_small_numbers limits bytes qs asked =
     let small = lines_small 1 (split_lines bytes) asked.lines asked.cut in
     let all = always_said (file limits) _ (file_has limits) (λ p qs. AreSmall p → Every QuestionHasSmallNumbers qs) (file_small limits)

@@ -220,11 +220,17 @@ verb_has_lines (Prove r) = omega arith
 verb_has_lines (Eliminate rates) = omega arith
 verb_has_lines (Contain first second tries) = omega arith
 
-verb_lines : (limits : FileLimits) (own : OwnLinesView) (v : NamesView) (y : VerbView) (m k : FlaggedLetters) → Spells (verb limits own v) y m k → Puts (HasLines (verb_line_count y)) m k
+verb_lines : (limits : FileLimits) (own : OwnLinesView) (v : NamesView) (y : VerbView) (m k : FlaggedLetters) → Spells (verb limits own v) y m k
+    → Puts (HasLines (verb_line_count y)) m k
 unfolding verb Spells
-verb_lines limits own v y m k (inl s) = subst (λ (x : VerbView). Puts (HasLines (verb_line_count x)) m k) s.3.3.0 (puts_at (tokens_lines 0 (taken_token (flagged_word (codes "prove") (table_flag limits v own)) s.0 m s.1 refl s.2) (line_puts (relation (scope_of v true)) (relation_has_no_end _) s.3.0 s.1 s.3.1 s.3.2)) s.3.3.1)
-verb_lines limits own v y m k (inr (inl s)) = subst (λ (x : VerbView). Puts (HasLines (verb_line_count x)) m k) s.3.3.0 (puts_at (tokens_lines 0 (taken_token (flagged_word (codes "eliminate") (table_flag limits v (givens_alone own))) s.0 m s.1 refl s.2) (line_puts (distinct (index_of v.rates)) (distinct_has_no_end _) s.3.0 s.1 s.3.1 s.3.2)) s.3.3.1)
-verb_lines limits own v y m k (inr (inr s)) = some_lines (verb_line_count y) (verb_has_lines y) (taken_token (flagged_word (codes "region") (region_flag v)) s.0 m s.1 refl s.2) (containment_lines own v y s.1 k s.3)
+verb_lines limits own v y m k (inl s) = subst (λ (x : VerbView). Puts (HasLines (verb_line_count x)) m k) s.3.3.0
+    (puts_at (tokens_lines 0 (taken_token (flagged_word (codes "prove") (table_flag limits v own)) s.0 m s.1 refl s.2)
+    (line_puts (relation (scope_of v true)) (relation_has_no_end _) s.3.0 s.1 s.3.1 s.3.2)) s.3.3.1)
+verb_lines limits own v y m k (inr (inl s)) = subst (λ (x : VerbView). Puts (HasLines (verb_line_count x)) m k) s.3.3.0
+    (puts_at (tokens_lines 0 (taken_token (flagged_word (codes "eliminate") (table_flag limits v (givens_alone own))) s.0 m s.1 refl s.2)
+    (line_puts (distinct (index_of v.rates)) (distinct_has_no_end _) s.3.0 s.1 s.3.1 s.3.2)) s.3.3.1)
+verb_lines limits own v y m k (inr (inr s)) = some_lines (verb_line_count y) (verb_has_lines y)
+    (taken_token (flagged_word (codes "region") (region_flag v)) s.0 m s.1 refl s.2) (containment_lines own v y s.1 k s.3)
 
 -- a `rates` line stands there where there are rates
 rates_lines : (i : ℕ) (v y : NamesView) → v.rates ≡ [] → OneOrNone i Rate v y → i ≡ min 1 (length y.rates)
@@ -254,10 +260,12 @@ lines_append : (qs : List BodyView) (q : BodyView) → all_lines (qs ++ q ∷ []
 lines_append [] q = omega arith
 lines_append (p ∷ qs) q = let e = lines_append qs q in omega (arith, e)
 
-pub questions_lines : (limits : FileLimits) (qs ys : List BodyView) (m k : FlaggedLetters) → Spells (more_questions limits qs) ys m k → Grows all_lines qs ys m k
+pub questions_lines : (limits : FileLimits) (qs ys : List BodyView) (m k : FlaggedLetters) → Spells (more_questions limits qs) ys m k
+    → Grows all_lines qs ys m k
 unfolding more_questions Spells
 questions_lines limits qs ys m k s =
-    turns_grow (λ (qs : List BodyView). record { kinds = Keyword (codes "vars") ∷ []; says = λ l. (limit_flag (most_questions - length qs), tt {0}) }) (λ qs u. Spells (Then (question limits) (λ q. Give (qs ++ q ∷ [])))) all_lines (λ qs. refl)
+    turns_grow (λ (qs : List BodyView). record { kinds = Keyword (codes "vars") ∷ []; says = λ l. (limit_flag (most_questions - length qs), tt {0}) })
+        (λ qs u. Spells (Then (question limits) (λ q. Give (qs ++ q ∷ [])))) all_lines (λ qs. refl)
     (λ qs u c m k t. let q = t.0 in let i = min 1 (length q.names.rates) + own_line_count q.lines + verb_line_count q.verb in (
       i,
       lines_as (question_line_count q) (suc i) (puts_at (question_lines limits q m t.1 t.2) t.3.1) (omega arith),

@@ -106,7 +106,8 @@ unfolding distinct more_once once
 distinct_has env = has_then _ _ _ _ (has_take _ (Word []) refl) (λ first. has_while _ _ _ _ _
     (λ seen u. has_then _ _ _ _ (has_take _ (Word []) refl) (λ i. has_give _) refl) refl) refl
 
-verb_has : (limits : FileLimits) (own : OwnLinesView) (v : NamesView) → Has (verb limits own v) (one_of (Keyword (codes "prove") ∷ Keyword (codes "eliminate") ∷ Keyword (codes "region") ∷ []))
+verb_has : (limits : FileLimits) (own : OwnLinesView) (v : NamesView)
+    → Has (verb limits own v) (one_of (Keyword (codes "prove") ∷ Keyword (codes "eliminate") ∷ Keyword (codes "region") ∷ []))
 unfolding verb
 verb_has limits own v =
     has_if _ _ _ _ _ (λ u. has_then _ _ _ _ (has_then _ _ _ _ (relation_has _) (λ x. has_then _ _ _ _ end_has (λ u. has_give _) refl) refl)
@@ -117,9 +118,12 @@ verb_has limits own v =
 
 question_has : (limits : FileLimits) → Has (question limits) (one_of (WordBut [] ∷ []))
 unfolding question
-question_has limits = has_then _ _ _ _ (new_names_has _ _ _) (λ variables. has_then _ _ _ _ (names_line_has _ _ (codes "rates") variables) (λ names. has_then _ _ _ _ (own_lines_has _ _ names) (λ own. has_then _ _ _ _ (verb_has limits _ names) (λ aim. has_give _) refl) refl) refl) refl
+question_has limits = has_then _ _ _ _ (new_names_has _ _ _)
+    (λ variables. has_then _ _ _ _ (names_line_has _ _ (codes "rates") variables)
+    (λ names. has_then _ _ _ _ (own_lines_has _ _ names) (λ own. has_then _ _ _ _ (verb_has limits _ names) (λ aim. has_give _) refl) refl) refl) refl
 
-questions_has : (limits : FileLimits) (qs : List BodyView) → Has (more_questions limits qs) (repeated (Keyword (codes "vars") ∷ []) (one_then (one_of (WordBut [] ∷ [])) nothing))
+questions_has : (limits : FileLimits) (qs : List BodyView)
+    → Has (more_questions limits qs) (repeated (Keyword (codes "vars") ∷ []) (one_then (one_of (WordBut [] ∷ [])) nothing))
 unfolding more_questions
 questions_has limits qs = has_while _ _ _ _ _ (λ qs u. has_then _ _ _ _ (question_has limits) (λ q. has_give _) refl) refl
 

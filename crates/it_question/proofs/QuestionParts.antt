@@ -61,7 +61,9 @@ record FirstQuestion (limits : FileLimits) (lines : List LineView) (q : BodyView
   after : n ≡ without_flags (letters_of_lines (drop (question_line_count q) lines))
   sound : AreSound (drop (question_line_count q) lines)
 
-first_question : (limits : FileLimits) (q : BodyView) (l : Letter) (flag : Option Code) (p n : FlaggedLetters) (lines : List LineView) → l ≡ Word (codes "vars") → Spells (question limits) q p n → (l, flag) ∷ p ≡ without_flags (letters_of_lines lines) → AreSound lines → FirstQuestion limits lines q n
+first_question : (limits : FileLimits) (q : BodyView) (l : Letter) (flag : Option Code) (p n : FlaggedLetters) (lines : List LineView)
+    → l ≡ Word (codes "vars") → Spells (question limits) q p n → (l, flag) ∷ p ≡ without_flags (letters_of_lines lines) → AreSound lines
+    → FirstQuestion limits lines q n
 first_question limits q l flag p n lines word s e sound =
     let i = question_line_count q in
     let lines_of = question_lines limits q p n s in
@@ -83,7 +85,9 @@ first_question limits q l flag p n lines word s e sound =
     }
 
 -- the questions that turns add
-turns_at : (limits : FileLimits) (n : ℕ) (qs ys : List BodyView) (m k : FlaggedLetters) (lines : List LineView) → AreTurns (λ (qs : List BodyView). flagged_word (codes "vars") (limit_flag (most_questions - length qs))) (λ qs u. Spells (Then (question limits) (λ q. Give (qs ++ q ∷ [])))) n qs ys m k → m ≡ without_flags (letters_of_lines lines) → AreSound lines
+turns_at : (limits : FileLimits) (n : ℕ) (qs ys : List BodyView) (m k : FlaggedLetters) (lines : List LineView)
+    → AreTurns (λ (qs : List BodyView). flagged_word (codes "vars") (limit_flag (most_questions - length qs)))
+    (λ qs u. Spells (Then (question limits) (λ q. Give (qs ++ q ∷ [])))) n qs ys m k → m ≡ without_flags (letters_of_lines lines) → AreSound lines
     → (new : List BodyView) × (ys ≡ qs ++ new) × AreAt limits lines new
 unfolding Spells
 turns_at limits zero qs ys m k lines s e sound = ([], sym s.0 ∙ sym (append-nil qs), tt)
@@ -92,7 +96,8 @@ turns_at limits (suc n) qs ys m k lines s e sound =
     let more = turns_at limits n s.2 ys s.3 k (drop (question_line_count s.5.0) lines) s.6 (sym s.5.3.1 ∙ one.after) one.sound in
     (s.5.0 ∷ more.0, more.1 ∙ ap (λ (t : List BodyView). t ++ more.0) (sym s.5.3.0) ∙ append_assoc qs (s.5.0 ∷ []) more.0, (one.at, more.2))
 
-pub questions_at : (limits : FileLimits) (lines : List LineView) (qs : List BodyView) → AreSound lines → Says (file limits) (letters_of_lines lines) qs → AreAt limits lines qs
+pub questions_at : (limits : FileLimits) (lines : List LineView) (qs : List BodyView) → AreSound lines → Says (file limits) (letters_of_lines lines) qs
+    → AreAt limits lines qs
 unfolding file more_questions Spells
 questions_at limits lines qs sound s =
     let t = turns_at limits s.2.0 [] s.0 (without_flags (letters_of_lines lines)) s.1 lines s.2.1 refl sound in

@@ -39,7 +39,8 @@ AreNeeded givens kept = (before after : List (Terms × NeedView)) (k : Terms × 
 -- where the defined run alone is made a list has one reduction
 abbrev pub OneReduction : Type 0
 OneReduction = (givens : ProblemView) (effort : Effort) (before rows : List Terms) (kept other_kept : List (Terms × NeedView)) (dropped other_dropped : List (Terms × CertificateView))
-    → effort.runs ≡ Defined → Reduces givens effort before rows kept dropped → Reduces givens effort before rows other_kept other_dropped → (kept ≡ other_kept) × (dropped ≡ other_dropped)
+    → effort.runs ≡ Defined → Reduces givens effort before rows kept dropped → Reduces givens effort before rows other_kept other_dropped
+    → (kept ≡ other_kept) × (dropped ≡ other_dropped)
 
 -- the givens are about entropies alone
 abbrev pub SpeakOfSets : ProblemView → Type 0

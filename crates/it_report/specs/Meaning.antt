@@ -89,7 +89,8 @@ ValidFactorIsTrueOfSharing = (limits : FileLimits) (line : List ℕ) (names : Na
 
 -- With a head, a valid yes says that the relation of the text's own question holds at every polymatroid and rates that have such copies.
 abbrev pub ValidIsTrueByCopies : Type 0
-ValidIsTrueByCopies = (limits : FileLimits) (line : List ℕ) (names : NamesView) (q : QuestionView) (copies : List CopyView) (r : RelationView) (ws : List CertificateView)
+ValidIsTrueByCopies = (limits : FileLimits) (line : List ℕ) (names : NamesView) (q : QuestionView) (copies : List CopyView) (r : RelationView)
+    (ws : List CertificateView)
     → IsVerdict limits line (Judged names Valid) → ReadsReport limits line (Ok (Answered (Copies q copies) (Yes ws))) → q.body.verb ≡ Prove r
     → (p : ℕ → ℤ) → HasCopies q.body (extended q.body copies) p → Holds (length q.body.names.variables) p r
 
@@ -101,5 +102,6 @@ ValidIsTrueOfSharing = (limits : FileLimits) (line : List ℕ) (names : NamesVie
 -- Valid bounds are exact: their rows, over the rates that stay, hold exactly where some whole multiple of these rates is that of a
 -- polymatroid with rates at which all lines of the question are true; and their rays are such, and span what the rows allow.
 abbrev pub ValidIsTrueOfBounds : Type 0
-ValidIsTrueOfBounds = (limits : FileLimits) (line : List ℕ) (source : Source) (b : BoundsView) → IsVerdict limits line (Hulled HullIsValid) → ReadsReport limits line (Ok (Bounded source b))
+ValidIsTrueOfBounds = (limits : FileLimits) (line : List ℕ) (source : Source) (b : BoundsView) → IsVerdict limits line (Hulled HullIsValid)
+    → ReadsReport limits line (Ok (Bounded source b))
     → AreExactBounds (asked source).body (gone_rates (asked source).body.verb) b.rows (rays_of b.steps)

@@ -17,7 +17,8 @@ use Rattle.it_settings.specs.declared.types.WordsFault.{WordsFault}
 use Rattle.it_settings.specs.declared.types.WordsFault.TheVariants.{Usage, Memory}
 
 by_their_names : (given : Text → Option Text)
-    → settings_by (by_name (given (codes "mode")) (given (codes "format")) (given (codes "pivots")) (given (codes "rows")) (given (codes "tries")) (given (codes "seed")) (given (codes "count")) (given (codes "run")) (given (codes "names")) (given (codes "report"))) ≡ settings_by given
+    → settings_by (by_name (given (codes "mode")) (given (codes "format")) (given (codes "pivots")) (given (codes "rows")) (given (codes "tries"))
+    (given (codes "seed")) (given (codes "count")) (given (codes "run")) (given (codes "names")) (given (codes "report"))) ≡ settings_by given
 unfolding settings_by answer_of bench_of runs_of outer_of
 by_their_names given = refl
 

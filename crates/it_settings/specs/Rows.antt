@@ -46,7 +46,8 @@ pub record FormsAreRead : Type 0 where
   pub derived : AreReadAs (codes "answer" ∷ codes "--format" ∷ codes "derived" ∷ []) (settings.Answer formats.Derived runs.Bland (Some 20000) 512 256 None)
   pub capitals : HaveNoReading (codes "answer" ∷ codes "--format" ∷ codes "JSON" ∷ [])
   pub before_mode : AreReadAs (codes "--tries" ∷ codes "1" ∷ codes "answer" ∷ []) (settings.Answer formats.Text runs.Bland (Some 20000) 512 1 None)
-  pub all_options : AreReadAs (codes "answer" ∷ codes "--tries=7" ∷ codes "--rows" ∷ codes "6" ∷ codes "--format" ∷ codes "json" ∷ codes "--pivots" ∷ codes "5" ∷ []) (settings.Answer formats.Json runs.Bland (Some 5) 6 7 None)
+  pub all_options : AreReadAs (codes "answer" ∷ codes "--tries=7" ∷ codes "--rows" ∷ codes "6" ∷ codes "--format" ∷ codes "json" ∷ codes "--pivots" ∷ codes
+      "5" ∷ []) (settings.Answer formats.Json runs.Bland (Some 5) 6 7 None)
   pub twice : HaveNoReading (codes "answer" ∷ codes "--rows" ∷ codes "5" ∷ codes "--rows" ∷ codes "5" ∷ [])
   pub twice_joined : HaveNoReading (codes "answer" ∷ codes "--format" ∷ codes "json" ∷ codes "--format=json" ∷ [])
   pub cut_short : HaveNoReading (codes "answer" ∷ codes "--piv" ∷ codes "5" ∷ [])
@@ -122,7 +123,8 @@ pub record OtherModesAreRead : Type 0 where
 pub record RunsAreRead : Type 0 where
   pub quick : AreReadAs (codes "answer" ∷ codes "--run" ∷ codes "quick" ∷ []) (settings.Answer formats.Text runs.Quick (Some 20000) 512 256 None)
   pub bland : AreReadAs (codes "answer" ∷ codes "--run=bland" ∷ []) (settings.Answer formats.Text runs.Bland (Some 20000) 512 256 None)
-  pub with_all : AreReadAs (codes "--run=quick" ∷ codes "answer" ∷ codes "--tries=7" ∷ codes "--rows" ∷ codes "6" ∷ codes "--format" ∷ codes "json" ∷ codes "--pivots" ∷ codes "5" ∷ []) (settings.Answer formats.Json runs.Quick (Some 5) 6 7 None)
+  pub with_all : AreReadAs (codes "--run=quick" ∷ codes "answer" ∷ codes "--tries=7" ∷ codes "--rows" ∷ codes "6" ∷ codes "--format" ∷ codes "json" ∷ codes
+      "--pivots" ∷ codes "5" ∷ []) (settings.Answer formats.Json runs.Quick (Some 5) 6 7 None)
   pub bench : AreReadAs (codes "bench" ∷ codes "--run" ∷ codes "quick" ∷ []) (settings.Bench 1 100 runs.Quick (Some 20000) 512 256)
   pub capital : HaveNoReading (codes "answer" ∷ codes "--run" ∷ codes "Quick" ∷ [])
   pub unknown : HaveNoReading (codes "answer" ∷ codes "--run" ∷ codes "fast" ∷ [])
@@ -163,7 +165,8 @@ SharingIsRead = IsReadWithRuns (codes "sharing") (settings.Sharing false)
 -- the options of mode `outer`
 pub record OuterIsRead : Type 0 where
   pub alone : AreReadAs (codes "outer" ∷ []) (settings.Outer false runs.Bland (Some 20000) 512 256 None)
-  pub all_options : AreReadAs (codes "outer" ∷ codes "--tries=7" ∷ codes "--rows" ∷ codes "6" ∷ codes "--run" ∷ codes "quick" ∷ codes "--pivots=none" ∷ []) (settings.Outer false runs.Quick None 6 7 None)
+  pub all_options : AreReadAs (codes "outer" ∷ codes "--tries=7" ∷ codes "--rows" ∷ codes "6" ∷ codes "--run" ∷ codes "quick" ∷ codes "--pivots=none" ∷ [])
+      (settings.Outer false runs.Quick None 6 7 None)
   pub rows_most : AreReadAs (codes "outer" ∷ codes "--rows" ∷ codes "4096" ∷ []) (settings.Outer false runs.Bland (Some 20000) 4096 256 None)
   pub rows_more : HaveNoReading (codes "outer" ∷ codes "--rows" ∷ codes "4097" ∷ [])
   pub tries_zero : HaveNoReading (codes "outer" ∷ codes "--tries" ∷ codes "0" ∷ [])
@@ -197,7 +200,8 @@ pub record NamesAreRead : Type 0 where
   pub no_value : HaveNoReading (codes "answer" ∷ codes "--names" ∷ [])
   pub empty : HaveNoReading (codes "answer" ∷ codes "--names=" ∷ [])
   pub twice : HaveNoReading (codes "answer" ∷ codes "--names" ∷ codes "12" ∷ codes "--names=12" ∷ [])
-  pub with_all : AreReadAs (codes "answer" ∷ codes "--names=12" ∷ codes "--tries=7" ∷ codes "--rows" ∷ codes "6" ∷ codes "--run=quick" ∷ codes "--format" ∷ codes "json" ∷ codes "--pivots" ∷ codes "5" ∷ []) (settings.Answer formats.Json runs.Quick (Some 5) 6 7 (Some 12))
+  pub with_all : AreReadAs (codes "answer" ∷ codes "--names=12" ∷ codes "--tries=7" ∷ codes "--rows" ∷ codes "6" ∷ codes "--run=quick" ∷ codes "--format"
+      ∷ codes "json" ∷ codes "--pivots" ∷ codes "5" ∷ []) (settings.Answer formats.Json runs.Quick (Some 5) 6 7 (Some 12))
   pub check : AreReadAs (codes "check" ∷ codes "--names" ∷ codes "12" ∷ []) (settings.Check (Some 12))
   pub check_more : HaveNoReading (codes "check" ∷ codes "--names" ∷ codes "17" ∷ [])
   pub bench : HaveNoReading (codes "bench" ∷ codes "--names" ∷ codes "12" ∷ [])

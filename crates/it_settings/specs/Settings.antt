@@ -87,7 +87,8 @@ answer_of given = do
 
 -- the settings of mode `check`, which has no option but `--names`
 abbrev pub check_of : (Text → Option Text) → Option Settings
-check_of given = without given (codes "format" ∷ codes "pivots" ∷ codes "rows" ∷ codes "tries" ∷ codes "seed" ∷ codes "count" ∷ codes "run" ∷ []) (option_map settings.Check (names_in given))
+check_of given = without given (codes "format" ∷ codes "pivots" ∷ codes "rows" ∷ codes "tries" ∷ codes "seed" ∷ codes "count" ∷ codes "run" ∷ [])
+    (option_map settings.Check (names_in given))
 
 -- the settings of mode `bench`
 unfoldable pub bench_of : (Text → Option Text) → Option Settings

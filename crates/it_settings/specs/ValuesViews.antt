@@ -25,7 +25,8 @@ text_of o = option_map (λ s. s.now) o
 
 -- the texts of the values, by name
 abbrev pub texts_of : Values → Text → Option Text
-texts_of v name = by_name (text_of v.mode) (text_of v.format) (text_of v.pivots) (text_of v.rows) (text_of v.tries) (text_of v.seed) (text_of v.count) (text_of v.run) (text_of v.names) (text_of v.report) name
+texts_of v name = by_name (text_of v.mode) (text_of v.format) (text_of v.pivots) (text_of v.rows) (text_of v.tries) (text_of v.seed) (text_of v.count)
+    (text_of v.run) (text_of v.names) (text_of v.report) name
 
 -- the values have the texts of given
 pub record AreTexts (given : Text → Option Text) (v : Values) : Type 0 where

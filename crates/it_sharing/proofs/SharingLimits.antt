@@ -262,7 +262,8 @@ after_secret limits secret = Take (word (codes "parties")) >> (new_names Variabl
 abbrev KeepsAlways : FileLimits → Form SharingView → Type 0
 KeepsAlways limits f = Always f (λ p y. Keeps limits y)
 
-module _ (limits : FileLimits) (secret all : NamesView) (one : IsOne secret) (grown : HasGrown (length secret.variables + parties_within limits) secret all) where
+module _ (limits : FileLimits) (secret all : NamesView) (one : IsOne secret)
+    (grown : HasGrown (length secret.variables + parties_within limits) secret all) where
   lists_keep : (sets : List ℕ) → AreListed (length all.variables) sets → KeepsAlways limits (after_lists all sets)
   unfolding Always
   lists_keep sets listed = always_weaker (aim all) (λ q x. IsAsked all x) _
@@ -292,7 +293,8 @@ secret_keeps limits secret one l e m =
 
 sharing_keeps : (limits : FileLimits) → KeepsAlways limits (sharing limits)
 unfolding Always sharing
-sharing_keeps limits l e m = always_weaker (to_end (new_name Variable 1 no_names)) (λ q v. IsOne v) (λ q secret. KeepsAlways limits (after_secret limits secret))
+sharing_keeps limits l e m = always_weaker (to_end (new_name Variable 1 no_names)) (λ q v. IsOne v)
+    (λ q secret. KeepsAlways limits (after_secret limits secret))
     (λ q secret one. secret_keeps limits secret one) (line_keeps (new_name Variable 1 no_names) IsOne secret_is_one)
 
 pub sharing_limited : (limits : FileLimits) (ls r : List Letter) (y : SharingView) → read (sharing limits) ls ≡ Ok (y, r) → IsSharing y × IsBoundWhereBest y

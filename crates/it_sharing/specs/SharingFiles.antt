@@ -25,12 +25,14 @@ SharingIsOne = (limits : FileLimits) (bytes : List ℕ) (x y : SharingView) → 
 
 -- a file has at most one first fault, with its place and its code
 abbrev pub SharingFaultIsOne : Type 0
-SharingFaultIsOne = (limits : FileLimits) (bytes : List ℕ) (line column row place : ℕ) (c d : Code) → SharingFaultAt limits bytes line column c → SharingFaultAt limits bytes row place d
+SharingFaultIsOne = (limits : FileLimits) (bytes : List ℕ) (line column row place : ℕ) (c d : Code) → SharingFaultAt limits bytes line column c
+    → SharingFaultAt limits bytes row place d
     → (line ≡ row) × (column ≡ place) × (c ≡ d)
 
 -- no file has both a reading and a first fault
 abbrev pub SharingOrFault : Type 0
-SharingOrFault = (limits : FileLimits) (bytes : List ℕ) (x : SharingView) (line column : ℕ) (c : Code) → IsSharingFile limits bytes x → SharingFaultAt limits bytes line column c → ⊥
+SharingOrFault = (limits : FileLimits) (bytes : List ℕ) (x : SharingView) (line column : ℕ) (c : Code) → IsSharingFile limits bytes x
+    → SharingFaultAt limits bytes line column c → ⊥
 
 -- A file has a reading or a first fault.
 abbrev pub SharingHasOne : Type 0
