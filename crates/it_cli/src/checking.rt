@@ -11,6 +11,7 @@ use it_report::{JudgedLine, judge};
 use std::alloc::{AllocError, Global};
 
 /// The verdict on each line, whose question is within these limits.
+#[derive(Clone, Copy)]
 struct Verdicts {
     limits: FileLimits,
 }
