@@ -53,7 +53,7 @@ abbrev pub OneRightAnswer : Type 0
 OneRightAnswer = (budgets : Budgets) (plans : List Plan) (q : BodyView) (a b : Reply) → budgets.effort.runs ≡ Defined → is_in_reach (problem_of q) ≡ true
     → IsRightAnswer budgets plans q a → IsRightAnswer budgets plans q b → a ≡ b
 
--- the defined run about a question of a file is in reach
+-- the defined run about a question of a usual file is in reach
 abbrev pub FileIsInReach : Type 0
 FileIsInReach = (bytes : List ℕ) (qs : List QuestionView) → IsFile bytes qs → All (λ q. is_in_reach (problem_of q.body) ≡ true) qs
 

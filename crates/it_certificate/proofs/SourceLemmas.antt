@@ -323,14 +323,14 @@ module _ (limits : FileLimits) where
   pub one_source : (d : Data) (a b : Source) → IsSourceOf limits d a → IsSourceOf limits d b → a ≡ b
   one_source d (Text p) (Text q) h k =
       ap Text (first_question p q (file_is_one limits h.text (p ∷ []) (q ∷ []) h.reads
-          (subst (λ (t : List ℕ). IsFileWithin limits t (q ∷ [])) (one_text (get (codes "question") d) h.text k.text h.there k.there) k.reads)))
+      (subst (λ (t : List ℕ). IsFileWithin limits t (q ∷ [])) (one_text (get (codes "question") d) h.text k.text h.there k.there) k.reads)))
   one_source d (Text p) (Copies q copies) h k = absurd (text_or_none (get (codes "copies") d) k.head h.no_copies k.head_there)
   one_source d (Text p) (Sharing x) h k = absurd (text_or_none (get (codes "sharing") d) k.text h.no_sharing k.there)
   one_source d (Copies p copies) (Text q) h k = absurd (text_or_none (get (codes "copies") d) h.head k.no_copies h.head_there)
   one_source d (Copies p copies) (Copies q others) h k =
       let e : k.head ++ k.text ≡ h.head ++ h.text = ap₂ (λ (a b : List ℕ). a ++ b)
-          (one_text (get (codes "copies") d) h.head k.head h.head_there k.head_there)
-          (one_text (get (codes "question") d) h.text k.text h.text_there k.text_there) in
+      (one_text (get (codes "copies") d) h.head k.head h.head_there k.head_there)
+      (one_text (get (codes "question") d) h.text k.text h.text_there k.text_there) in
       let same = copy_file_is_one limits (h.head ++ h.text) copies others (p ∷ []) (q ∷ []) h.asks.reads
       (subst (λ (t : List ℕ). IsCopyFile limits t others (q ∷ [])) e k.asks.reads) in
       ap₂ Copies (first_question p q same.1) same.0

@@ -137,7 +137,7 @@ pub told_accepted : (allowed : FileLimits) → ReadsBack → OriginsReadBack →
     → IsFileWithin allowed q.text (q ∷ []) → IsRightTold format budgets plans q.body told → IsAccepted allowed (told_report q told.reply.answer told.origins)
 told_accepted allowed back origins_back format budgets plans q told few few_tries short file right =
     by_origins allowed back origins_back q short file budgets plans few few_tries format told.reply.answer told.reply.found told.origins right.reply
-        right.origins
+    right.origins
 
 pub reports_are_accepted : ReadsBack → OriginsReadBack → ReportsAreAccepted
 reports_are_accepted back origins_back allowed format budgets plans q told few few_tries short file right

@@ -110,5 +110,5 @@ texts_are_short limits bytes qs asked =
     let a = lines_short 1 (split_lines bytes) asked.lines asked.cut in
     let b = split_length bytes in
     let at = questions_at limits asked.lines asked.tree.0 (lines_sound 1 (split_lines bytes) asked.lines asked.cut)
-        (said (file limits) with_texts bytes qs asked) in
+    (said (file limits) with_texts bytes qs asked) in
     subst (All (IsShortBy (length bytes + 1))) asked.says (all_short limits (length bytes + 1) asked.lines asked.tree.0 at (omega (arith, a, b)))

@@ -101,7 +101,7 @@ copies_are_true shown_is_true by_copies are_within report run pivots names = wri
     (TrueCopies (limits_of_names names) report) refl
     (λ plans bytes out o.
     lines_for (copy_mode (limits_of_names names) report (effort_of run pivots)) (λ reply. reply) (copy_lines report) (λ k x reply. refl) IsWithinLimits
-        (IsTrueCopy (limits_of_names names))
+    (IsTrueCopy (limits_of_names names))
     (λ earlier. right_copy_is_true shown_is_true by_copies (limits_of_names names) (effort_of run pivots))
     (copied_within are_within (limits_of_names names)) bytes out Done o)
 
@@ -138,7 +138,7 @@ pub sharing_is_true : answers.WhatIsShownIsTrue → factors.WhatIsShownIsTrue �
 sharing_is_true shown_is_true shown_factors is_perfect is_within report run pivots names = writes_such (Sharing report run pivots names) 1048576
     (TrueSharing (limits_of_names names) report) refl (λ plans bytes out o.
     lines_for (sharing_mode (limits_of_names names) report (effort_of run pivots)) (λ reply. reply) (λ k. sharing_lines report)
-        (λ k x reply. refl) IsWithinSharing
+    (λ k x reply. refl) IsWithinSharing
     (λ (x : SharingFile) (reply : SharingReply). IsTrueSharing x.says reply)
     (λ earlier x. right_sharing_is_true shown_is_true shown_factors is_perfect (effort_of run pivots) x.says)
     (sharing_within is_within (limits_of_names names)) bytes out Done o)

@@ -21,12 +21,12 @@ use crate::refusals::fault_line;
 use crate::requests::AnswerRequest;
 use crate::status::Status;
 use crate::telling::tell;
-use it_answer::{AnsweredProblem, Budgets, answer, target_rows};
+use it_answer::{AnsweredProblem, answer, target_rows};
 use it_contain::Proposer;
 use it_outside::{Sink, write_all};
 use it_print::{answer_line, proof_text};
-use it_question::types::{FileFault, Question};
 use it_question::questions;
+use it_question::types::{FileFault, Question};
 use it_settings::types::Format;
 use it_syntax::types::Code;
 use std::alloc::{AllocError, Global};
@@ -61,14 +61,7 @@ fn answer_all<K: Sink>(
     ensures { EndsForItems K.taken K.faults (answer_mode request.limits request.budgets (map plan boxes.old.items) request.format) sink.old sink.new questions.now result }
 {
     for (i, question) in questions.iter().enumerate() {
-        let Ok(text) = answer_one(
-            alloc,
-            request.format,
-            request.budgets,
-            i + 1,
-            question,
-            boxes,
-        ) else {
+        let Ok(text) = answer_one(alloc, request, i + 1, question, boxes) else {
             return Status::Memory;
         };
         let Ok(()) = write_all(sink, text.as_slice()) else {
@@ -81,18 +74,17 @@ fn answer_all<K: Sink>(
 /// The lines of the answer to question `k`, counted from 1.
 fn answer_one(
     alloc: Global,
-    format: Format,
-    budgets: Budgets,
+    request: AnswerRequest,
     k: usize,
     question: &Question,
     boxes: &mut Vec<Box<dyn Proposer>>,
 ) -> Result<Vec<u8>, AllocError>
     requires ascii { IsAsciiQuestion question.now }
-    ensures { IfOk result (λ t. IsAnswerText budgets (map plan boxes.old.items) format k question.now (map plan boxes.new.items) t.items) }
+    ensures { IfOk result (λ t. IsAnswerText request.budgets (map plan boxes.old.items) request.format k question.now (map plan boxes.new.items) t.items) }
 {
     question.facts();
-    let answered = answer(alloc, question, budgets, boxes)?;
-    lines(alloc, format, k, question, &answered)
+    let answered = answer(alloc, question, request.budgets, boxes)?;
+    lines(alloc, request.format, k, question, &answered)
 }
 
 /// The lines of an answer in `format`.

@@ -57,8 +57,8 @@ pub fn modes_have_one_reading()
     sharing_is_one();
 }
 
-/// The defined run about each question that a mode answers is in reach: one of a file, with copies or without, and one that is made of a
-/// sharing file.
+/// The defined run about each question that a mode answers without `--names` is in reach: one of a file, with copies or without, and one
+/// that is made of a sharing file.
 pub fn questions_are_in_reach()
     ensures file { FileIsInReach }
     ensures copies { CopiesAreInReach }
@@ -67,7 +67,7 @@ pub fn questions_are_in_reach()
     files_are_in_reach();
 }
 
-/// Where targets are decided by the defined run alone, each item that an input asks for has one right reply.
+/// Where targets of usual files are decided by the defined run alone, each item that an input asks for has one right reply.
 pub fn modes_are_determined()
     ensures { ModesAreDetermined }
 {
@@ -149,7 +149,7 @@ pub fn sharing_is_true()
 }
 
 /// Where targets are decided by the defined run alone, a question about which it is in reach has one right answer for given budgets and
-/// boxes, and so an input has one output. However they are decided, certificates list their generators in ascending order.
+/// boxes, and so an input with the usual limits has one output. However they are decided, certificates list their generators in ascending order.
 pub fn output_is_determined()
     ensures answer { OneRightAnswer }
     ensures ascends { AYesAscends }

@@ -177,7 +177,7 @@ no_file [] e = refl
 no_file (l ∷ ls) e =
     let other = both_false _ _ e in
     let question : read (more_questions usual []) (l ∷ ls) ≡ Ok ([], l ∷ ls) = word_ends (codes "vars") (λ qs. limit_flag (most_questions - length qs))
-        (λ qs. question usual) (λ qs q. qs ++ q ∷ []) [] (l ∷ ls) _ refl (ap (λ (b : Bool). cond b (Some ((None, tt), ls)) None) other.0) in
+    (λ qs. question usual) (λ qs q. qs ++ q ∷ []) [] (l ∷ ls) _ refl (ap (λ (b : Bool). cond b (Some ((None, tt), ls)) None) other.0) in
     let end : read file_end (l ∷ ls) ≡ Err (own_code (l ∷ ls), l ∷ ls) = other_is (just (FileEnd ∷ []) tt) l other.1
     (λ a rest. Ok (a, rest)) ls (no_rule (l ∷ ls)) in
     ap (λ (t : Reads (List BodyView)). t >>= λ x. read (Then file_end (λ u. Give x.0)) x.1) question

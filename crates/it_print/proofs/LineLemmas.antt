@@ -84,11 +84,11 @@ raise_step names i p s h = ap (λ ns. each_raises i ns p s) (drop_more names i [
 -- one more value of a point
 pub pair_step : (v : NamesView) (values : List ℤ) (i : ℕ) (x : ℤ) (some : Bool) (out : List ℕ) → slice_get values i ≡ Some x
     → (out ++ joined_texts (codes " ") some (if is_told v values (i + 1) then (coordinate_text v (i + 1) ++ codes "=" ++ signed_decimal x) ∷ [] else []))
-      ++ joined_texts (codes " ") (some || is_told v values (i + 1)) (pair_texts v (is_told v values) (i + 1 + 1) (drop (i + 1) values))
+    ++ joined_texts (codes " ") (some || is_told v values (i + 1)) (pair_texts v (is_told v values) (i + 1 + 1) (drop (i + 1) values))
     ≡ out ++ joined_texts (codes " ") some (pair_texts v (is_told v values) (i + 1) (drop i values))
 pair_step v values i x some out e =
     joined_step (codes " ") some (is_told v values (i + 1)) (coordinate_text v (i + 1) ++ codes "=" ++ signed_decimal x)
-      (pair_texts v (is_told v values) (i + 1 + 1) (drop (i + 1) values)) out
+    (pair_texts v (is_told v values) (i + 1 + 1) (drop (i + 1) values)) out
     ∙ ap (λ xs. out ++ joined_texts (codes " ") some (pair_texts v (is_told v values) (i + 1) xs)) (sym value_is_first)
   where
     value_is_first : drop i values ≡ x ∷ drop (i + 1) values

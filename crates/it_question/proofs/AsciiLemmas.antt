@@ -220,7 +220,7 @@ unfolding question Spells
 names_ascii limits q m k s h =
     let first = new_names_ascii Variable (names_within limits) no_names s.0 m s.1 s.2 no_names_ascii h in
     subst (λ (x : BodyView). AsciiNames x.names) s.3.3.3.3.0 (names_line_ascii Rate most_rates (codes "rates") s.0 s.3.0 s.1 s.3.1 s.3.2 first
-        (words_after (new_names Variable (names_within limits) no_names) s.0 m s.1 s.2 h))
+    (words_after (new_names Variable (names_within limits) no_names) s.0 m s.1 s.2 h))
 
 -- ---- files
 

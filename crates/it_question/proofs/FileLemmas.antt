@@ -46,8 +46,10 @@ pub alone : (limits : FileLimits) (q : BodyView) (m : FlaggedLetters) → Spells
     → Spells (file limits) (q ∷ []) ((Word (codes "vars"), None) ∷ (m ++ the_end)) []
 unfolding more_questions file Spells
 alone limits q m s =
-    let turns : Spells (more_questions limits []) (q ∷ []) ((Word (codes "vars"), None) ∷ (m ++ the_end)) the_end = (suc zero,
-        (tt, m ++ the_end, q ∷ [], the_end, (Word (codes "vars"), refl, refl, refl), (q, the_end, s, (refl, refl)), (refl, refl))) in
+    let turns : Spells (more_questions limits []) (q ∷ []) ((Word (codes "vars"), None) ∷ (m ++ the_end)) the_end = (
+      suc zero,
+      (tt, m ++ the_end, q ∷ [], the_end, (Word (codes "vars"), refl, refl, refl), (q, the_end, s, (refl, refl)), (refl, refl)),
+    ) in
     (q ∷ [], the_end, turns, (tt, [], (Bad Unfinished, refl, refl, refl), (refl, refl)))
 
 pub question_stands_alone : QuestionStandsAlone

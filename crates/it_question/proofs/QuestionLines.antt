@@ -265,7 +265,7 @@ pub questions_lines : (limits : FileLimits) (qs ys : List BodyView) (m k : Flagg
 unfolding more_questions Spells
 questions_lines limits qs ys m k s =
     turns_grow (λ (qs : List BodyView). record { kinds = Keyword (codes "vars") ∷ []; says = λ l. (limit_flag (most_questions - length qs), tt {0}) })
-        (λ qs u. Spells (Then (question limits) (λ q. Give (qs ++ q ∷ [])))) all_lines (λ qs. refl)
+    (λ qs u. Spells (Then (question limits) (λ q. Give (qs ++ q ∷ [])))) all_lines (λ qs. refl)
     (λ qs u c m k t. let q = t.0 in let i = min 1 (length q.names.rates) + own_line_count q.lines + verb_line_count q.verb in (
       i,
       lines_as (question_line_count q) (suc i) (puts_at (question_lines limits q m t.1 t.2) t.3.1) (omega arith),

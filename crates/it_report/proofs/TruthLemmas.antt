@@ -207,7 +207,7 @@ judged_true q (Contain first second tries) a about k small fits e =
 pub valid_is_true : ValidIsTrue
 valid_is_true limits line names source a h reads =
     let e : h.reading ≡ Answered source a = same_read h.reading (Answered source a)
-        (one_reading limits line (Ok h.reading) (Ok (Answered source a)) h.reads reads) in
+    (one_reading limits line (Ok h.reading) (Ok (Answered source a)) h.reads reads) in
     let judged : IsAnswerVerdict (asked source).body a (Judged names Valid) = subst (λ x. IsReadingVerdict x (Judged names Valid)) e h.verdict in
     judged_true (asked source).body (asked source).body.verb a refl (limits_question limits line source a reads)
     (small_numbers limits line source a reads) (fits_question limits line source a reads) judged.1

@@ -69,7 +69,7 @@ stop_fault-requires-clause-there c = same_lines (λ ls. IfFault c.in-Err.stop (I
 pub returns-in-Err-clause-fault : goal.returns-in-Err-clause-fault
 returns-in-Err-clause-fault c =
     first_form_fault (file c.args.limits) _ (file_has c.args.limits) (file_ends c.args.limits) c.args.bytes.now
-        (map line_view c.in_ok-lines.lines.items) c.in-Err.stop
+    (map line_view c.in_ok-lines.lines.items) c.in-Err.stop
     (letters_left c.bodies.new.cursor) c.stop_fault.result c.in_ok-lines.ensures
     (begun_stop c.args.limits c.in_ok-lines.lines.items _ _ c.in-Err.stop (letters_left c.bodies.new.cursor) c.at-cursor.ensures
     c.as_slice.ensures.value c.in-Err.ensures)

@@ -37,7 +37,7 @@ same_lines P items lines e h = subst (λ (ls : List Line). P (map line_view ls))
 pub returns-in-Ok-clause-read : goal.returns-in-Ok-clause-read
 returns-in-Ok-clause-read c =
     read_says (sharing c.args.limits) _ (sharing_has c.args.limits) (sharing_ends c.args.limits) (λ lines x. x) c.args.bytes.now
-        (map line_view c.in_ok-lines.lines.items) _
+    (map line_view c.in_ok-lines.lines.items) _
     (letters_left c.whole.new.cursor) c.in_ok-lines.ensures (items_are_read c.args.limits _ _ _ _ c.at-cursor.ensures c.as_slice.ensures.value
     c.in-Ok.ensures)
 
@@ -61,7 +61,7 @@ stop_fault-requires-clause-there c = same_lines (λ ls. IfFault c.in-Err.stop (I
 pub returns-clause-fault : goal.returns-clause-fault
 returns-clause-fault c =
     first_form_fault (sharing c.args.limits) _ (sharing_has c.args.limits) (sharing_ends c.args.limits) c.args.bytes.now
-        (map line_view c.in_ok-lines.lines.items) c.in-Err.stop
+    (map line_view c.in_ok-lines.lines.items) c.in-Err.stop
     (letters_left c.whole.new.cursor) c.stop_fault.result c.in_ok-lines.ensures
     (begun_stop c.args.limits c.in_ok-lines.lines.items _ _ c.in-Err.stop
     (letters_left c.whole.new.cursor) c.at-cursor.ensures c.as_slice.ensures.value c.in-Err.ensures)
