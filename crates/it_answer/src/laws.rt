@@ -22,7 +22,6 @@ pub fn answers_are_determined()
 {}
 
 /// The defined run about a question of a file with the usual limits is in reach.
-#[tactic(auto, using(crate::proofs::ReachLemmas::file_is_in_reach))]
 pub fn files_are_in_reach()
     ensures { FileIsInReach }
 {}
