@@ -91,4 +91,5 @@ NeverOutOfSteps = (limits : Limits) (q : BodyView) (row : Terms) (k : ℕ) → l
 
 -- what a reply to a question of a file shows is true
 abbrev pub WhatIsShownIsTrue : Type 0
-WhatIsShownIsTrue = (limits : FileLimits) (bytes : List ℕ) (qs : List QuestionView) → IsFileWithin limits bytes qs → All (λ q. (reply : ReplyView) → ShowsReply q.body reply → IsTrueReply q.body reply) qs
+WhatIsShownIsTrue = (limits : FileLimits) (bytes : List ℕ) (qs : List QuestionView) → IsFileWithin limits bytes qs
+    → All (λ q. (reply : ReplyView) → ShowsReply q.body reply → IsTrueReply q.body reply) qs

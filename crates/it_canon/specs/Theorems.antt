@@ -16,7 +16,8 @@ use Rattle.it_canon.specs.QuestionDemands.{problem_of, terms_in, IsProblemOf}
 
 -- the constraints of the problem that a question of a file poses state what its lines demand, within the limits
 abbrev pub QuestionHasProblem : Type 0
-QuestionHasProblem = (limits : FileLimits) (bytes : List ℕ) (qs : List QuestionView) → IsFileWithin limits bytes qs → All (λ q. IsProblemOf q.body (problem_of q.body)) qs
+QuestionHasProblem = (limits : FileLimits) (bytes : List ℕ) (qs : List QuestionView) → IsFileWithin limits bytes qs
+    → All (λ q. IsProblemOf q.body (problem_of q.body)) qs
 
 -- where a question of a file is about a relation, the terms of the relation's targets are their rows
 abbrev pub RelationHasRows : Type 0

@@ -19,6 +19,7 @@ pub fault_only : (limits : FileLimits) (text : List ℕ) (line column : ℕ) (co
     → length text ≤ 1048577 → IsFileWithin limits text (q ∷ []) → ⊥
 fault_only limits text line column code fault q fits file = file_or_fault limits text (q ∷ []) line column code file fault
 
-pub fault_here : (limits : FileLimits) (text : List ℕ) (line column : ℕ) (code : Code) (f : FileFault) → f ≡ Fault line column code → IsFirstFaultWithin limits text f
+pub fault_here : (limits : FileLimits) (text : List ℕ) (line column : ℕ) (code : Code) (f : FileFault) → f ≡ Fault line column code
+    → IsFirstFaultWithin limits text f
     → FileFaultWithin limits text line column code
 fault_here limits text line column code f is h = subst (IsFirstFaultWithin limits text) is h

@@ -64,7 +64,8 @@ module _ (limits : FileLimits) where
     no_bounds_source faults.NotJson none = none
     no_bounds_source faults.Memory none = tt
 
-    bounds_as : (source : Source) (r : Result BoundsView Key) → IsSourceOf limits d source → bounds_to source d ≡ r → ReadsAs limits d (and_then r (λ b. Ok (Bounded source b)))
+    bounds_as : (source : Source) (r : Result BoundsView Key) → IsSourceOf limits d source → bounds_to source d ≡ r
+        → ReadsAs limits d (and_then r (λ b. Ok (Bounded source b)))
     bounds_as source r own by = record { own = Some source; source = own; is = of_bounds (Some source) ∙ ap (λ z. and_then z (λ b. Ok (Bounded source b))) by }
 
     -- the bounds of the question that is asked
@@ -213,7 +214,8 @@ module _ (limits : FileLimits) where
       of_origins o = by_origins o false true other no_code origins
 
       pub no_origins_source : (f : ReportFault) → GivesAsked limits d (Err f) → ReadsValue limits d (Err f)
-      no_origins_source (faults.Shape key) none = subst (λ k. ReadsAs limits d (Err k)) (sym none.0) (record { own = None; source = none.1; is = of_origins None })
+      no_origins_source (faults.Shape key) none = subst (λ k. ReadsAs limits d (Err k)) (sym none.0)
+          (record { own = None; source = none.1; is = of_origins None })
       no_origins_source faults.NotJson none = none
       no_origins_source faults.Memory none = tt
 
@@ -221,7 +223,8 @@ module _ (limits : FileLimits) where
       abbrev after_region : Source → Result AnswerView Key → Result Reading Key
       after_region source r = and_then r (λ a. and_then (answer_origins a d) (λ ws. Ok (Derived source a ws)))
 
-      region_as : (source : Source) (r : Result AnswerView Key) → IsSourceOf limits d source → answer_to source kinds.Region d ≡ r → ReadsAs limits d (after_region source r)
+      region_as : (source : Source) (r : Result AnswerView Key) → IsSourceOf limits d source → answer_to source kinds.Region d ≡ r
+          → ReadsAs limits d (after_region source r)
       region_as source r own answered = record { own = Some source; source = own; is = of_origins (Some source) ∙ ap (after_region source) answered }
 
       -- the region of the question that is asked

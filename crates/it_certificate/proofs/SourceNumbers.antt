@@ -51,7 +51,8 @@ unfolding copy_file Always
 copy_file_small limits = always_any (more_copies []) _ (λ p copies. always_weaker (file limits) _ _
     (λ q ys h small. h (front_small q [] (rest_small p (q ++ []) small))) (file_small limits))
 
-pub copied_questions_have_small_numbers : (limits : FileLimits) (bytes : List ℕ) (copies : List CopyView) (qs : List QuestionView) → IsCopyFile limits bytes copies qs
+pub copied_questions_have_small_numbers : (limits : FileLimits) (bytes : List ℕ) (copies : List CopyView) (qs : List QuestionView)
+    → IsCopyFile limits bytes copies qs
     → Every (λ (q : QuestionView). QuestionHasSmallNumbers q.body) qs
 copied_questions_have_small_numbers limits bytes copies qs asked =
     let small = lines_small 1 (split_lines bytes) asked.lines asked.cut in
@@ -165,7 +166,8 @@ unfolding made_givens
 givens_small n listed = every-append GivenHasSmallNumbers (map knows (minimal_sets listed)) (map knows_nothing (maximal_sets n listed))
     (known_small (minimal_sets listed)) (hidden_small (maximal_sets n listed))
 
-pub made_question_has_small_numbers : (limits : FileLimits) (bytes : List ℕ) (x : SharingView) → IsSharingFile limits bytes x → QuestionHasSmallNumbers (made_question x).body
+pub made_question_has_small_numbers : (limits : FileLimits) (bytes : List ℕ) (x : SharingView) → IsSharingFile limits bytes x
+    → QuestionHasSmallNumbers (made_question x).body
 unfolding made_question
 made_question_has_small_numbers limits bytes x file = ((givens_small (length x.names.variables) x.qualified, tt), relation_of_file limits bytes x file)
 

@@ -184,7 +184,8 @@ pub record IsAccepted (allowed : FileLimits) (line : List ℕ) : Type 0 where
   pub clear : Every IsNoFeed line
   pub verdicts : (v : LineVerdict) → IsVerdict allowed line v → is_invalid v ≡ false
 
-pub accepted_by_verdict : (allowed : FileLimits) (line : List ℕ) (w : LineVerdict) → Every IsNoFeed line → IsVerdict allowed line w → is_invalid w ≡ false → IsAccepted allowed line
+pub accepted_by_verdict : (allowed : FileLimits) (line : List ℕ) (w : LineVerdict) → Every IsNoFeed line → IsVerdict allowed line w → is_invalid w ≡ false
+    → IsAccepted allowed line
 accepted_by_verdict allowed line w clear is ok = record { clear = clear; verdicts = λ v h. ap is_invalid (one_verdict allowed line v w h is) ∙ ok }
 
 rate_ascii : (rates : List (List ℕ)) (r : ℕ) → All IsAscii rates → IsAscii (slice_index_or rates r [])
@@ -248,7 +249,8 @@ module _ (allowed : FileLimits) (back : ReadsBack) (q : QuestionView) (short : l
 
   skipped_is_accepted : (a : AnswerView) (line : List ℕ) → Every IsNoFeed line → IsAnswerVerdict q.body a Skipped
       → ReadsReport allowed line (Ok (Answered (Text q) a)) → IsAccepted allowed line
-  skipped_is_accepted a line clear e reads = accepted_by_verdict allowed line Skipped clear (record { reading = Answered (Text q) a; reads = reads; verdict = e }) refl
+  skipped_is_accepted a line clear e reads = accepted_by_verdict allowed line Skipped clear
+      (record { reading = Answered (Text q) a; reads = reads; verdict = e }) refl
 
   undecided_accepted : (c : Cause) → HasQuestionShape q.body (Undecided c) → IsCauseFor q.body.names c → IsAccepted allowed (line_of (Undecided c))
   undecided_accepted c fits cause =

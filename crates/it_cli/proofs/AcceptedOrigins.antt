@@ -74,7 +74,8 @@ module _ (p : ProblemView) where
 
 -- ---- the line of a region with certificates of its rows
 
-module _ (allowed : FileLimits) (back : ReadsBack) (origins_back : OriginsReadBack) (q : QuestionView) (short : length q.text ≤ 1048577) (file : IsFileWithin allowed q.text (q ∷ [])) where
+module _ (allowed : FileLimits) (back : ReadsBack) (origins_back : OriginsReadBack) (q : QuestionView) (short : length q.text ≤ 1048577)
+    (file : IsFileWithin allowed q.text (q ∷ [])) where
   region_accepted : (rows : List (Mark × Terms)) (ws : List CertificateView) → HasQuestionShape q.body (Region rows) → All (λ r. All IsNumberedAmount r.1) rows
       → AllZip (IsToldOrigin (problem_of (under_all_lines q.body))) (region_rows rows) ws → IsAccepted allowed (derived_text q.text q.body.names rows ws)
   region_accepted rows ws fits amounts told =

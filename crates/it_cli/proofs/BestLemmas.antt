@@ -39,12 +39,14 @@ texts_after_head head text own (c ∷ cs) is same some = ap₂ OfCopies is same
 
 -- ---- the line of a question that is asked
 
-pub factored_text : {E : Type 0} (limits : FileLimits) (effort : Effort) (x : CopyQuestion) (k : ℕ) (e : BodyView) (r : Result (Vec ℕ) E) → IsAskedWith limits x.question.body x.copies e
+pub factored_text : {E : Type 0} (limits : FileLimits) (effort : Effort) (x : CopyQuestion) (k : ℕ) (e : BodyView) (r : Result (Vec ℕ) E)
+    → IsAskedWith limits x.question.body x.copies e
     → IfOk r (λ t. IsFactorText effort k e t.items) → IfOk r (λ t. IsTextOf (best_mode limits false effort) [] k x t.items)
 factored_text limits effort x k e (Ok t) asked told = record { reply = Extended e told.reply; right = (asked, told.right); is = told.is }
 factored_text limits effort x k e (Err f) asked told = tt
 
-pub factored_report : {E : Type 0} (limits : FileLimits) (effort : Effort) (x : CopyQuestion) (k : ℕ) (e : BodyView) (texts : SourceTexts) (r : Result (Vec ℕ) E)
+pub factored_report : {E : Type 0} (limits : FileLimits) (effort : Effort) (x : CopyQuestion) (k : ℕ) (e : BodyView) (texts : SourceTexts)
+    (r : Result (Vec ℕ) E)
     → texts ≡ texts_with x.copies x.question.text → IsAskedWith limits x.question.body x.copies e
     → IfOk r (λ t. IsFactorReportOf effort texts e t.items) → IfOk r (λ t. IsTextOf (best_mode limits true effort) [] k x t.items)
 factored_report limits effort x k e texts (Ok t) same asked told = record {

@@ -174,7 +174,8 @@ question_keeps limits =
 abbrev IfSoundAll : Fact (List BodyView)
 IfSoundAll p qs = Every IsSound p → Every (λ q. AreGood q.names) qs
 
-more_questions_keep : (limits : FileLimits) (p : List Letter) (qs : List BodyView) → IfSoundAll p qs → Always (more_questions limits qs) (λ q rs. IfSoundAll (p ++ q) rs)
+more_questions_keep : (limits : FileLimits) (p : List Letter) (qs : List BodyView) → IfSoundAll p qs
+    → Always (more_questions limits qs) (λ q rs. IfSoundAll (p ++ q) rs)
 unfolding Always more_questions
 more_questions_keep limits p qs s = loop_keeps (Keyword (codes "vars") ∷ []) (λ qs l. (limit_flag (most_questions - length qs), tt {0})) (λ qs u. Then (question limits) (λ q. Give (qs ++ q ∷ []))) IfSoundAll turn p qs s
   where

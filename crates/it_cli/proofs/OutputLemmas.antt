@@ -100,7 +100,8 @@ factored_are_one : CopiesAreOne → (limits : FileLimits) (report : Bool) (effor
 factored_are_one one limits report effort = let mode = heads_are_one one limits report effort
     in record { one_reading = mode.one_reading; one_fault = mode.one_fault; apart = mode.apart }
 
-bounded_are_one : FileIsOne → FileFaultIsOne → FileOrFault → (file : FileLimits) (report : Bool) (limits : Limits) → HasOneReading (outer_mode file report limits)
+bounded_are_one : FileIsOne → FileFaultIsOne → FileOrFault → (file : FileLimits) (report : Bool) (limits : Limits)
+    → HasOneReading (outer_mode file report limits)
 bounded_are_one one_file one_fault apart file report limits = record { one_reading = one_file file; one_fault = one_fault file; apart = apart file }
 
 -- a sharing file has one reading or one fault
@@ -118,12 +119,14 @@ sharing_files_are_one one limits report effort = record {
 
 module _ (one_file : FileIsOne) (one_fault : FileFaultIsOne) (apart : FileOrFault) (copies : CopiesAreOne) (sharings : SharingsAreOne) where
   pub modes_have_one_reading : ModesHaveOneReading
-  modes_have_one_reading plans (Answer format run pivots rows tries names) = files_are_one one_file one_fault apart (limits_of_names names) (budgets_of run pivots rows tries) plans format
+  modes_have_one_reading plans (Answer format run pivots rows tries names) = files_are_one one_file one_fault apart (limits_of_names names)
+      (budgets_of run pivots rows tries) plans format
   modes_have_one_reading plans (Check names) = lines_are_one (limits_of_names names)
   modes_have_one_reading plans (Bench seed count run pivots rows tries) = nothing_is_one (budgets_of run pivots rows tries) plans seed count
   modes_have_one_reading plans (Copy report run pivots names) = heads_are_one copies (limits_of_names names) report (effort_of run pivots)
   modes_have_one_reading plans (Best report run pivots names) = factored_are_one copies (limits_of_names names) report (effort_of run pivots)
-  modes_have_one_reading plans (Outer report run pivots rows tries names) = bounded_are_one one_file one_fault apart (limits_of_names names) report (limits_of run pivots rows tries)
+  modes_have_one_reading plans (Outer report run pivots rows tries names) = bounded_are_one one_file one_fault apart (limits_of_names names) report
+      (limits_of run pivots rows tries)
   modes_have_one_reading plans (Sharing report run pivots names) = sharing_files_are_one sharings (limits_of_names names) report (effort_of run pivots)
 
 -- ---- and one reply to an item, where no quick run comes first
@@ -172,7 +175,8 @@ module _ (one : CopiesAreOne) (limits : FileLimits) where
       (subst (λ (ds : List CopyView). IsMisfit limits x.question.body ds f) is misfit)
 
 module _ (one_factor : OneRightReply) (effort : Effort) (defined : effort.quick ≡ false) where
-  one_best : CopiesAreOne → (limits : FileLimits) (x : CopyQuestion) (a b : BestReply) → IsRightBestReply limits effort x a → IsRightBestReply limits effort x b → a ≡ b
+  one_best : CopiesAreOne → (limits : FileLimits) (x : CopyQuestion) (a b : BestReply) → IsRightBestReply limits effort x a → IsRightBestReply limits effort x b
+      → a ≡ b
   one_best one limits x (Misfit f) (Misfit g) (some, told, is) (some', other, so) = ap Misfit (one.misfit limits x.question.body x.copies f g told other is so)
   one_best one limits x (Misfit f) (Extended e a) misfit (asked, right) = absurd (asked_or_misfit one limits x e x.copies f refl asked misfit)
   one_best one limits x (Extended e a) (Misfit f) (asked, right) misfit = absurd (asked_or_misfit one limits x e x.copies f refl asked misfit)

@@ -93,7 +93,8 @@ taken_given (suc i) (l ∷ lines) = let k = taken_given i lines in omega (arith,
 abbrev IsShortBy : ℕ → QuestionView → Type 0
 IsShortBy most q = length q.text ≤ most
 
-all_short : (limits : FileLimits) (most : ℕ) (lines : List LineView) (qs : List BodyView) → AreAt limits lines qs → given_all lines ≤ most → All (IsShortBy most) (with_texts lines qs)
+all_short : (limits : FileLimits) (most : ℕ) (lines : List LineView) (qs : List BodyView) → AreAt limits lines qs → given_all lines ≤ most
+    → All (IsShortBy most) (with_texts lines qs)
 all_short limits most lines [] at h = All-nil (IsShortBy most)
 all_short limits most lines (x ∷ xs) at h =
     let i = question_line_count x in
@@ -103,9 +104,11 @@ all_short limits most lines (x ∷ xs) at h =
     let short : IsShortBy most q = omega (arith, sum, text, h) in
     All-cons (IsShortBy most) q (with_texts (drop i lines) xs) short (all_short limits most (drop i lines) xs at.1 (omega (arith, sum, h)))
 
-pub texts_are_short : (limits : FileLimits) (bytes : List ℕ) (qs : List QuestionView) → IsFileWithin limits bytes qs → All (λ q. length q.text ≤ length bytes + 1) qs
+pub texts_are_short : (limits : FileLimits) (bytes : List ℕ) (qs : List QuestionView) → IsFileWithin limits bytes qs
+    → All (λ q. length q.text ≤ length bytes + 1) qs
 texts_are_short limits bytes qs asked =
     let a = lines_short 1 (split_lines bytes) asked.lines asked.cut in
     let b = split_length bytes in
-    let at = questions_at limits asked.lines asked.tree.0 (lines_sound 1 (split_lines bytes) asked.lines asked.cut) (said (file limits) with_texts bytes qs asked) in
+    let at = questions_at limits asked.lines asked.tree.0 (lines_sound 1 (split_lines bytes) asked.lines asked.cut)
+    (said (file limits) with_texts bytes qs asked) in
     subst (All (IsShortBy (length bytes + 1))) asked.says (all_short limits (length bytes + 1) asked.lines asked.tree.0 at (omega (arith, a, b)))

@@ -61,7 +61,8 @@ module _ (shown_is_true : factors.WhatIsShownIsTrue) where
   right_reply_is_true effort q Other right = right
 
   -- with copies, by what is true of the question with them
-  true_reply_with : (limits : FileLimits) (q e : BodyView) (c : CopyView) (cs : List CopyView) (reply : ReplyView) → IsQuestion q → IsExtension limits q (c ∷ cs) e
+  true_reply_with : (limits : FileLimits) (q e : BodyView) (c : CopyView) (cs : List CopyView) (reply : ReplyView) → IsQuestion q
+      → IsExtension limits q (c ∷ cs) e
       → IsTrueReply e reply → IsTrueReplyWith q (c ∷ cs) e reply
   true_reply_with limits q e c cs (Found best) within extension t =
       let verb : e.verb ≡ q.verb = ap (λ (x : BodyView). x.verb) extension.is in
@@ -72,8 +73,10 @@ module _ (shown_is_true : factors.WhatIsShownIsTrue) where
 
   true_reply : (limits : FileLimits) (effort : Effort) (q e : BodyView) (cs : List CopyView) (reply : ReplyView) → IsQuestion q → IsAskedWith limits q cs e
       → IsRightReply effort e reply → IsTrueReplyWith q cs e reply
-  true_reply limits effort q e [] reply within same right = right_reply_is_true effort q reply (subst (λ (x : BodyView). IsRightReply effort x reply) same right)
-  true_reply limits effort q e (c ∷ cs) reply within extension right = true_reply_with limits q e c cs reply within extension (right_reply_is_true effort e reply right)
+  true_reply limits effort q e [] reply within same right = right_reply_is_true effort q reply
+      (subst (λ (x : BodyView). IsRightReply effort x reply) same right)
+  true_reply limits effort q e (c ∷ cs) reply within extension right = true_reply_with limits q e c cs reply within extension
+      (right_reply_is_true effort e reply right)
 
   pub right_best_is_true : (limits : FileLimits) (effort : Effort) (x : CopyQuestion) (reply : BestReply) → IsQuestion x.question.body
       → IsRightBestReply limits effort x reply → IsTrueBestReply limits x reply

@@ -72,7 +72,8 @@ abbrev Any : {X : Type 0} → X → Type 0
 Any x = Unit {0}
 
 pub answers_show : AnswersShow
-answers_show format run pivots rows tries names = writes_such (Answer format run pivots rows tries names) 1048576 (ShownAnswers (limits_of_names names) format) refl (λ plans bytes out o.
+answers_show format run pivots rows tries names = writes_such (Answer format run pivots rows tries names) 1048576
+    (ShownAnswers (limits_of_names names) format) refl (λ plans bytes out o.
     lines_for (answer_mode (limits_of_names names) (budgets_of run pivots rows tries) plans format) (λ told. told) (told_lines format) (λ k q told. refl) Any
     (λ (q : QuestionView) (told : ToldReply). Shows q.body told.reply.answer
     × AreToldOrigins format q.body told.reply.answer told.origins)
@@ -89,21 +90,27 @@ answers_are_true shown_is_true format run pivots rows tries names = writes_such 
 abbrev IsWithinLimits : CopyQuestion → Type 0
 IsWithinLimits x = IsQuestion x.question.body
 
-copied_within : CopiedQuestionsAreWithin → (limits : FileLimits) (bytes : List ℕ) (items : List CopyQuestion) → AsksWithCopies limits bytes items → All IsWithinLimits items
+copied_within : CopiedQuestionsAreWithin → (limits : FileLimits) (bytes : List ℕ) (items : List CopyQuestion) → AsksWithCopies limits bytes items
+    → All IsWithinLimits items
 copied_within are_within limits bytes items asked =
     subst (All IsWithinLimits) (sym asked.are) (All-map IsWithinLimits (with_copies asked.copies) asked.questions
     (are_within limits bytes asked.copies asked.questions asked.read))
 
 pub copies_are_true : answers.WhatIsShownIsTrue → YesByCopies → CopiedQuestionsAreWithin → CopiesAreTrue
-copies_are_true shown_is_true by_copies are_within report run pivots names = writes_such (Copy report run pivots names) 1048576 (TrueCopies (limits_of_names names) report) refl
+copies_are_true shown_is_true by_copies are_within report run pivots names = writes_such (Copy report run pivots names) 1048576
+    (TrueCopies (limits_of_names names) report) refl
     (λ plans bytes out o.
-    lines_for (copy_mode (limits_of_names names) report (effort_of run pivots)) (λ reply. reply) (copy_lines report) (λ k x reply. refl) IsWithinLimits (IsTrueCopy (limits_of_names names))
-    (λ earlier. right_copy_is_true shown_is_true by_copies (limits_of_names names) (effort_of run pivots)) (copied_within are_within (limits_of_names names)) bytes out Done o)
+    lines_for (copy_mode (limits_of_names names) report (effort_of run pivots)) (λ reply. reply) (copy_lines report) (λ k x reply. refl) IsWithinLimits
+    (IsTrueCopy (limits_of_names names))
+    (λ earlier. right_copy_is_true shown_is_true by_copies (limits_of_names names) (effort_of run pivots))
+    (copied_within are_within (limits_of_names names)) bytes out Done o)
 
 pub factors_are_true : factors.WhatIsShownIsTrue → CopiedQuestionsAreWithin → FactorsAreTrue
-factors_are_true shown_is_true are_within report run pivots names = writes_such (Best report run pivots names) 1048576 (TrueFactors (limits_of_names names) report) refl (λ plans bytes out o.
+factors_are_true shown_is_true are_within report run pivots names = writes_such (Best report run pivots names) 1048576
+    (TrueFactors (limits_of_names names) report) refl (λ plans bytes out o.
     lines_for (best_mode (limits_of_names names) report (effort_of run pivots)) (λ reply. reply) (best_lines report)
-    (λ k x reply. refl) IsWithinLimits (IsTrueBestReply (limits_of_names names)) (λ earlier. right_best_is_true shown_is_true (limits_of_names names) (effort_of run pivots))
+    (λ k x reply. refl) IsWithinLimits (IsTrueBestReply (limits_of_names names))
+    (λ earlier. right_best_is_true shown_is_true (limits_of_names names) (effort_of run pivots))
     (copied_within are_within (limits_of_names names)) bytes out Done o)
 
 -- what a reply to the question shows is true
@@ -122,13 +129,16 @@ bounds_are_true shown_is_true report run pivots rows tries names = writes_such (
 abbrev IsWithinSharing : SharingFile → Type 0
 IsWithinSharing x = IsSharing x.says × IsBoundWhereBest x.says
 
-sharing_within : SharingIsWithin → (limits : FileLimits) (bytes : List ℕ) (items : List SharingFile) → AsksOfSharing limits bytes items → All IsWithinSharing items
+sharing_within : SharingIsWithin → (limits : FileLimits) (bytes : List ℕ) (items : List SharingFile) → AsksOfSharing limits bytes items
+    → All IsWithinSharing items
 sharing_within is_within limits bytes items asked = subst (All IsWithinSharing) (sym asked.is)
     (All-cons IsWithinSharing (said_by bytes asked.file) [] (is_within limits bytes asked.file asked.read) (All-nil IsWithinSharing))
 
 pub sharing_is_true : answers.WhatIsShownIsTrue → factors.WhatIsShownIsTrue → MadeQuestionIsOfPerfectSharing → SharingIsWithin → SharingIsTrue
 sharing_is_true shown_is_true shown_factors is_perfect is_within report run pivots names = writes_such (Sharing report run pivots names) 1048576
     (TrueSharing (limits_of_names names) report) refl (λ plans bytes out o.
-    lines_for (sharing_mode (limits_of_names names) report (effort_of run pivots)) (λ reply. reply) (λ k. sharing_lines report) (λ k x reply. refl) IsWithinSharing
+    lines_for (sharing_mode (limits_of_names names) report (effort_of run pivots)) (λ reply. reply) (λ k. sharing_lines report)
+    (λ k x reply. refl) IsWithinSharing
     (λ (x : SharingFile) (reply : SharingReply). IsTrueSharing x.says reply)
-    (λ earlier x. right_sharing_is_true shown_is_true shown_factors is_perfect (effort_of run pivots) x.says) (sharing_within is_within (limits_of_names names)) bytes out Done o)
+    (λ earlier x. right_sharing_is_true shown_is_true shown_factors is_perfect (effort_of run pivots) x.says)
+    (sharing_within is_within (limits_of_names names)) bytes out Done o)

@@ -162,7 +162,8 @@ lines_for Factors = best_lines
 
 -- mode `copy` or `best`
 abbrev pub head_mode : FileLimits → Wanted → Bool → Effort → Mode
-head_mode limits wanted report effort = done_mode (AsksWithCopies limits) (CopyFileFaultAt limits) (λ (earlier : List (ReplyWith (ToldFor wanted))). IsRightFor limits wanted effort) (lines_for wanted report)
+head_mode limits wanted report effort = done_mode (AsksWithCopies limits) (CopyFileFaultAt limits)
+    (λ (earlier : List (ReplyWith (ToldFor wanted))). IsRightFor limits wanted effort) (lines_for wanted report)
 
 -- the mode of a request
 abbrev pub request_mode : Request → Mode

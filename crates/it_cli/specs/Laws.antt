@@ -41,9 +41,11 @@ Headline = (r : Call) (s : Status) (settings : Settings) (most : ℕ) (bytes old
 
 -- In mode `check` it gained the verdict on each line, and the status says whether one is invalid.
 abbrev pub VerdictsAreWritten : Type 0
-VerdictsAreWritten = (r : Call) (s : Status) (names : Option ℕ) (bytes old new : List ℕ) → Ends r s → (s ≡ Done) ⊎ (s ≡ Invalid) → settings_of r.words ≡ Some (Check names)
+VerdictsAreWritten = (r : Call) (s : Status) (names : Option ℕ) (bytes old new : List ℕ) → Ends r s → (s ≡ Done) ⊎ (s ≡ Invalid)
+    → settings_of r.words ≡ Some (Check names)
     → r.left ≡ Some bytes → r.taken ≡ Some old → r.taken_after ≡ Some new
-    → (verdicts : List LineVerdict) × (out : List ℕ) × Verdicts (limits_of_names names) bytes verdicts out × (new ≡ old ++ out) × (s ≡ verdict_status (list_any is_invalid verdicts))
+    → (verdicts : List LineVerdict) × (out : List ℕ) × Verdicts (limits_of_names names) bytes verdicts out × (new ≡ old ++ out)
+    × (s ≡ verdict_status (list_any is_invalid verdicts))
 
 -- In mode `bench` it gained the line of counts, and the source is as it was.
 abbrev pub CountsAreWritten : Type 0
@@ -133,7 +135,8 @@ NoLineIsOutOfSteps = (budgets : Budgets) (plans : List Plan) (q : BodyView) (ste
 
 -- what is written of the verdicts on a report, whichever way they are cut off, is a prefix of a whole output
 abbrev pub VerdictsArePrefix : Type 0
-VerdictsArePrefix = (plans : List Plan) (names : Option ℕ) (bytes out : List ℕ) → IsFirstOutput plans (Check names) bytes out ⊎ IsOutputInPart plans (Check names) bytes out
+VerdictsArePrefix = (plans : List Plan) (names : Option ℕ) (bytes out : List ℕ) → IsFirstOutput plans (Check names) bytes out
+    ⊎ IsOutputInPart plans (Check names) bytes out
     → IsPrefixOfOutput plans (Check names) bytes out
 
 -- what is written of the line of counts where a write fails is a prefix of a whole output; where allocation fails, nothing or a

@@ -78,7 +78,8 @@ copy_file_read limits bytes lines copies ys r qs cut e are = subst (IsCopyFile l
 -- ---- the limits of questions
 
 -- questions that are read keep the limits
-pub bodies_keep_limits : (limits : FileLimits) (bodies : List Body) (ls r : List Letter) → read (file limits) ls ≡ Ok (map body_view bodies, r) → All (λ b. IsQuestion (body_view b)) bodies
+pub bodies_keep_limits : (limits : FileLimits) (bodies : List Body) (ls r : List Letter) → read (file limits) ls ≡ Ok (map body_view bodies, r)
+    → All (λ b. IsQuestion (body_view b)) bodies
 bodies_keep_limits limits bodies ls r e = from_map IsQuestion body_view bodies
     (All-weaker (IsRead limits) IsQuestion (λ q h. within_any limits q h.limits) (map body_view bodies)
     (file_limited limits ls r (map body_view bodies) e))

@@ -28,7 +28,8 @@ built_is q cs v g rows verb ev eg er e =
 proof_of : (q : BodyView) (r : RelationView) → q.verb ≡ Prove r → IsProof q.verb
 proof_of q r e = subst IsProof (sym e) tt
 
-made_of : (limits : FileLimits) (q : BodyView) (cs : List CopyView) (r : RelationView) → q.verb ≡ Prove r → first_unplaced limits 1 q.names cs ≡ None → CanBeMade limits q cs
+made_of : (limits : FileLimits) (q : BodyView) (cs : List CopyView) (r : RelationView) → q.verb ≡ Prove r → first_unplaced limits 1 q.names cs ≡ None
+    → CanBeMade limits q cs
 made_of limits q cs r e placed = record { proof = proof_of q r e; placed = placed }
 
 -- the question with copies keeps the limits where it has few constraints
@@ -54,7 +55,8 @@ past_is_misfit limits q cs r e Many verb placed is past = (made_of limits q cs r
 past_is_misfit limits q cs r e Large verb placed is past = let moved = subst (λ (b : BodyView). IsPastLimits limits b Large) is past
     in (made_of limits q cs r verb placed, moved.0, moved.1)
 
-pub unplaced_is_misfit : (limits : FileLimits) (q : BodyView) (cs : List CopyView) (r : RelationView) (f : CopyFault) → q.verb ≡ Prove r → IsUnplaced limits q.names cs f → IsMisfit limits q cs f
+pub unplaced_is_misfit : (limits : FileLimits) (q : BodyView) (cs : List CopyView) (r : RelationView) (f : CopyFault) → q.verb ≡ Prove r
+    → IsUnplaced limits q.names cs f → IsMisfit limits q cs f
 unplaced_is_misfit limits q cs r Memory verb h = tt
 unplaced_is_misfit limits q cs r Verb verb h = absurd h
 unplaced_is_misfit limits q cs r (Copy k) verb h = (proof_of q r verb, h)

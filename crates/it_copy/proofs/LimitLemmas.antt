@@ -86,7 +86,8 @@ pub record AreAdded (v all : NamesView) (equations : List GivenView) : Type 0 wh
   pub rates : all.rates ≡ v.rates
   pub givens : All (IsGivenOf (length all.variables)) equations
 
-copies_are_added : (limits : FileLimits) (k : ℕ) (v : NamesView) (cs : List CopyView) → length v.variables ≤ most_variables → first_unplaced limits k v cs ≡ None
+copies_are_added : (limits : FileLimits) (k : ℕ) (v : NamesView) (cs : List CopyView) → length v.variables ≤ most_variables
+    → first_unplaced limits k v cs ≡ None
     → AreAdded v (with_copies v cs) (equations_of v cs)
 copies_are_added limits k v [] few e = record { more = omega arith; few = few; rates = refl; givens = All-nil (IsGivenOf (length v.variables)) }
 copies_are_added limits k v (c ∷ cs) few e =

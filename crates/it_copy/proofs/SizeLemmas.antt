@@ -18,7 +18,8 @@ few_by_test : (n most : ℕ) → false ≡ nat_lt most n → n ≤ most
 few_by_test n most e = grind (arith, nat_tests)
 
 -- by the problem that the question poses, where tables are bounded
-pub size_told : (limits : FileLimits) → limits.large_tables ≡ false → (q : BodyView) (p : ProblemView) → IsProblemOf q p → (large : Bool) → large ≡ nat_lt most_entries (table_size p) → IsLargeBy limits q large
+pub size_told : (limits : FileLimits) → limits.large_tables ≡ false → (q : BodyView) (p : ProblemView) → IsProblemOf q p → (large : Bool)
+    → large ≡ nat_lt most_entries (table_size p) → IsLargeBy limits q large
 unfolding IsLargeBy
 size_told limits bounded q p is true e = λ small. more_or_few (table_size p) most_entries e (small_problem q (OnFalse_at bounded small) p is)
 size_told limits bounded q p is false e = OnFalse_from limits.large_tables _ (λ u. small_by_problem q p is (few_by_test (table_size p) most_entries e))

@@ -38,6 +38,7 @@ all_kept limits ls = by_head limits (read (more_copies []) ls)
 pub copied_questions_are_within : CopiedQuestionsAreWithin
 copied_questions_are_within limits bytes copies qs s =
     let ys = s.tree.0.1 in
-    let read_ys = subst (IfKept limits) (asked_is_read (copy_file limits) _ (copy_file_has limits) copies_with_questions bytes (copies, qs) s) (all_kept limits (letters_of_lines s.lines)) in
+    let read_ys = subst (IfKept limits) (asked_is_read (copy_file limits) _ (copy_file_has limits) copies_with_questions bytes (copies, qs) s)
+    (all_kept limits (letters_of_lines s.lines)) in
     subst (λ (w : List CopyView × List QuestionView). All (λ (q : QuestionView). IsQuestion q.body) w.1) s.says
     (texts_keep_limits (drop (length s.tree.0.0) s.lines) ys (All-weaker (IsRead limits) IsQuestion (λ q h. within_any limits q h.limits) ys read_ys))

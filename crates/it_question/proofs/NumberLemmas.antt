@@ -265,7 +265,8 @@ texts_apart lines [] h = tt
 texts_apart lines (q ∷ qs) h = (h.0, texts_apart (drop (question_line_count q) lines) qs h.1)
 
 -- the questions of a file count by numbers of 64 bits
-pub file_has_small_numbers : (limits : FileLimits) (bytes : List ℕ) (qs : List QuestionView) → IsFileWithin limits bytes qs → Every (λ (q : QuestionView). QuestionHasSmallNumbers q.body) qs
+pub file_has_small_numbers : (limits : FileLimits) (bytes : List ℕ) (qs : List QuestionView) → IsFileWithin limits bytes qs
+    → Every (λ (q : QuestionView). QuestionHasSmallNumbers q.body) qs
 file_has_small_numbers limits bytes qs asked =
     let small = lines_small 1 (split_lines bytes) asked.lines asked.cut in
     let all = always_said (file limits) _ (file_has limits) (λ p qs. AreSmall p → Every QuestionHasSmallNumbers qs) (file_small limits)

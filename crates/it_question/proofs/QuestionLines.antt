@@ -220,7 +220,8 @@ verb_has_lines (Prove r) = omega arith
 verb_has_lines (Eliminate rates) = omega arith
 verb_has_lines (Contain first second tries) = omega arith
 
-verb_lines : (limits : FileLimits) (own : OwnLinesView) (v : NamesView) (y : VerbView) (m k : FlaggedLetters) → Spells (verb limits own v) y m k → Puts (HasLines (verb_line_count y)) m k
+verb_lines : (limits : FileLimits) (own : OwnLinesView) (v : NamesView) (y : VerbView) (m k : FlaggedLetters) → Spells (verb limits own v) y m k
+    → Puts (HasLines (verb_line_count y)) m k
 unfolding verb Spells
 verb_lines limits own v y m k (inl s) = subst (λ (x : VerbView). Puts (HasLines (verb_line_count x)) m k) s.3.3.0 (puts_at (tokens_lines 0 (taken_token (flagged_word (codes "prove") (table_flag limits v own)) s.0 m s.1 refl s.2) (line_puts (relation (scope_of v true)) (relation_has_no_end _) s.3.0 s.1 s.3.1 s.3.2)) s.3.3.1)
 verb_lines limits own v y m k (inr (inl s)) = subst (λ (x : VerbView). Puts (HasLines (verb_line_count x)) m k) s.3.3.0 (puts_at (tokens_lines 0 (taken_token (flagged_word (codes "eliminate") (table_flag limits v (givens_alone own))) s.0 m s.1 refl s.2) (line_puts (distinct (index_of v.rates)) (distinct_has_no_end _) s.3.0 s.1 s.3.1 s.3.2)) s.3.3.1)
@@ -254,7 +255,8 @@ lines_append : (qs : List BodyView) (q : BodyView) → all_lines (qs ++ q ∷ []
 lines_append [] q = omega arith
 lines_append (p ∷ qs) q = let e = lines_append qs q in omega (arith, e)
 
-pub questions_lines : (limits : FileLimits) (qs ys : List BodyView) (m k : FlaggedLetters) → Spells (more_questions limits qs) ys m k → Grows all_lines qs ys m k
+pub questions_lines : (limits : FileLimits) (qs ys : List BodyView) (m k : FlaggedLetters) → Spells (more_questions limits qs) ys m k
+    → Grows all_lines qs ys m k
 unfolding more_questions Spells
 questions_lines limits qs ys m k s =
     turns_grow (λ (qs : List BodyView). record { kinds = Keyword (codes "vars") ∷ []; says = λ l. (limit_flag (most_questions - length qs), tt {0}) }) (λ qs u. Spells (Then (question limits) (λ q. Give (qs ++ q ∷ [])))) all_lines (λ qs. refl)

@@ -92,7 +92,8 @@ turns_at limits (suc n) qs ys m k lines s e sound =
     let more = turns_at limits n s.2 ys s.3 k (drop (question_line_count s.5.0) lines) s.6 (sym s.5.3.1 ∙ one.after) one.sound in
     (s.5.0 ∷ more.0, more.1 ∙ ap (λ (t : List BodyView). t ++ more.0) (sym s.5.3.0) ∙ append_assoc qs (s.5.0 ∷ []) more.0, (one.at, more.2))
 
-pub questions_at : (limits : FileLimits) (lines : List LineView) (qs : List BodyView) → AreSound lines → Says (file limits) (letters_of_lines lines) qs → AreAt limits lines qs
+pub questions_at : (limits : FileLimits) (lines : List LineView) (qs : List BodyView) → AreSound lines → Says (file limits) (letters_of_lines lines) qs
+    → AreAt limits lines qs
 unfolding file more_questions Spells
 questions_at limits lines qs sound s =
     let t = turns_at limits s.2.0 [] s.0 (without_flags (letters_of_lines lines)) s.1 lines s.2.1 refl sound in

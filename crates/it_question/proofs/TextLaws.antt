@@ -21,7 +21,8 @@ use Rattle.it_question.proofs.WholeFileLemmas.{the_end, said, says_file}
 first_of : BodyView → List LineView → QuestionView
 first_of q lines = record { body = q; text = text_of_lines (texts_of (take (question_line_count q) lines)) }
 
-first_alone : (limits : FileLimits) (q : BodyView) (lines : List LineView) → QuestionAt limits lines q → IsFileWithin limits (first_of q lines).text (first_of q lines ∷ [])
+first_alone : (limits : FileLimits) (q : BodyView) (lines : List LineView) → QuestionAt limits lines q
+    → IsFileWithin limits (first_of q lines).text (first_of q lines ∷ [])
 unfolding first_of
 first_alone limits q lines h =
     let t = read_again 1 (take (question_line_count q) lines) h.whole in
@@ -32,7 +33,8 @@ first_alone limits q lines h =
     (ap (λ (i : ℕ). text_of_lines (texts_of (take i t.again))) (sym h.long) ∙ t.text)
     (says_file (file limits) with_texts (first_of q lines).text t.again (q ∷ []) t.cut says)
 
-one_question_file : (limits : FileLimits) (qs : List BodyView) (lines : List LineView) (prefix rs : List QuestionView) (q : QuestionView) → AreAt limits lines qs
+one_question_file : (limits : FileLimits) (qs : List BodyView) (lines : List LineView) (prefix rs : List QuestionView) (q : QuestionView)
+    → AreAt limits lines qs
     → with_texts lines qs ≡ prefix ++ q ∷ rs → IsFileWithin limits q.text (q ∷ [])
 unfolding first_of
 one_question_file limits [] lines [] rs q a h = absurd cc

@@ -36,25 +36,30 @@ IsFirstFaultWithin limits bytes fault = IsFirstFormFault (file limits) bytes fau
 
 -- a file has at most one reading
 abbrev pub FileIsOne : Type 0
-FileIsOne = (limits : FileLimits) (bytes : List ℕ) (qs rs : List QuestionView) → IsFileWithin limits bytes qs → IsFileWithin limits bytes rs → qs ≡ rs
+FileIsOne = (limits : FileLimits) (bytes : List ℕ) (qs rs : List QuestionView) → IsFileWithin limits bytes qs → IsFileWithin limits bytes rs
+    → qs ≡ rs
 
 -- a file has at most one first fault, with its place and its code
 abbrev pub FileFaultIsOne : Type 0
-FileFaultIsOne = (limits : FileLimits) (bytes : List ℕ) (line column row place : ℕ) (c d : Code) → FileFaultWithin limits bytes line column c → FileFaultWithin limits bytes row place d
+FileFaultIsOne = (limits : FileLimits) (bytes : List ℕ) (line column row place : ℕ) (c d : Code)
+    → FileFaultWithin limits bytes line column c → FileFaultWithin limits bytes row place d
     → (line ≡ row) × (column ≡ place) × (c ≡ d)
 
 -- no file has both a reading and a first fault
 abbrev pub FileOrFault : Type 0
-FileOrFault = (limits : FileLimits) (bytes : List ℕ) (qs : List QuestionView) (line column : ℕ) (c : Code) → IsFileWithin limits bytes qs → FileFaultWithin limits bytes line column c → ⊥
+FileOrFault = (limits : FileLimits) (bytes : List ℕ) (qs : List QuestionView) (line column : ℕ) (c : Code) → IsFileWithin limits bytes qs
+    → FileFaultWithin limits bytes line column c → ⊥
 
 -- A file has a reading or a first fault.
 abbrev pub FileHasOne : Type 0
 FileHasOne = (limits : FileLimits) (bytes : List ℕ)
-    → ((qs : List QuestionView) × IsFileWithin limits bytes qs) ⊎ ((line : ℕ) × (column : ℕ) × (c : Code) × FileFaultWithin limits bytes line column c)
+    → ((qs : List QuestionView) × IsFileWithin limits bytes qs)
+    ⊎ ((line : ℕ) × (column : ℕ) × (c : Code) × FileFaultWithin limits bytes line column c)
 
 -- The text of a question reads as that question alone.
 abbrev pub TextReadsBack : Type 0
-TextReadsBack = (limits : FileLimits) (bytes : List ℕ) (qs rs : List QuestionView) (q : QuestionView) (prefix : List QuestionView) → IsFileWithin limits bytes qs → qs ≡ prefix ++ q ∷ rs
+TextReadsBack = (limits : FileLimits) (bytes : List ℕ) (qs rs : List QuestionView) (q : QuestionView) (prefix : List QuestionView)
+    → IsFileWithin limits bytes qs → qs ≡ prefix ++ q ∷ rs
     → IsFileWithin limits q.text (q ∷ [])
 
 -- What says a question says that question alone, between `vars` and the file's end.

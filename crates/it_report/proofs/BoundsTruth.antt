@@ -96,7 +96,8 @@ module _ (q : BodyView) (b : BoundsView) (k : IsQuestion q) (fits : HasBoundsSha
 pub valid_is_true_of_bounds : ValidIsTrueOfBounds
 valid_is_true_of_bounds limits line source b v h =
     let q = (asked source).body in
-    let same : v.reading ≡ Bounded source b = same_read v.reading (Bounded source b) (one_reading limits line (Ok v.reading) (Ok (Bounded source b)) v.reads h) in
+    let same : v.reading ≡ Bounded source b = same_read v.reading (Bounded source b)
+    (one_reading limits line (Ok v.reading) (Ok (Bounded source b)) v.reads h) in
     let told = subst (λ (r : Reading). IsReadingVerdict r (Hulled HullIsValid)) same v.verdict in
     let read = bounds_are h.reads.own h.value source b h.reads.is in
     let own : IsSourceOf limits h.value source = subst (IsSourceAt limits h.value) read.0 h.reads.source in

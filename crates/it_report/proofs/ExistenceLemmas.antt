@@ -90,7 +90,8 @@ verdict_read limits line (Ok (Derived source a ws)) h =
     let q = (asked source).body in
     let v = Judged q.names (proofs_verdict (problem_of (under_all_lines q)) (rows_of a) ws) in
     (v, read_verdict limits line (Derived source a ws) v h refl)
-verdict_read limits line (Ok (Factored source b)) h = let v = factor_line_verdict (asked source).body b in (v, read_verdict limits line (Factored source b) v h refl)
+verdict_read limits line (Ok (Factored source b)) h = let v = factor_line_verdict (asked source).body b in
+    (v, read_verdict limits line (Factored source b) v h refl)
 verdict_read limits line (Ok (Bounded source b)) h =
     let v = bounds_verdict_there (asked source).body b in
     (v.0, read_verdict limits line (Bounded source b) v.0 h v.1)
@@ -113,4 +114,5 @@ verdict_there limits line = by_bytes (is_utf8 line) refl
     by_bytes false e = (NotJson, λ u. absurd (true≢false (sym (is_utf8-from_IsUtf8 line u) ∙ e)))
 
 pub each_line_is_judged : EachLineIsJudged
-each_line_is_judged limits k line = let v = verdict_there limits line in (verdict_line k v.0, is_invalid v.0, record { verdict = v.0; is = v.1; told = (refl, refl) })
+each_line_is_judged limits k line = let v = verdict_there limits line in
+    (verdict_line k v.0, is_invalid v.0, record { verdict = v.0; is = v.1; told = (refl, refl) })

@@ -259,10 +259,12 @@ module _ (q : BodyView) (p : ProblemView) (is : IsProblemOf q p) where
 
 -- ---- the question that is asked
 
-best_fits_question : (limits : FileLimits) (line : List ℕ) (source : Source) (b : BestView) → ReadsReport limits line (Ok (Factored source b)) → HasFactorShape (asked source).body b
+best_fits_question : (limits : FileLimits) (line : List ℕ) (source : Source) (b : BestView) → ReadsReport limits line (Ok (Factored source b))
+    → HasFactorShape (asked source).body b
 best_fits_question limits line source b h = (best_is h.reads.own h.value source b h.reads.is).1
 
-best_source_read : (limits : FileLimits) (line : List ℕ) (source : Source) (b : BestView) (h : ReadsReport limits line (Ok (Factored source b))) → IsSourceOf limits h.value source
+best_source_read : (limits : FileLimits) (line : List ℕ) (source : Source) (b : BestView) (h : ReadsReport limits line (Ok (Factored source b)))
+    → IsSourceOf limits h.value source
 best_source_read limits line source b h = subst (IsSourceAt limits h.value) (best_is h.reads.own h.value source b h.reads.is).0 h.reads.source
 
 -- ---- the claim

@@ -75,7 +75,8 @@ no_shape : (key : Key) (q : BodyView) (o : Option FactorVerdict) → Shape key �
 no_shape key q None e = cc
 no_shape key q (Some v) e = cc
 
-pub read_verdict : (limits : FileLimits) (line : List ℕ) (reading : Reading) (v : LineVerdict) → ReadsReport limits line (Ok reading) → IsReadingVerdict reading v → IsVerdict limits line v
+pub read_verdict : (limits : FileLimits) (line : List ℕ) (reading : Reading) (v : LineVerdict) → ReadsReport limits line (Ok reading)
+    → IsReadingVerdict reading v → IsVerdict limits line v
 read_verdict limits line (Answered source a) NotJson h is = absurd is
 read_verdict limits line (Answered source a) (Shape key) h is = absurd is
 read_verdict limits line (Coded source a c) NotJson h is = absurd is

@@ -53,21 +53,26 @@ use Rattle.it_report.proofs.VerdictLemmas.{both_valid}
 
 -- ---- the question that an answer is about
 
-pub fits_question : (limits : FileLimits) (line : List ℕ) (source : Source) (a : AnswerView) → ReadsReport limits line (Ok (Answered source a)) → HasQuestionShape (asked source).body a
+pub fits_question : (limits : FileLimits) (line : List ℕ) (source : Source) (a : AnswerView) → ReadsReport limits line (Ok (Answered source a))
+    → HasQuestionShape (asked source).body a
 fits_question limits line source a h = (answer_is h.reads.own h.value source a h.reads.is).1
 
 -- the line's value is about the source of its reading
-pub source_read : (limits : FileLimits) (line : List ℕ) (source : Source) (a : AnswerView) (h : ReadsReport limits line (Ok (Answered source a))) → IsSourceOf limits h.value source
+pub source_read : (limits : FileLimits) (line : List ℕ) (source : Source) (a : AnswerView) (h : ReadsReport limits line (Ok (Answered source a)))
+    → IsSourceOf limits h.value source
 source_read limits line source a h = subst (IsSourceAt limits h.value) (answer_is h.reads.own h.value source a h.reads.is).0 h.reads.source
 
 -- the question that a line asks keeps the limits and has small numbers
-pub limits_question : (limits : FileLimits) (line : List ℕ) (source : Source) (a : AnswerView) → ReadsReport limits line (Ok (Answered source a)) → IsQuestion (asked source).body
+pub limits_question : (limits : FileLimits) (line : List ℕ) (source : Source) (a : AnswerView) → ReadsReport limits line (Ok (Answered source a))
+    → IsQuestion (asked source).body
 limits_question limits line source a h = source_limits limits h.value source (source_read limits line source a h)
 
-pub small_numbers : (limits : FileLimits) (line : List ℕ) (source : Source) (a : AnswerView) → ReadsReport limits line (Ok (Answered source a)) → QuestionHasSmallNumbers (asked source).body
+pub small_numbers : (limits : FileLimits) (line : List ℕ) (source : Source) (a : AnswerView) → ReadsReport limits line (Ok (Answered source a))
+    → QuestionHasSmallNumbers (asked source).body
 small_numbers limits line source a h = source_numbers limits h.value source (source_read limits line source a h)
 
-pub coded_numbers : (limits : FileLimits) (line : List ℕ) (source : Source) (a : AnswerView) (c : ReportedCodeView) → ReadsReport limits line (Ok (Coded source a c))
+pub coded_numbers : (limits : FileLimits) (line : List ℕ) (source : Source) (a : AnswerView) (c : ReportedCodeView)
+    → ReadsReport limits line (Ok (Coded source a c))
     → QuestionHasSmallNumbers (asked source).body
 coded_numbers limits line source a c h = source_numbers limits h.value source (subst (IsSourceAt limits h.value)
     (coded_is h.reads.own h.value source a c h.reads.is).0 h.reads.source)
@@ -201,7 +206,8 @@ judged_true q (Contain first second tries) a about k small fits e =
 
 pub valid_is_true : ValidIsTrue
 valid_is_true limits line names source a h reads =
-    let e : h.reading ≡ Answered source a = same_read h.reading (Answered source a) (one_reading limits line (Ok h.reading) (Ok (Answered source a)) h.reads reads) in
+    let e : h.reading ≡ Answered source a = same_read h.reading (Answered source a)
+    (one_reading limits line (Ok h.reading) (Ok (Answered source a)) h.reads reads) in
     let judged : IsAnswerVerdict (asked source).body a (Judged names Valid) = subst (λ x. IsReadingVerdict x (Judged names Valid)) e h.verdict in
     judged_true (asked source).body (asked source).body.verb a refl (limits_question limits line source a reads)
     (small_numbers limits line source a reads) (fits_question limits line source a reads) judged.1

@@ -261,7 +261,8 @@ after_secret limits secret = Take (word (codes "parties")) >> (new_names Variabl
 abbrev KeepsAlways : Form SharingView → Type 0
 KeepsAlways f = Always f (λ p y. Keeps y)
 
-module _ (limits : FileLimits) (secret all : NamesView) (one : IsOne secret) (grown : HasGrown (length secret.variables + parties_within limits) secret all) where
+module _ (limits : FileLimits) (secret all : NamesView) (one : IsOne secret)
+    (grown : HasGrown (length secret.variables + parties_within limits) secret all) where
   lists_keep : (sets : List ℕ) → AreListed (length all.variables) sets → KeepsAlways (after_lists all sets)
   unfolding Always
   lists_keep sets listed = always_weaker (aim all) (λ q x. IsAsked all x) _

@@ -210,16 +210,19 @@ told_answers_are_true options line source a details (h, lines) = by_verdict h.ve
     by_verdict NotJson is accepted = absurd (true≢false accepted)
     by_verdict (Shape key) is accepted = absurd (true≢false accepted)
     by_verdict Skipped is accepted =
-        let same = same_read is.reading (reports.Answered source a) (one_reading widest line (Ok is.reading) (Ok (reports.Answered source a)) is.reads h.reads) in
+        let same = same_read is.reading (reports.Answered source a) (one_reading widest line (Ok is.reading)
+        (Ok (reports.Answered source a)) is.reads h.reads) in
         none_claims_nothing (asked source).body (asked source).body.verb a (subst (λ (x : Reading). IsReadingVerdict x Skipped) same is.verdict)
     by_verdict (Weighed names v) is accepted =
-        let same = same_read is.reading (reports.Answered source a) (one_reading widest line (Ok is.reading) (Ok (reports.Answered source a)) is.reads h.reads) in
+        let same = same_read is.reading (reports.Answered source a) (one_reading widest line (Ok is.reading)
+        (Ok (reports.Answered source a)) is.reads h.reads) in
         absurd (subst (λ (x : Reading). IsReadingVerdict x (Weighed names v)) same is.verdict)
     by_verdict (OtherCode names s) is accepted = absurd (true≢false accepted)
     by_verdict (Judged names v) is accepted =
         valid_is_true widest line names source a (subst (λ (w : Verdict). IsVerdict widest line (Judged names w)) (not_invalid_is_valid v accepted) is) h.reads
     by_verdict (Hulled v) is accepted =
-        let same = same_read is.reading (reports.Answered source a) (one_reading widest line (Ok is.reading) (Ok (reports.Answered source a)) is.reads h.reads) in
+        let same = same_read is.reading (reports.Answered source a) (one_reading widest line (Ok is.reading)
+        (Ok (reports.Answered source a)) is.reads h.reads) in
         absurd (subst (λ (x : Reading). IsReadingVerdict x (Hulled v)) same is.verdict)
 
 -- what a told no with a code claims is true

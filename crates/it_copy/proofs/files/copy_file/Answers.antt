@@ -54,14 +54,16 @@ stop_fault-requires-clause-few c = same_lines (λ ls. length (letters_of_lines l
 pub stop_fault-requires-clause-there : goal.stop_fault-requires-clause-there
 stop_fault-requires-clause-there c = same_lines (λ ls. IfFault c.in-Err.stop (IsLeft ls (letters_left c.whole.new.cursor)))
     c.in_ok-lines.lines.items c.as_slice-in-Err.result.now c.as_slice-in-Err.ensures.value
-    (some_left (copy_file c.args.limits) _ (copy_file_has c.args.limits) (copy_file_ends c.args.limits) c.args.bytes.now (map line_view c.in_ok-lines.lines.items) c.in-Err.stop
+    (some_left (copy_file c.args.limits) _ (copy_file_has c.args.limits) (copy_file_ends c.args.limits) c.args.bytes.now
+    (map line_view c.in_ok-lines.lines.items) c.in-Err.stop
     (letters_left c.whole.new.cursor) c.in_ok-lines.ensures
     (begun_stop (copy_file c.args.limits) c.in_ok-lines.lines.items _ _ c.in-Err.stop (letters_left c.whole.new.cursor) c.at-cursor.ensures
     c.as_slice.ensures.value c.in-Err.ensures.gives))
 
 pub returns-in-Err-clause-fault : goal.returns-in-Err-clause-fault
 returns-in-Err-clause-fault c =
-    first_form_fault (copy_file c.args.limits) _ (copy_file_has c.args.limits) (copy_file_ends c.args.limits) c.args.bytes.now (map line_view c.in_ok-lines.lines.items) c.in-Err.stop
+    first_form_fault (copy_file c.args.limits) _ (copy_file_has c.args.limits) (copy_file_ends c.args.limits) c.args.bytes.now
+    (map line_view c.in_ok-lines.lines.items) c.in-Err.stop
     (letters_left c.whole.new.cursor) c.stop_fault.result c.in_ok-lines.ensures
     (begun_stop (copy_file c.args.limits) c.in_ok-lines.lines.items _ _ c.in-Err.stop (letters_left c.whole.new.cursor) c.at-cursor.ensures
     c.as_slice.ensures.value c.in-Err.ensures.gives)

@@ -23,12 +23,14 @@ use Rattle.it_question.proofs.files.questions.Goals as goal
 items_are_read : (limits : FileLimits) (items lines : List Line) (start : List Letter) (read : Reads (List BodyView))
     → start ≡ letters_of_lines (map line_view lines) → lines ≡ items → forms.read (file limits) start ≡ read
     → forms.read (file limits) (letters_of_lines (map line_view items)) ≡ read
-items_are_read limits items lines start read h e r = sym (ap (forms.read (file limits)) (h ∙ ap (λ (ls : List Line). letters_of_lines (map line_view ls)) e)) ∙ r
+items_are_read limits items lines start read h e r = sym (ap (forms.read (file limits)) (h ∙ ap (λ (ls : List Line). letters_of_lines (map line_view ls)) e))
+    ∙ r
 
 begun_stop : (limits : FileLimits) (items lines : List Line) (start : List Letter) (stop : Stop) (rest : List Letter)
     → start ≡ letters_of_lines (map line_view lines) → lines ≡ items → StopsAs stop rest (forms.read (file limits) start)
     → StopsAs stop rest (forms.read (file limits) (letters_of_lines (map line_view items)))
-begun_stop limits items lines start stop rest h e s = subst (StopsAs stop rest) (sym (items_are_read limits items lines start (forms.read (file limits) start) h e refl)) s
+begun_stop limits items lines start stop rest h e s = subst (StopsAs stop rest)
+    (sym (items_are_read limits items lines start (forms.read (file limits) start) h e refl)) s
 
 same_lines : (P : List LineView → Type 0) (items lines : List Line) → lines ≡ items → P (map line_view items) → P (map line_view lines)
 same_lines P items lines e h = subst (λ (ls : List Line). P (map line_view ls)) (sym e) h
@@ -59,13 +61,15 @@ stop_fault-requires-clause-few c = same_lines (λ ls. length (letters_of_lines l
 pub stop_fault-requires-clause-there : goal.stop_fault-requires-clause-there
 stop_fault-requires-clause-there c = same_lines (λ ls. IfFault c.in-Err.stop (IsLeft ls (letters_left c.bodies.new.cursor)))
     c.in_ok-lines.lines.items c.as_slice-in-Err.result.now c.as_slice-in-Err.ensures.value
-    (some_left (file c.args.limits) _ (file_has c.args.limits) (file_ends c.args.limits) c.args.bytes.now (map line_view c.in_ok-lines.lines.items) c.in-Err.stop
+    (some_left (file c.args.limits) _ (file_has c.args.limits) (file_ends c.args.limits) c.args.bytes.now
+    (map line_view c.in_ok-lines.lines.items) c.in-Err.stop
     (letters_left c.bodies.new.cursor) c.in_ok-lines.ensures (begun_stop c.args.limits c.in_ok-lines.lines.items _ _ c.in-Err.stop
     (letters_left c.bodies.new.cursor) c.at-cursor.ensures c.as_slice.ensures.value c.in-Err.ensures))
 
 pub returns-in-Err-clause-fault : goal.returns-in-Err-clause-fault
 returns-in-Err-clause-fault c =
-    first_form_fault (file c.args.limits) _ (file_has c.args.limits) (file_ends c.args.limits) c.args.bytes.now (map line_view c.in_ok-lines.lines.items) c.in-Err.stop
+    first_form_fault (file c.args.limits) _ (file_has c.args.limits) (file_ends c.args.limits) c.args.bytes.now
+    (map line_view c.in_ok-lines.lines.items) c.in-Err.stop
     (letters_left c.bodies.new.cursor) c.stop_fault.result c.in_ok-lines.ensures
     (begun_stop c.args.limits c.in_ok-lines.lines.items _ _ c.in-Err.stop (letters_left c.bodies.new.cursor) c.at-cursor.ensures
     c.as_slice.ensures.value c.in-Err.ensures)
