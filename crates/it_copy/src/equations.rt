@@ -105,7 +105,7 @@ fn add_inside(
 
 /// The equation that the copy is independent, given `over`, of the variables before it that aren't in `over`.
 fn apart(alloc: Global, fresh: u8, over: VarSet) -> Result<Given, AllocError>
-    requires fresh { fresh ≤ most_variables }
+    requires fresh { fresh < most_variables }
     requires inside { over < 2 ^ fresh }
     ensures { IfOk result (λ g. given_view g ≡ apart_equation fresh over) }
 {
@@ -143,7 +143,7 @@ pub fn add_equations(
     old: u8,
     over: VarSet,
 ) -> Result<(), AllocError>
-    requires fresh { fresh ≤ most_variables }
+    requires fresh { fresh < most_variables }
     requires old { old < 16 }
     requires inside { over < 2 ^ fresh }
     ensures { OnOk result (map given_view givens.new.items ≡ map given_view givens.old.items ++ copy_equations fresh old over) }
