@@ -185,8 +185,8 @@ module _ (limits : FileLimits) where
   by_size q copies proof placed few (inl small) = inl (record { made = record { proof = proof; placed = placed }; few = few; small = small; is = refl })
   by_size q copies proof placed few (inr large) = inr (λ x. large x.small)
 
-  extension_or_not : (q : BodyView) (copies : List CopyView)
-      → IsExtension limits q copies (extended q copies) ⊎ (IsExtension limits q copies (extended q copies) → ⊥)
+  extension_or_not : (q : BodyView) (copies : List CopyView) → IsExtension limits q copies (extended q copies)
+      ⊎ (IsExtension limits q copies (extended q copies) → ⊥)
   extension_or_not q copies = by_verb q.verb refl
     where
       by_count : IsProof q.verb → first_unplaced limits 1 q.names copies ≡ None → (most_lines < length (extended q copies).lines.givens)
@@ -229,8 +229,8 @@ module _ (limits : FileLimits) where
       other : (q : QuestionView) (copies : List CopyView) → AsksOnly limits bytes q copies → (copies ≡ h.0) × (q ∷ [] ≡ h.1)
       other q copies a = copy_file_is_one limits bytes copies h.0 (q ∷ []) h.1 a.reads h.2
 
-      by_extension : (q : QuestionView) → h.1 ≡ q ∷ []
-          → IsExtension limits q.body h.0 (extended q.body h.0) ⊎ (IsExtension limits q.body h.0 (extended q.body h.0) → ⊥)
+      by_extension : (q : QuestionView) → h.1 ≡ q ∷ [] → IsExtension limits q.body h.0 (extended q.body h.0)
+          ⊎ (IsExtension limits q.body h.0 (extended q.body h.0) → ⊥)
           → ((q : QuestionView) × (copies : List CopyView) × AsksOnly limits bytes q copies)
           ⊎ ((q : QuestionView) (copies : List CopyView) → AsksOnly limits bytes q copies → ⊥)
       by_extension q e (inl x) = inl (q, h.0, record { short = short; reads = subst (IsCopyFile limits bytes h.0) e h.2; extension = x })

@@ -58,7 +58,8 @@ GivesOnly limits text (Err Memory) = Unit {0}
 
 -- what the reader of bytes as a file with a head gave: the file's only question with the copies
 abbrev pub GivesCopied : FileLimits → List ℕ → Result QuestionView Refusal → Type 0
-GivesCopied limits bytes (Ok e) = (q : QuestionView) × (copies : List CopyView) × AsksOnly limits bytes q copies × (asked (Copies q copies) ≡ e)
+GivesCopied limits bytes (Ok e) = (q : QuestionView) × (copies : List CopyView) × AsksOnly limits bytes q copies
+    × (asked (Copies q copies) ≡ e)
 GivesCopied limits bytes (Err Shape) = (q : QuestionView) (copies : List CopyView) → AsksOnly limits bytes q copies → ⊥
 GivesCopied limits bytes (Err Memory) = Unit {0}
 
@@ -66,7 +67,8 @@ GivesCopied limits bytes (Err Memory) = Unit {0}
 abbrev pub GivesExtended : FileLimits → List CopyView → List QuestionView → Result QuestionView Refusal → Type 0
 GivesExtended limits copies qs (Ok e) = (q : QuestionView) × (qs ≡ q ∷ []) × IsExtension limits q.body copies (extended q.body copies)
     × (asked (Copies q copies) ≡ e)
-GivesExtended limits copies qs (Err Shape) = (q : QuestionView) → qs ≡ q ∷ [] → IsExtension limits q.body copies (extended q.body copies) → ⊥
+GivesExtended limits copies qs (Err Shape) = (q : QuestionView) → qs ≡ q ∷ [] → IsExtension limits q.body copies (extended q.body copies)
+    → ⊥
 GivesExtended limits copies qs (Err Memory) = Unit {0}
 
 -- why the only question isn't extended, by the fault of its copies

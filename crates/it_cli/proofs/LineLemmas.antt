@@ -128,8 +128,8 @@ cause_of_due p effort m (t ∷ ts) cause (inr e) = cause_of_due p effort m ts ca
 few_names : (q : BodyView) → IsQuestion q → (length (problem_names q).variables ≤ most_variables) × (length (problem_names q).rates ≤ 16)
 few_names q k = by_verb q.verb k.verb
   where
-    by_verb : (verb : VerbView) → IsVerbOver q.names verb
-        → (length (names_under q.names verb).variables ≤ most_variables) × (length (names_under q.names verb).rates ≤ 16)
+    by_verb : (verb : VerbView) → IsVerbOver q.names verb → (length (names_under q.names verb).variables ≤ most_variables)
+        × (length (names_under q.names verb).rates ≤ 16)
     by_verb (Prove r) over = (k.few, k.few_rates)
     by_verb (Eliminate rates) over = (k.few, k.few_rates)
     by_verb (Contain a b tries) over = (omega (arith, over.0.few_variables), subst (λ (rs : List (List ℕ)). length rs ≤ 16) (sym over.0.rates) k.few_rates)

@@ -34,7 +34,8 @@ IsOfReports format = ⊥
 -- Where the whole output for a question file is checked as a report, with the same limits, the status is `Done`, whatever the plans of the
 -- boxes.
 abbrev pub OutputIsAccepted : Type 0
-OutputIsAccepted = (plans : List Plan) (format : Format) (run : Run) (pivots : Option ℕ) (rows tries : ℕ) (names : Option ℕ) (bytes out told : List ℕ)
-    (answered checked : Status) → IfSome pivots (λ n. n < 2 ^ 32) → tries < 2 ^ 32 → length bytes ≤ most_file_bytes
-    → IsOfReports format → IsOutput plans (Answer format run pivots rows tries names) bytes out answered → IsOutput plans (Check names) out told checked
-    → checked ≡ Done
+OutputIsAccepted = (plans : List Plan) (format : Format) (run : Run) (pivots : Option ℕ) (rows tries : ℕ) (names : Option ℕ)
+    (bytes out told : List ℕ) (answered checked : Status) → IfSome pivots (λ n. n < 2 ^ 32) → tries < 2 ^ 32
+    → length bytes ≤ most_file_bytes
+    → IsOfReports format → IsOutput plans (Answer format run pivots rows tries names) bytes out answered
+    → IsOutput plans (Check names) out told checked → checked ≡ Done

@@ -155,8 +155,8 @@ NoLineIsOutOfSteps = (budgets : Budgets) (plans : List Plan) (q : BodyView) (ste
 
 -- what is written of the verdicts on a report, whichever way they are cut off, is a prefix of a whole output
 abbrev pub VerdictsArePrefix : Type 0
-VerdictsArePrefix = (plans : List Plan) (names : Option ℕ) (bytes out : List ℕ)
-    → IsFirstOutput plans (Check names) bytes out ⊎ IsOutputInPart plans (Check names) bytes out
+VerdictsArePrefix = (plans : List Plan) (names : Option ℕ) (bytes out : List ℕ) → IsFirstOutput plans (Check names) bytes out
+    ⊎ IsOutputInPart plans (Check names) bytes out
     → IsPrefixOfOutput plans (Check names) bytes out
 
 -- what is written of the line of counts where a write fails is a prefix of a whole output; where allocation fails, nothing or a

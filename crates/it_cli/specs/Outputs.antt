@@ -86,16 +86,18 @@ bench_mode budgets plans seed count = done_mode (λ bytes items. items ≡ tt {0
 
 -- one right reply to each question of a file with a head, as a line of a report or not
 abbrev pub copy_mode : FileLimits → Bool → Effort → Mode
-copy_mode limits report effort = done_mode (AsksWithCopies limits) (CopyFileFaultAt limits) (λ earlier. IsRightCopy limits effort) (copy_lines report)
+copy_mode limits report effort = done_mode (AsksWithCopies limits) (CopyFileFaultAt limits) (λ earlier. IsRightCopy limits effort)
+    (copy_lines report)
 
 -- one right reply about factors to each question of a file with a head, which may be empty, as a line of a report or not
 abbrev pub best_mode : FileLimits → Bool → Effort → Mode
-best_mode limits report effort = done_mode (AsksWithCopies limits) (CopyFileFaultAt limits) (λ earlier. IsRightBestReply limits effort) (best_lines report)
+best_mode limits report effort = done_mode (AsksWithCopies limits) (CopyFileFaultAt limits) (λ earlier. IsRightBestReply limits effort)
+    (best_lines report)
 
 -- one right reply to each question of a file that asks for outer bounds, as a line of a report or not
 abbrev pub outer_mode : FileLimits → Bool → Limits → Mode
-outer_mode file report limits = done_mode (IsFileWithin file) (FileFaultWithin file) (λ earlier q told. bounds.IsRightTold report limits q.body told)
-    (bounds.told_lines report limits)
+outer_mode file report limits = done_mode (IsFileWithin file) (FileFaultWithin file)
+    (λ earlier q told. bounds.IsRightTold report limits q.body told) (bounds.told_lines report limits)
 
 -- one right reply to what a sharing file asks, as a line of a report or not
 abbrev pub sharing_mode : FileLimits → Bool → Effort → Mode
@@ -104,7 +106,8 @@ sharing_mode limits report effort = done_mode (AsksOfSharing limits) (SharingFau
 
 -- the mode that the words ask for; the boxes had these plans
 abbrev pub mode_of : List Plan → Settings → Mode
-mode_of plans (Answer format run pivots rows tries names) = answer_mode (limits_of_names names) (budgets_of run pivots rows tries) plans format
+mode_of plans (Answer format run pivots rows tries names) = answer_mode (limits_of_names names)
+    (budgets_of run pivots rows tries) plans format
 mode_of plans (Check names) = check_mode (limits_of_names names)
 mode_of plans (Bench seed count run pivots rows tries) = bench_mode (budgets_of run pivots rows tries) plans seed count
 mode_of plans (Copy report run pivots names) = copy_mode (limits_of_names names) report (effort_of run pivots)

@@ -32,7 +32,8 @@ IsTrueWithCopies q e verb answer = IsTrueAnswer e answer
 -- the reason is one why the question can't have the copies; or this is the question with them, and the answer is true
 abbrev pub IsTrueCopy : FileLimits → CopyQuestion → CopyReply → Type 0
 IsTrueCopy limits x (Misfit fault) = (fault ≡ Memory → ⊥) × IsMisfit limits x.question.body x.copies fault
-IsTrueCopy limits x (Extended e answer) = IsExtension limits x.question.body x.copies e × IsTrueWithCopies x.question.body e x.question.body.verb answer
+IsTrueCopy limits x (Extended e answer) = IsExtension limits x.question.body x.copies e
+    × IsTrueWithCopies x.question.body e x.question.body.verb answer
 
 -- ---- of a question in mode `best`
 
@@ -51,7 +52,8 @@ IsTrueReplyWith q (c ∷ cs) e Other = asked_by q.verb ≡ None
 -- the reason is one why the question can't have the copies; or this is the question that is asked, and what is told is true
 abbrev pub IsTrueBestReply : FileLimits → CopyQuestion → BestReply → Type 0
 IsTrueBestReply limits x (Misfit fault) = IsToldMisfit limits x fault
-IsTrueBestReply limits x (Extended e reply) = IsAskedWith limits x.question.body x.copies e × IsTrueReplyWith x.question.body x.copies e reply
+IsTrueBestReply limits x (Extended e reply) = IsAskedWith limits x.question.body x.copies e
+    × IsTrueReplyWith x.question.body x.copies e reply
 
 -- ---- of a sharing file
 

@@ -45,12 +45,13 @@ WritesSuch settings IsSuch = (r : Call) (bytes old new : List ℕ) → Ends r Do
 -- the lines of an answer to each of a file's questions, which shows what it says; the certificates that are told of its rows prove these
 abbrev pub ShownAnswers : FileLimits → Format → List ℕ → List ℕ → Type 0
 ShownAnswers limits format = AreLinesFor (IsFileWithin limits)
-    (λ (q : QuestionView) (told : ToldReply). Shows q.body told.reply.answer × AreToldOrigins format q.body told.reply.answer told.origins) (told_lines format)
+    (λ (q : QuestionView) (told : ToldReply). Shows q.body told.reply.answer × AreToldOrigins format q.body told.reply.answer told.origins)
+    (told_lines format)
 
 -- the lines of a true answer to each of a file's questions
 abbrev pub TrueAnswers : FileLimits → Format → List ℕ → List ℕ → Type 0
-TrueAnswers limits format = AreLinesFor (IsFileWithin limits) (λ (q : QuestionView) (told : ToldReply). IsTrueAnswer q.body told.reply.answer)
-    (told_lines format)
+TrueAnswers limits format = AreLinesFor (IsFileWithin limits)
+    (λ (q : QuestionView) (told : ToldReply). IsTrueAnswer q.body told.reply.answer) (told_lines format)
 
 -- the lines of a true reply to each question of a file with a head, as lines of a report or not
 abbrev pub TrueCopies : FileLimits → Bool → List ℕ → List ℕ → Type 0
@@ -63,8 +64,8 @@ TrueFactors limits report = AreLinesFor (AsksWithCopies limits) (IsTrueBestReply
 -- the lines of a true reply to each question of a file that asks for outer bounds, made within these limits, as lines of a
 -- report or not
 abbrev pub TrueBounds : FileLimits → Bool → Limits → List ℕ → List ℕ → Type 0
-TrueBounds file report limits = AreLinesFor (IsFileWithin file) (λ (q : QuestionView) (told : bounds.ToldReply). true_bounds.IsTrueReply q.body told.reply)
-    (bounds.told_lines report limits)
+TrueBounds file report limits = AreLinesFor (IsFileWithin file)
+    (λ (q : QuestionView) (told : bounds.ToldReply). true_bounds.IsTrueReply q.body told.reply) (bounds.told_lines report limits)
 
 -- the lines of a true reply to what a sharing file asks, as a line of a report or not
 abbrev pub TrueSharing : FileLimits → Bool → List ℕ → List ℕ → Type 0
@@ -85,11 +86,13 @@ AnswersAreTrue = (format : Format) (run : Run) (pivots : Option ℕ) (rows tries
 
 -- in mode `copy` each reply that was written is true
 abbrev pub CopiesAreTrue : Type 0
-CopiesAreTrue = (report : Bool) (run : Run) (pivots names : Option ℕ) → WritesSuch (Copy report run pivots names) (TrueCopies (limits_of_names names) report)
+CopiesAreTrue = (report : Bool) (run : Run) (pivots names : Option ℕ) → WritesSuch (Copy report run pivots names)
+    (TrueCopies (limits_of_names names) report)
 
 -- in mode `best` each reply that was written is true
 abbrev pub FactorsAreTrue : Type 0
-FactorsAreTrue = (report : Bool) (run : Run) (pivots names : Option ℕ) → WritesSuch (Best report run pivots names) (TrueFactors (limits_of_names names) report)
+FactorsAreTrue = (report : Bool) (run : Run) (pivots names : Option ℕ) → WritesSuch (Best report run pivots names)
+    (TrueFactors (limits_of_names names) report)
 
 -- in mode `outer` each reply that was written is true
 abbrev pub BoundsAreTrue : Type 0
@@ -98,5 +101,5 @@ BoundsAreTrue = (report : Bool) (run : Run) (pivots : Option ℕ) (rows tries : 
 
 -- in mode `sharing` the reply that was written is true
 abbrev pub SharingIsTrue : Type 0
-SharingIsTrue = (report : Bool) (run : Run) (pivots names : Option ℕ)
-    → WritesSuch (Sharing report run pivots names) (TrueSharing (limits_of_names names) report)
+SharingIsTrue = (report : Bool) (run : Run) (pivots names : Option ℕ) → WritesSuch (Sharing report run pivots names)
+    (TrueSharing (limits_of_names names) report)

@@ -3,7 +3,7 @@ use Rattle.std.proofs.Common.{◌≡◌, ℕ, ◌≤◌, Bool, true, false, nat_
 use Rattle.std.proofs.lemmas.Bool.Decides.{nat_tests}
 use Rattle.it_problems.specs.Problems.{ProblemView}
 use Rattle.it_closure.specs.Sizes.{most_entries, table_size}
-use Rattle.std.proofs.lemmas.Bool.{OnFalse_at, OnFalse_from}
+use Rattle.std.proofs.lemmas.Bool.{OnFalse_at, OnFalse_from, true≢false}
 use Rattle.it_question.specs.declared.sizes.FileLimits.{FileLimits}
 use Rattle.it_question.specs.Questions.{BodyView}
 use Rattle.it_canon.specs.QuestionDemands.{IsProblemOf}
@@ -26,4 +26,4 @@ size_told limits bounded q p is false e = OnFalse_from limits.large_tables _ (λ
 -- any table fits where they aren't bounded
 pub any_fits : (limits : FileLimits) (q : BodyView) → limits.large_tables ≡ true → IsLargeBy limits q false
 unfolding IsLargeBy
-any_fits limits q large = OnFalse_from limits.large_tables _ (λ bounded. let never : true ≡ false = sym large ∙ bounded in absurd cc)
+any_fits limits q large = OnFalse_from limits.large_tables _ (λ bounded. absurd (true≢false (sym large ∙ bounded)))

@@ -87,4 +87,5 @@ IsMisfit limits q cs faults.Memory = Unit {0}
 IsMisfit limits q cs faults.Verb = IsProof q.verb → ⊥
 IsMisfit limits q cs (faults.Copy k) = IsProof q.verb × (first_unplaced limits 1 q.names cs ≡ Some k)
 IsMisfit limits q cs faults.Many = CanBeMade limits q cs × (most_lines < length (extended q cs).lines.givens)
-IsMisfit limits q cs faults.Large = CanBeMade limits q cs × (length (extended q cs).lines.givens ≤ most_lines) × (HasTableWithin limits (extended q cs) → ⊥)
+IsMisfit limits q cs faults.Large = CanBeMade limits q cs × (length (extended q cs).lines.givens ≤ most_lines)
+    × (HasTableWithin limits (extended q cs) → ⊥)

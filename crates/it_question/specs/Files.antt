@@ -36,12 +36,13 @@ IsFirstFaultWithin limits bytes fault = IsFirstFormFault (file limits) bytes fau
 
 -- a file has at most one reading
 abbrev pub FileIsOne : Type 0
-FileIsOne = (limits : FileLimits) (bytes : List ℕ) (qs rs : List QuestionView) → IsFileWithin limits bytes qs → IsFileWithin limits bytes rs → qs ≡ rs
+FileIsOne = (limits : FileLimits) (bytes : List ℕ) (qs rs : List QuestionView) → IsFileWithin limits bytes qs → IsFileWithin limits bytes rs
+    → qs ≡ rs
 
 -- a file has at most one first fault, with its place and its code
 abbrev pub FileFaultIsOne : Type 0
-FileFaultIsOne = (limits : FileLimits) (bytes : List ℕ) (line column row place : ℕ) (c d : Code) → FileFaultWithin limits bytes line column c
-    → FileFaultWithin limits bytes row place d
+FileFaultIsOne = (limits : FileLimits) (bytes : List ℕ) (line column row place : ℕ) (c d : Code)
+    → FileFaultWithin limits bytes line column c → FileFaultWithin limits bytes row place d
     → (line ≡ row) × (column ≡ place) × (c ≡ d)
 
 -- no file has both a reading and a first fault
@@ -52,7 +53,8 @@ FileOrFault = (limits : FileLimits) (bytes : List ℕ) (qs : List QuestionView) 
 -- A file has a reading or a first fault.
 abbrev pub FileHasOne : Type 0
 FileHasOne = (limits : FileLimits) (bytes : List ℕ)
-    → ((qs : List QuestionView) × IsFileWithin limits bytes qs) ⊎ ((line : ℕ) × (column : ℕ) × (c : Code) × FileFaultWithin limits bytes line column c)
+    → ((qs : List QuestionView) × IsFileWithin limits bytes qs)
+    ⊎ ((line : ℕ) × (column : ℕ) × (c : Code) × FileFaultWithin limits bytes line column c)
 
 -- The text of a question reads as that question alone.
 abbrev pub TextReadsBack : Type 0

@@ -129,4 +129,5 @@ pub record IsJudgedLine (limits : FileLimits) (k : ℕ) (line text : List ℕ) (
 
 -- the text and `invalid` are those of each line that reads so, or that has this fault, whatever the limits are
 abbrev pub IsJudgedWhereRead : ℕ → Result Reported ReportFault → List ℕ → Bool → Type 0
-IsJudgedWhereRead k read text invalid = (limits : FileLimits) (line : List ℕ) → Reports limits line read → IsJudgedLine limits k line text invalid
+IsJudgedWhereRead k read text invalid = (limits : FileLimits) (line : List ℕ) → Reports limits line read
+    → IsJudgedLine limits k line text invalid

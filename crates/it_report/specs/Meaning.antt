@@ -35,7 +35,8 @@ use Rattle.it_report.specs.Judging.{IsVerdict, IsJudgedLine}
 
 -- Each line of a report has a verdict, and so a line about it.
 abbrev pub EachLineIsJudged : Type 0
-EachLineIsJudged = (limits : FileLimits) (k : ℕ) (line : List ℕ) → (text : List ℕ) × (invalid : Bool) × IsJudgedLine limits k line text invalid
+EachLineIsJudged = (limits : FileLimits) (k : ℕ) (line : List ℕ) → (text : List ℕ) × (invalid : Bool)
+    × IsJudgedLine limits k line text invalid
 
 -- A line has at most one verdict.
 abbrev pub OneVerdict : Type 0
@@ -58,19 +59,22 @@ IsClaimTrue q answer = IsClaimTrueBy q q.verb answer
 -- The claim of a line with the verdict `Valid` is true of the question that is asked.
 abbrev pub ValidIsTrue : Type 0
 ValidIsTrue = (limits : FileLimits) (line : List ℕ) (names : NamesView) (source : Source) (answer : AnswerView)
-    → IsVerdict limits line (Judged names Valid) → ReadsReport limits line (Ok (Answered source answer)) → IsClaimTrue (asked source).body answer
+    → IsVerdict limits line (Judged names Valid) → ReadsReport limits line (Ok (Answered source answer))
+    → IsClaimTrue (asked source).body answer
 
 -- Where a valid no has a code, its relation fails at random variables: the point is such a place, and the value of each set of
 -- variables is the entropy of those of the code, as many times as the line says.
 abbrev pub ValidCodeIsTrue : Type 0
-ValidCodeIsTrue = (limits : FileLimits) (line : List ℕ) (names : NamesView) (source : Source) (back : Bool) (values : List ℤ) (c : ReportedCodeView)
+ValidCodeIsTrue = (limits : FileLimits) (line : List ℕ) (names : NamesView) (source : Source) (back : Bool) (values : List ℤ)
+    (c : ReportedCodeView)
     → IsVerdict limits line (Judged names Valid) → ReadsReport limits line (Ok (Coded source (No back values) c))
     → IsClaimTrue (asked source).body (No back values) × (variables_of c.code ≡ length (asked source).body.names.variables) × (1 ≤ c.times) × AreEntropies c.code c.times values
 
 -- Where a valid region has origins, each of its rows is true wherever a polymatroid and rates make all lines of the question true. It says
 -- nothing of whether the rows are all.
 abbrev pub ValidOriginsAreTrue : Type 0
-ValidOriginsAreTrue = (limits : FileLimits) (line : List ℕ) (names : NamesView) (source : Source) (rows : List (Mark × Terms)) (origins : List CertificateView)
+ValidOriginsAreTrue = (limits : FileLimits) (line : List ℕ) (names : NamesView) (source : Source) (rows : List (Mark × Terms))
+    (origins : List CertificateView)
     → IsVerdict limits line (Judged names Valid) → ReadsReport limits line (Ok (Derived source (Region rows) origins))
     → All (λ row. (p : ℕ → ℤ) → AreTrueTogether (under_all_lines (asked source).body) p → pos 0 ≤ℤ value row.1 p) rows
 
@@ -85,13 +89,15 @@ ValidFactorIsTrue = (limits : FileLimits) (line : List ℕ) (names : NamesView) 
 -- Of a sharing file, it is true of the factors that hold wherever the secret is shared perfectly.
 abbrev pub ValidFactorIsTrueOfSharing : Type 0
 ValidFactorIsTrueOfSharing = (limits : FileLimits) (line : List ℕ) (names : NamesView) (x : SharingView) (best : BestView)
-    → IsVerdict limits line (Weighed names (Checked Valid)) → ReadsReport limits line (Ok (Factored (Sharing x) best)) → IsTrueBest (HoldsWherePerfect x) best
+    → IsVerdict limits line (Weighed names (Checked Valid)) → ReadsReport limits line (Ok (Factored (Sharing x) best))
+    → IsTrueBest (HoldsWherePerfect x) best
 
 -- With a head, a valid yes says that the relation of the text's own question holds at every polymatroid and rates that have such copies.
 abbrev pub ValidIsTrueByCopies : Type 0
-ValidIsTrueByCopies = (limits : FileLimits) (line : List ℕ) (names : NamesView) (q : QuestionView) (copies : List CopyView) (r : RelationView)
-    (ws : List CertificateView)
-    → IsVerdict limits line (Judged names Valid) → ReadsReport limits line (Ok (Answered (Copies q copies) (Yes ws))) → q.body.verb ≡ Prove r
+ValidIsTrueByCopies = (limits : FileLimits) (line : List ℕ) (names : NamesView) (q : QuestionView) (copies : List CopyView)
+    (r : RelationView) (ws : List CertificateView)
+    → IsVerdict limits line (Judged names Valid) → ReadsReport limits line (Ok (Answered (Copies q copies) (Yes ws)))
+    → q.body.verb ≡ Prove r
     → (p : ℕ → ℤ) → HasCopies q.body (extended q.body copies) p → Holds (length q.body.names.variables) p r
 
 -- Of a sharing file, a valid answer is true wherever the secret is shared perfectly.

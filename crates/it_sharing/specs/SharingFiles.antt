@@ -21,12 +21,13 @@ IsFirstSharingFault limits bytes fault = IsFirstFormFault (sharing limits) bytes
 
 -- a file has at most one reading
 abbrev pub SharingIsOne : Type 0
-SharingIsOne = (limits : FileLimits) (bytes : List ℕ) (x y : SharingView) → IsSharingFile limits bytes x → IsSharingFile limits bytes y → x ≡ y
+SharingIsOne = (limits : FileLimits) (bytes : List ℕ) (x y : SharingView) → IsSharingFile limits bytes x → IsSharingFile limits bytes y
+    → x ≡ y
 
 -- a file has at most one first fault, with its place and its code
 abbrev pub SharingFaultIsOne : Type 0
-SharingFaultIsOne = (limits : FileLimits) (bytes : List ℕ) (line column row place : ℕ) (c d : Code) → SharingFaultAt limits bytes line column c
-    → SharingFaultAt limits bytes row place d
+SharingFaultIsOne = (limits : FileLimits) (bytes : List ℕ) (line column row place : ℕ) (c d : Code)
+    → SharingFaultAt limits bytes line column c → SharingFaultAt limits bytes row place d
     → (line ≡ row) × (column ≡ place) × (c ≡ d)
 
 -- no file has both a reading and a first fault
@@ -37,7 +38,8 @@ SharingOrFault = (limits : FileLimits) (bytes : List ℕ) (x : SharingView) (lin
 -- A file has a reading or a first fault.
 abbrev pub SharingHasOne : Type 0
 SharingHasOne = (limits : FileLimits) (bytes : List ℕ)
-    → ((x : SharingView) × IsSharingFile limits bytes x) ⊎ ((line : ℕ) × (column : ℕ) × (c : Code) × SharingFaultAt limits bytes line column c)
+    → ((x : SharingView) × IsSharingFile limits bytes x)
+    ⊎ ((line : ℕ) × (column : ℕ) × (c : Code) × SharingFaultAt limits bytes line column c)
 
 -- What a file says is within the limits.
 abbrev pub SharingIsWithin : Type 0

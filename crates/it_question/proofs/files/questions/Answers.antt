@@ -23,8 +23,8 @@ use Rattle.it_question.proofs.files.questions.Goals as goal
 items_are_read : (limits : FileLimits) (items lines : List Line) (start : List Letter) (read : Reads (List BodyView))
     → start ≡ letters_of_lines (map line_view lines) → lines ≡ items → forms.read (file limits) start ≡ read
     → forms.read (file limits) (letters_of_lines (map line_view items)) ≡ read
-items_are_read limits items lines start read h e r = sym (ap (forms.read (file limits))
-    (h ∙ ap (λ (ls : List Line). letters_of_lines (map line_view ls)) e)) ∙ r
+items_are_read limits items lines start read h e r = sym (ap (forms.read (file limits)) (h ∙ ap (λ (ls : List Line). letters_of_lines (map line_view ls)) e))
+    ∙ r
 
 begun_stop : (limits : FileLimits) (items lines : List Line) (start : List Letter) (stop : Stop) (rest : List Letter)
     → start ≡ letters_of_lines (map line_view lines) → lines ≡ items → StopsAs stop rest (forms.read (file limits) start)

@@ -6,10 +6,10 @@ use Rattle.it_sharing.proofs.sets.unqualified_sets.Goals as goal
 pub loop-number-preserved : goal.loop-number-preserved
 loop-number-preserved c =
     passing_more (is_unqualified c.args.listed.now) c.loop-number.number (2 ^ c.args.variables) c.loop-number.sets.items
-    c.add_unqualified.new.sets.items _ (omega (arith, c.number.ensures, c.set_count.ensures))
-    (rw c.from_number-set.ensures at c.in-Ok.ensures) c.loop-number.invariant
+    c.add_unqualified.new.sets.items _ (omega (arith, c.set_count-number-end.ensures))
+    (rw c.from_number-set.ensures at c.in_ok-add_unqualified.ensures) c.loop-number.invariant
 
 pub returns : goal.returns
 unfolding unqualified_sets
 returns c = passing_done (is_unqualified c.args.listed.now) c.loop-number.number (2 ^ c.args.variables) c.loop-number.sets.items _
-    (omega (arith, c.loop-number.done, c.set_count.ensures)) c.loop-number.invariant
+    (omega (arith, c.set_count-number-end.ensures)) c.loop-number.invariant
