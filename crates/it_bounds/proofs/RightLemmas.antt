@@ -20,14 +20,14 @@ use Rattle.it_hull.specs.Hulls.{IsHull}
 use Rattle.it_hull.specs.KeptRates.{kept_coordinates}
 use Rattle.it_outer.specs.declared.types.Limits.{Limits}
 use Rattle.it_outer.specs.Bounds.{IsRay}
-use Rattle.it_outer.specs.Outer.{CauseView, OuterView, Run, search_without}
+use Rattle.it_outer.specs.Outer.{CauseView, OuterView, Run, limits_under, search_without}
 use Rattle.it_outer.specs.Outer as outers
 use Rattle.it_outer.specs.Search.{SearchEnds}
 use Rattle.it_answer.specs.Forms.{Certifies, CertifiesForm, CertifyAll, all_demands}
 use Rattle.it_answer.specs.Truth.{region_rows}
 use Rattle.it_answer.proofs.FormLemmas.{by_forms, generators_speak, rows_add_up}
 use Rattle.it_bounds.specs.Replies.{ReplyView, Bounded, Undecided, Size, Other}
-use Rattle.it_bounds.specs.RightReplies.{Ends, IsDue, IsRightReply, MarksEnd, ShowsBounds, ShowsReply}
+use Rattle.it_bounds.specs.RightReplies.{Ends, IsDue, IsDueReply, IsRightReply, MarksEnd, ShowsBounds, ShowsReply}
 use Rattle.it_bounds.specs.RowReplies.{AreMarkedBounds, IsReplyByRows}
 use Rattle.it_rates.specs.Asked.{eliminated_by, under_all_lines}
 use Rattle.it_rates.specs.Bounds.{IsTrueRay}
@@ -99,7 +99,7 @@ module _ (q : BodyView) (p : ProblemView) (posed : IsProblemOf (under_all_lines 
       shows_by_text Size large = tt
       shows_by_text Other x = absurd x
 
-      pub right_bound : (reply : ReplyView) → IsReplyByRows limits p gone reply → IsRightReply limits q reply
+      pub right_bound : (reply : ReplyView) → IsReplyByRows limits p gone reply → IsDueReply limits q reply
       right_bound reply r = record {
         shows = shows_by_text reply r;
         due = subst (λ (a : Option (List ℕ)). IsDue limits q a reply) (sym asks)
@@ -107,8 +107,14 @@ module _ (q : BodyView) (p : ProblemView) (posed : IsProblemOf (under_all_lines 
       }
 
 -- a question that asks to eliminate no rates has the other reply
-pub other_is_right : (limits : Limits) (q : BodyView) (verb : VerbView) → q.verb ≡ verb → eliminated_by verb ≡ None → IsRightReply limits q Other
+pub other_is_right : (limits : Limits) (q : BodyView) (verb : VerbView) → q.verb ≡ verb → eliminated_by verb ≡ None → IsDueReply limits q Other
 other_is_right limits q verb is none = let asks : eliminated_by q.verb ≡ None = ap eliminated_by is ∙ none in record {
   shows = asks;
   due = subst (λ (a : Option (List ℕ)). IsDue limits q a Other) (sym asks) tt;
 }
+
+-- a reply that is due with the limits under the code's problem is right
+pub right_under : (limits own : Limits) (q : BodyView) (p : ProblemView) → IsProblemOf (under_all_lines q) p → own ≡ limits_under p limits
+    → (reply : ReplyView) → IsDueReply own q reply → IsRightReply limits q reply
+right_under limits own q p posed is reply x = subst (λ (l : Limits). IsDueReply l q reply)
+    (is ∙ ap (λ (r : ProblemView). limits_under r limits) (one_problem (under_all_lines q) p posed)) x

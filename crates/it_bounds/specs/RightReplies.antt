@@ -1,6 +1,6 @@
 -- Right replies to questions in mode `outer`: they show what they say, by the meaning of the question's text alone, and they are due: the
 -- search, and a reduction for the marks, end with them. And what follows.
-use Rattle.std.specs.Prelude.{◌≡◌, ℕ, ℤ, List, [], ◌∷◌, map, All, Option, Some, None, false}
+use Rattle.std.specs.Prelude.{◌≡◌, ℕ, ◌≤◌, ℤ, List, [], ◌∷◌, length, map, All, Option, Some, None}
 use Rattle.it_space.specs.declared.answers.Cause.TheVariants.{Pivots}
 use Rattle.it_space.specs.declared.answers.Mark.{Mark}
 use Rattle.it_space.specs.declared.answers.Mark.TheVariants as marks
@@ -12,12 +12,15 @@ use Rattle.it_question.specs.Questions.{BodyView, QuestionView}
 use Rattle.it_question.specs.TableSizes.{HasSmallTable}
 use Rattle.it_demand.specs.QuestionSpaces.{space_of}
 use Rattle.it_canon.specs.QuestionDemands.{problem_of}
+use Rattle.it_closure.specs.Sizes.{most_variables_in_reach}
+use Rattle.it_prove.specs.ProofViews.{IsUnbound}
 use Rattle.it_prove.specs.declared.types.Effort.{Effort}
+use Rattle.it_prove.specs.declared.types.Runs.TheVariants.{Defined}
 use Rattle.it_redundant.specs.Reduction.{NeedView, Reduces}
 use Rattle.it_hull.specs.Hulls.{IsHull}
 use Rattle.it_outer.specs.declared.types.Limits.{Limits}
 use Rattle.it_hull.specs.Constants.{constants}
-use Rattle.it_outer.specs.Outer.{OuterView, CauseView, Run, search_without}
+use Rattle.it_outer.specs.Outer.{OuterView, CauseView, Run, limits_under, search_without}
 use Rattle.it_outer.specs.Outer as outers
 use Rattle.it_outer.specs.Search.{SearchEnds}
 use Rattle.it_answer.specs.DueEliminations.{marked_rows}
@@ -73,20 +76,30 @@ IsDue limits q asked reply = ⊥
 
 -- ---- right replies
 
--- a right reply to a question: it shows what it says, and it is due
-pub record IsRightReply (limits : Limits) (q : BodyView) (reply : ReplyView) : Type 0 where
+-- a reply to a question that shows what it says, and is due with these limits
+pub record IsDueReply (limits : Limits) (q : BodyView) (reply : ReplyView) : Type 0 where
   pub shows : ShowsReply q reply
   pub due : IsDue limits q (eliminated_by q.verb) reply
 
+-- the limits for a question: quick runs alone decide rows where the defined run about the problem that all lines pose is out of reach
+abbrev pub limits_for : BodyView → Limits → Limits
+limits_for q limits = limits_under (problem_of (under_all_lines q)) limits
+
+-- a right reply to a question within these limits
+abbrev pub IsRightReply : Limits → BodyView → ReplyView → Type 0
+IsRightReply limits q reply = IsDueReply (limits_for q limits) q reply
+
 -- ---- what follows
 
--- where no quick run comes first a question has one right reply
+-- where the defined run alone is asked for, a question of so few variables that it is in reach has one right reply
 abbrev pub OneRightReply : Type 0
-OneRightReply = (limits : Limits) (q : BodyView) (a b : ReplyView) → limits.effort.quick ≡ false → IsRightReply limits q a → IsRightReply limits q b → a ≡ b
+OneRightReply = (limits : Limits) (q : BodyView) (a b : ReplyView) → limits.effort.runs ≡ Defined → length q.names.variables ≤ most_variables_in_reach
+    → IsRightReply limits q a → IsRightReply limits q b → a ≡ b
 
--- without a budget no reply is undecided for lack of steps
+-- where the defined run is made without a budget, no reply to such a question is undecided for lack of steps
 abbrev pub NeverOutOfSteps : Type 0
-NeverOutOfSteps = (limits : Limits) (q : BodyView) (row : Terms) (k : ℕ) → limits.effort.pivots ≡ None → IsRightReply limits q (Undecided (Run row (Pivots k))) → ⊥
+NeverOutOfSteps = (limits : Limits) (q : BodyView) (row : Terms) (k : ℕ) → IsUnbound limits.effort → length q.names.variables ≤ most_variables_in_reach
+    → IsRightReply limits q (Undecided (Run row (Pivots k))) → ⊥
 
 -- what a reply to a question of a file shows is true
 abbrev pub WhatIsShownIsTrue : Type 0

@@ -8,7 +8,7 @@ ghost use Rattle.it_canon.specs.QuestionDemands.{IsProblemOf, question_demands, 
 ghost use Rattle.it_bounds.specs.Lines.{IsPrintable};
 ghost use Rattle.it_bounds.specs.Replies.{reply_view};
 ghost use Rattle.it_bounds.specs.Reports.{IsToldReply};
-ghost use Rattle.it_bounds.specs.RightReplies.{IsRightReply};
+ghost use Rattle.it_bounds.specs.RightReplies.{IsDueReply, IsRightReply};
 ghost use Rattle.it_bounds.specs.RowReplies.{IsReplyByRows, TellsBounds};
 ghost use Rattle.it_rates.specs.Asked.{under_all_lines};
 
@@ -26,7 +26,8 @@ use std::alloc::{AllocError, Global};
 
 /// The right reply to a question, and the problem that all its lines pose, `row` lines too: to one that asks to eliminate rates its outer
 /// bound, and `Other` to each other verb. The listed rates are eliminated, and all entropies with them; the other rates stay. The limits
-/// are those of the search: the most rows after one more ray, at most 65,535; the most rays; and the effort for each run.
+/// are those of the search: the most rows after one more ray, at most 65,535; the most rays; and the effort for each run, which is a
+/// quick one alone where the defined run about that problem is out of reach.
 pub fn reply(
     alloc: Global,
     question: &Question,
@@ -40,7 +41,8 @@ pub fn reply(
     ensures told { IfOk result (λ a. IsToldReply question.now.body a.reply) }
 {
     let problem = problem_of_lines(alloc, question)?;
-    let reply = reply_under(alloc, question, &problem, limits)?;
+    let own = limits.under(alloc, &problem)?;
+    let reply = reply_under(alloc, question, &problem, own)?;
     Ok(RepliedProblem { problem, reply })
 }
 
@@ -53,7 +55,7 @@ fn reply_under(
 ) -> Result<Reply, AllocError>
     requires problem { IsProblemOf (under_all_lines question.now.body) problem.now }
     requires few_rows { limits.rows ≤ most_system_rows }
-    ensures right { IfOk result (λ r. IsRightReply limits question.now.body (reply_view r)) }
+    ensures right { IfOk result (λ r. IsDueReply limits question.now.body (reply_view r)) }
     ensures printable { IfOk result (IsPrintable question.now.body (length problem.now.constraints)) }
     ensures told { IfOk result (IsToldReply question.now.body) }
 {

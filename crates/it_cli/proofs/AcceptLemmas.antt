@@ -1,5 +1,5 @@
 -- The verdict on the line of a right answer: `Valid` for a yes, a no and a containment, `Skipped` for the others.
-use Rattle.std.proofs.Common.{◌≡◌, ℕ, zero, suc, ◌+◌, ◌<◌, ◌≤◌, ◌^◌, ℤ, pos, neg_ℤ, ◌≤ℤ◌, List, [], ◌∷◌, map, length, decimal, slice_index_or, Bool, true, false, Some, IfSome, Ok, All, IsUtf8, IsAscii, if◌then◌else◌, refl, sym, ap, subst, ◌∙◌, arith, inl, inr, lit≤}
+use Rattle.std.proofs.Common.{◌≡◌, ℕ, zero, suc, ◌+◌, ◌<◌, ◌≤◌, ◌^◌, ℤ, pos, neg_ℤ, ◌≤ℤ◌, List, [], ◌∷◌, map, length, decimal, slice_index_or, Bool, true, false, Option, Some, IfSome, Ok, All, IsUtf8, IsAscii, if◌then◌else◌, refl, sym, ap, subst, ◌∙◌, arith, inl, inr, lit≤}
 use Rattle.std.specs.List.{AllByRecursion as Every}
 use Rattle.std.proofs.lemmas.Fmt.{IsAscii-decimal_wide}
 use Rattle.std.proofs.lemmas.List.Elements.{All-head, All-tail, All-weaker}
@@ -26,6 +26,8 @@ use Rattle.it_run.specs.Runs.RunEndView.{Weights, Point, Pivots, Width}
 use Rattle.it_prove.specs.Closed.{spread_point}
 use Rattle.it_prove.specs.ProofViews as proof_views
 use Rattle.it_prove.specs.ProofViews.{Follows, EndsWith, AreProofsOf}
+use Rattle.it_prove.proofs.ProofLemmas.{quick_no, quick_yes}
+use Rattle.it_prove.proofs.ReachLemmas.{same_pivots}
 use Rattle.it_prove.proofs.RightLemmas.{ends_are_right}
 use Rattle.it_prove.specs.declared.types.Effort.{Effort}
 use Rattle.it_syntax.specs.Meaning.{RelationView}
@@ -60,7 +62,7 @@ use Rattle.it_answer.specs.Truth.{IsExactRegion}
 use Rattle.it_answer.specs.DueContainments.{IsDueContainment}
 use Rattle.it_answer.specs.DueEliminations.{IsDueElimination}
 use Rattle.it_answer.specs.DueRelations.{IsDueRelation, PointIsDue}
-use Rattle.it_answer.specs.RightAnswers.{IsDueBy, IsRightAnswer, ProofsAscend}
+use Rattle.it_answer.specs.RightAnswers.{IsDueBy, IsRightAnswer, ProofsAscend, budgets_under}
 use Rattle.it_eliminate.proofs.MemberLemmas.{every_member}
 use Rattle.it_space.proofs.EveryLemmas.{every_of}
 use Rattle.it_answer.proofs.FormLemmas.{generators_speak, by_rows}
@@ -124,11 +126,11 @@ module _ (q : BodyView) (posed : IsProblemOf q (problem_of q)) (effort : Effort)
 
   fits_of_yes : (t : Terms) (w : CertificateView) → EndsWith (problem_of q) t effort (proof_views.Yes w) → CertificateFits (problem_of q) t w
   fits_of_yes t w (inl e) = certificate_fits (problem_of q) t w e.end e.follows
-  fits_of_yes t w (inr (quick, settled)) = settled.0.1
+  fits_of_yes t w (inr e) = (quick_yes effort.runs (problem_of q) t w e).0.1
 
   fits_of_no : (t : Terms) (values : List ℤ) → EndsWith (problem_of q) t effort (proof_views.No values) → PointFits (problem_of q) t values
   fits_of_no t values (inl e) = point_fits (problem_of q) t values e.end e.follows
-  fits_of_no t values (inr (quick, settled)) = settled.0.1
+  fits_of_no t values (inr e) = (quick_no effort.runs (problem_of q) t values e).0.1
 
   proof_valid : (f : Form) (t : Terms) (w : CertificateView) → IsRowOf (problem_of q).space f t → CertifiesForm q f w
       → EndsWith (problem_of q) t effort (proof_views.Yes w) → proof_verdict (problem_of q) t w ≡ Valid
@@ -369,5 +371,6 @@ module _ (back : ReadsBack) (q : QuestionView) (short : length q.text ≤ 104857
 pub right_accepted : ReadsBack → (budgets : Budgets) (plans : List Plan) (q : QuestionView) (reply : Reply)
     → IfSome budgets.effort.pivots (λ n. n < 2 ^ 32) → budgets.tries < 2 ^ 32 → length q.text ≤ 1048577 → IsFile q.text (q ∷ [])
     → IsRightAnswer budgets plans q.body reply → IsAccepted (answer_text q.text q.body.names reply.answer)
-right_accepted back budgets plans q reply few tries short file right = verb_accepted back q short file budgets few plans q.body.verb reply
+right_accepted back budgets plans q reply few tries short file right = verb_accepted back q short file (budgets_under (problem_of q.body) budgets)
+    (subst (λ (pivots : Option ℕ). IfSome pivots (λ n. n < 2 ^ 32)) (sym (same_pivots (problem_of q.body) budgets.effort)) few) plans q.body.verb reply
     refl tries (a_yes_ascends budgets plans q.body reply right) right.shows right.due

@@ -19,7 +19,7 @@ use Rattle.it_contain.specs.Proposals.{Plan}
 use Rattle.it_origins.specs.Origins.{IsOfConstraint}
 use Rattle.it_rates.specs.Asked.{under_all_lines}
 use Rattle.it_answer.specs.declared.types.Budgets.{Budgets}
-use Rattle.it_answer.specs.RightAnswers.{IsDueBy, IsRightAnswer}
+use Rattle.it_answer.specs.RightAnswers.{IsDueBy, IsRightAnswer, budgets_under}
 use Rattle.it_answer.specs.Shows.{ShowsBy}
 use Rattle.it_answer.specs.Truth.{region_rows}
 use Rattle.it_certificate.specs.AnswerShapes.{HasQuestionShape, IsNumbered, IsNumberedAmount}
@@ -125,7 +125,8 @@ module _ (back : ReadsBack) (origins_back : OriginsReadBack) (q : QuestionView) 
     by_origins Derived (Yes proofs) found (Some ws) right told = absurd (cc)
     by_origins Derived (No is_back values) found (Some ws) right told = absurd (cc)
     by_origins Derived (Undecided cause) found (Some ws) right told = absurd (cc)
-    by_origins Derived (Region rows) found (Some ws) right told = by_verb budgets plans q.body.verb rows found ws refl right.shows right.due told
+    by_origins Derived (Region rows) found (Some ws) right told =
+        by_verb (budgets_under (problem_of q.body) budgets) plans q.body.verb rows found ws refl right.shows right.due told
     by_origins Derived (Contained parts proofs) found (Some ws) right told = absurd (cc)
     by_origins Derived (Open tried) found (Some ws) right told = absurd (cc)
 

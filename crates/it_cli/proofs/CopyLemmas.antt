@@ -2,6 +2,7 @@
 use Rattle.std.proofs.Common.{◌≡◌, ℕ, ◌<◌, List, [], ◌++◌, length, map, get_or, Result, Ok, Err, IfOk, codes, true, refl, sym, ap, ap₂, ◌∙◌, arith}
 use Rattle.std.specs.Global.{Vec}
 use Rattle.std.proofs.lemmas.List.{length-map, get_or-map}
+use Rattle.it_canon.specs.QuestionDemands.{problem_of}
 use Rattle.it_prove.specs.declared.types.Effort.{Effort}
 use Rattle.it_space.specs.Answers.{AnswerView}
 use Rattle.it_question.specs.Questions.{BodyView, QuestionView, VerbView, Prove, Eliminate, Contain}
@@ -14,7 +15,7 @@ use Rattle.it_certificate.specs.Values.{IsWritable, OfCopies, SourceTexts, answe
 use Rattle.it_region.specs.declared.types.Candidate.{Candidate}
 use Rattle.it_contain.specs.Proposals.{Plan}
 use Rattle.it_answer.specs.declared.types.Budgets.{Budgets}
-use Rattle.it_answer.specs.RightAnswers.{IsDueBy, IsRightAnswer}
+use Rattle.it_answer.specs.RightAnswers.{IsDueBy, IsRightAnswer, budgets_under}
 use Rattle.it_cli.specs.Copies.{CopyQuestion, Extended, IsRightProof, copy_texts, head_text, with_copies}
 use Rattle.it_cli.specs.InnerEnds.{IsReportOf, IsTextOf}
 use Rattle.it_cli.specs.Misfits.{misfit_words}
@@ -35,7 +36,10 @@ due_alone b plans q (Contain first second tries) a found proof h = absurd proof
 -- a right answer to a question about a relation finds no candidate, and rests on its steps alone
 pub right_alone : (b : Budgets) (plans : List Plan) (q : BodyView) (a : AnswerView) (found : List Candidate) → IsProof q.verb
     → IsRightAnswer b plans q (record { answer = a; found = found }) → IsRightProof b.effort q a
-right_alone b plans q a found proof right = record { shows = right.shows; due = due_alone b plans q q.verb a found proof right.due }
+right_alone b plans q a found proof right = record {
+  shows = right.shows;
+  due = due_alone (budgets_under (problem_of q) b) plans q q.verb a found proof right.due;
+}
 
 -- a right answer to a question about a relation can be written with any names
 writable_by : (b : Budgets) (plans : List Plan) (q : BodyView) (verb : VerbView) (v : NamesView) (a : AnswerView) (found : List Candidate)
@@ -46,7 +50,7 @@ writable_by b plans q (Contain first second tries) v a found proof h = absurd pr
 
 pub right_is_writable : (b : Budgets) (plans : List Plan) (q : BodyView) (v : NamesView) (a : AnswerView) (found : List Candidate)
     → IsProof q.verb → IsRightAnswer b plans q (record { answer = a; found = found }) → IsWritable v a
-right_is_writable b plans q v a found proof right = writable_by b plans q q.verb v a found proof right.due
+right_is_writable b plans q v a found proof right = writable_by (budgets_under (problem_of q) b) plans q q.verb v a found proof right.due
 
 -- in any mode, where what tells a misfit is a right reply, the line that says why there is no such question is that of the reply
 module _ (m : Mode) (x : m.Item) (k : ℕ) (fault : CopyFault) (reply : m.Reply) (right : (fault ≡ Memory → ⊥) → m.IsRight [] x reply) where

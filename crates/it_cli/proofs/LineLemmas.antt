@@ -45,6 +45,7 @@ use Rattle.it_run.specs.Runs.{RunEndView}
 use Rattle.it_rational.specs.Rational.{Rational}
 use Rattle.it_prove.specs.ProofViews.{Yes, No, Undecided, Follows, EndsWith}
 use Rattle.it_prove.specs.declared.types.Effort.{Effort}
+use Rattle.it_prove.proofs.ProofLemmas.{quick_cause}
 use Rattle.it_eliminate.proofs.MemberLemmas.{every_member}
 use Rattle.it_redundant.specs.ReducedElimination.{ProjectedView}
 use Rattle.it_redundant.specs.ReducedElimination as projections
@@ -55,7 +56,7 @@ use Rattle.it_answer.specs.DueEliminations.{IsDueElimination, answer_of_end}
 use Rattle.it_answer.specs.DueRelations.{CauseIsDue, IsDueRelation}
 use Rattle.it_answer.specs.Forms.{CertifyAll, IsAllowedWeight, all_demands}
 use Rattle.it_demand.specs.Targets.{targets}
-use Rattle.it_answer.specs.RightAnswers.{IsDueBy, IsRightAnswer}
+use Rattle.it_answer.specs.RightAnswers.{IsDueBy, IsRightAnswer, budgets_under}
 use Rattle.it_print.specs.Lines.{IsCauseOf, IsPrintable, IsRowOver, answer_line, auxiliary_names, origins_of}
 use Rattle.it_print.specs.ProofLines.{generator_rows, proof_text}
 use Rattle.it_region.specs.AnswerForms.{answer_forms}
@@ -115,7 +116,7 @@ cause_of_run_end p t m cause (Width k) a = subst (IsCauseOf m) (sym (undecided_s
 
 cause_of_target : (p : ProblemView) (effort : Effort) (m : ℕ) (t : Terms) (cause : Cause) → EndsWith p t effort (Undecided cause) → IsCauseOf m cause
 cause_of_target p effort m t cause (inl e) = cause_of_run_end p t m cause e.end e.follows
-cause_of_target p effort m t cause (inr (quick, settled)) = absurd settled
+cause_of_target p effort m t cause (inr e) = subst (IsCauseOf m) (sym (quick_cause effort.runs p t cause e)) tt
 
 cause_of_due : (p : ProblemView) (effort : Effort) (m : ℕ) (ts : List Terms) (cause : Cause) → CauseIsDue p effort ts cause → IsCauseOf m cause
 cause_of_due p effort m [] cause c = absurd c
@@ -210,10 +211,13 @@ pub right_is_printable : (budgets : Budgets) (plans : List Plan) (q : BodyView) 
     → IsRightAnswer budgets plans q (record { answer = answer_view answer; found = found }) → IsPrintable q m answer
 right_is_printable budgets plans q m answer found k few right = by_verb q.verb refl right.shows right.due
   where
+    own : Budgets
+    own = budgets_under (problem_of q) budgets
+
     by_verb : (verb : VerbView) → q.verb ≡ verb → ShowsBy q verb (answer_view answer)
-        → IsDueBy budgets plans q verb (record { answer = answer_view answer; found = found }) → IsPrintable q m answer
-    by_verb (Prove r) is shown due = printable_proof budgets.effort q r m answer k few shown due.0
-    by_verb (Eliminate rates) is shown due = printable_region budgets q rates m answer (ap (names_under q.names) is)
+        → IsDueBy own plans q verb (record { answer = answer_view answer; found = found }) → IsPrintable q m answer
+    by_verb (Prove r) is shown due = printable_proof own.effort q r m answer k few shown due.0
+    by_verb (Eliminate rates) is shown due = printable_region own q rates m answer (ap (names_under q.names) is)
         (subst (IsVerbOver q.names) is k.verb).within shown due.0
     by_verb (Contain a b tries) is shown due = printable_containment q a b tries m answer is k few shown
 

@@ -1,23 +1,31 @@
 -- Each mode is determined, and so an input has one output.
-use Rattle.std.proofs.Common.{Bool, ◌≡◌, ◌≢◌, ℕ, ◌+◌, List, [], ◌∷◌, ◌++◌, map, flat_map, Option, None, false, refl, sym, ap, ap₂, subst, ◌∙◌, arith}
+use Rattle.std.proofs.Common.{Bool, ◌≡◌, ◌≢◌, ℕ, ◌+◌, ◌≤◌, List, [], ◌∷◌, ◌++◌, get_or, map, flat_map, Option, None, true, All, refl, sym, ap, ap₂, subst, ◌∙◌, arith}
+use Rattle.std.proofs.lemmas.List.Elements.{All-head, All-nil, All-cons, All-tail, All-weaker}
 use Rattle.std.proofs.lemmas.Bool.{false≢true}
 use Rattle.it_space.specs.Answers.{AnswerView, CertificateView}
 use Rattle.it_question.specs.Questions.{BodyView, QuestionView}
-use Rattle.it_question.specs.Files.{FileFaultIsOne, FileIsOne, FileOrFault}
+use Rattle.it_question.specs.Files.{FileFaultIsOne, FileIsOne, FileOrFault, IsFile}
+use Rattle.it_question.specs.Limits.{IsQuestion}
+use Rattle.it_question.specs.QuestionLimits.{most_lines}
+use Rattle.it_question.proofs.FileReadings.{file_limits}
+use Rattle.it_canon.specs.QuestionDemands.{problem_of}
+use Rattle.it_space.proofs.EveryLemmas.{all_of, every-map, every_of}
 use Rattle.it_copy.specs.declared.types.CopyFault.{CopyFault}
 use Rattle.it_copy.specs.CopyLines.{CopyView}
-use Rattle.it_copy.specs.Extensions.{IsMisfit}
+use Rattle.it_copy.specs.Extensions.{IsExtension, IsMisfit}
 use Rattle.it_copy.specs.Files.{CopyFaultIsOne, CopyFileIsOne, CopyFileOrFault}
 use Rattle.it_copy.specs.Points.{ExtensionOrMisfit, OneExtension, OneMisfit}
+use Rattle.it_prove.specs.Reach.{is_in_reach}
 use Rattle.it_prove.specs.declared.types.Effort.{Effort}
+use Rattle.it_prove.specs.declared.types.Runs.TheVariants.{Defined}
 use Rattle.it_contain.specs.Proposals.{Plan, plan_after_all}
 use Rattle.it_answer.specs.Replies.{Reply}
-use Rattle.it_answer.specs.RightAnswers.{OneRightAnswer}
+use Rattle.it_answer.specs.RightAnswers.{FileIsInReach, OneRightAnswer}
 use Rattle.it_bounds.specs.Reports.{OneRightTold}
 use Rattle.it_factor.specs.RightReplies.{IsRightReply, OneRightReply}
 use Rattle.it_outer.specs.declared.types.Limits.{Limits}
 use Rattle.it_sharing.specs.SharingFiles.{SharingFaultIsOne, SharingIsOne, SharingOrFault}
-use Rattle.it_sharing.specs.Sharings.{SharingView, made_question}
+use Rattle.it_sharing.specs.Sharings.{SharingView, made_question, maximal_count, minimal_count}
 use Rattle.it_report.specs.Meaning as reports
 use Rattle.it_settings.specs.declared.types.Format.{Format}
 use Rattle.it_settings.specs.declared.types.Format.TheVariants.{Text, Json, Proof, Derived}
@@ -27,14 +35,14 @@ use Rattle.it_settings.specs.declared.types.Settings.TheVariants.{Answer, Check,
 use Rattle.it_answer.specs.declared.types.Budgets.{Budgets}
 use Rattle.it_gen.specs.GeneratedFiles.{generated_file}
 use Rattle.it_cli.specs.BestReplies.{BestReply, IsAskedWith, IsRightBestReply, IsToldMisfit}
-use Rattle.it_cli.specs.Copies.{CopyQuestion, CopyReply, Extended, IsRightCopy, IsRightProof, Misfit, with_copies}
+use Rattle.it_cli.specs.Copies.{AsksWithCopies, CopyQuestion, CopyReply, Extended, IsRightCopy, IsRightProof, Misfit, with_copies}
 use Rattle.it_cli.specs.Counts.{AreCounted, IsBenchLine, bench_line, no_counts}
-use Rattle.it_cli.specs.Laws.{ModesAreDetermined, ModesHaveOneReading, OneOutput}
-use Rattle.it_cli.specs.Modes.{HasOneReading, IsDetermined, Mode, Replies, WholeOutput}
+use Rattle.it_cli.specs.Laws.{CopiesAreInReach, ModesAreDetermined, ModesHaveOneReading, OneOutput, SharingIsInReach}
+use Rattle.it_cli.specs.Modes.{HasOneReading, HasOneReply, IsDetermined, Mode, Replies, WholeOutput}
 use Rattle.it_cli.specs.Outputs.{answer_mode, bench_mode, best_mode, check_mode, copy_mode, mode_of, outer_mode, sharing_mode}
 use Rattle.it_cli.specs.Right.{budgets_of, effort_of, limits_of}
 use Rattle.it_cli.specs.ToldOrigins.{AreToldOrigins, IsRightTold, ToldReply}
-use Rattle.it_cli.specs.SharingReplies.{Answered, Factored, IsRightSharing, Many, SharingReply, said_by}
+use Rattle.it_cli.specs.SharingReplies.{AsksOfSharing, SharingFile, Answered, Factored, IsRightSharing, Many, SharingReply, said_by}
 use Rattle.it_cli.specs.declared.status.Status.{Status}
 use Rattle.it_cli.proofs.CountLemmas.{one_count}
 use Rattle.it_cli.proofs.ReplyLemmas.{RepliesFrom}
@@ -42,19 +50,20 @@ use Rattle.it_cli.proofs.ReplyLemmas.{RepliesFrom}
 -- ---- a mode that is determined has one output
 
 module _ (m : Mode) (d : IsDetermined m) where
-  one_text : (k : ℕ) (xs : List m.Item) (s t u : List m.Reply) (out other : List ℕ) → RepliesFrom m k s xs t out
+  one_text : (k : ℕ) (xs : List m.Item) (s t u : List m.Reply) (out other : List ℕ) → All (HasOneReply m) xs → RepliesFrom m k s xs t out
       → RepliesFrom m k s xs u other → (out ≡ other) × (t ≡ u)
-  one_text k [] s t u out other a b = (a.1 ∙ sym b.1, a.0 ∙ sym b.0)
-  one_text k (x ∷ xs) s t u out other (reply, rest, right, groups, is) (another, others, is_right, more, so) =
-      let same : another ≡ reply = d.one_reply s x another reply is_right right in
+  one_text k [] s t u out other each a b = (a.1 ∙ sym b.1, a.0 ∙ sym b.0)
+  one_text k (x ∷ xs) s t u out other each (reply, rest, right, groups, is) (another, others, is_right, more, so) =
+      let same : another ≡ reply = All-head (HasOneReply m) x xs each s another reply is_right right in
       let moved = subst (λ (y : m.Reply). RepliesFrom m (k + 1) (s ++ y ∷ []) xs u others) same more in
-      let later = one_text (k + 1) xs (s ++ reply ∷ []) t u rest others groups moved in
+      let later = one_text (k + 1) xs (s ++ reply ∷ []) t u rest others (All-tail (HasOneReply m) x xs each) groups moved in
       (is ∙ ap₂ (λ y ys. m.text k x y ++ ys) (sym same) later.0 ∙ sym so, later.1)
 
   one_whole : (bytes out other : List ℕ) (s t : Status) → WholeOutput m bytes out s → WholeOutput m bytes other t → (out ≡ other) × (s ≡ t)
   one_whole bytes out other s t a b =
       let same = d.reading.one_reading bytes b.items a.items b.asked a.asked in
-      let both = one_text 1 a.items [] a.replies b.replies out other a.written (subst (λ (xs : List m.Item). Replies m xs b.replies other) same b.written) in
+      let both = one_text 1 a.items [] a.replies b.replies out other (d.one_reply bytes a.items a.asked) a.written
+      (subst (λ (xs : List m.Item). Replies m xs b.replies other) same b.written) in
       (both.0, a.is ∙ ap m.status both.1 ∙ sym b.is)
 
 -- ---- each mode has one reading of bytes
@@ -124,12 +133,12 @@ module _ (one_file : FileIsOne) (one_fault : FileFaultIsOne) (apart : FileOrFaul
   modes_have_one_reading plans (Outer report run pivots rows tries) = bounded_are_one one_file one_fault apart report (limits_of run pivots rows tries)
   modes_have_one_reading plans (Sharing report run pivots) = sharing_files_are_one sharings report (effort_of run pivots)
 
--- ---- and one reply to an item, where no quick run comes first
+-- ---- and one reply to an item, where the defined run alone is made
 
--- Bland's run is no quick one
-not_quick : (run : Run) (pivots : Option ℕ) → run ≡ Bland → (effort_of run pivots).quick ≡ false
-not_quick Bland pivots e = refl
-not_quick Quick pivots e = absurd (cc)
+-- Bland's run is the defined one
+is_defined : (run : Run) (pivots : Option ℕ) → run ≡ Bland → (effort_of run pivots).runs ≡ Defined
+is_defined Bland pivots e = refl
+is_defined Quick pivots e = absurd (cc)
 
 -- no certificates are told in another format
 none_told : (format : Format) → format ≢ Derived → (q : BodyView) (answer : AnswerView) (origins : Option (List CertificateView))
@@ -142,20 +151,21 @@ none_told Derived other q answer origins told = absurd (other refl)
 abbrev told_of : Reply → Option (List CertificateView) → ToldReply
 told_of reply origins = record { reply = reply; origins = origins }
 
-one_told : (format : Format) → format ≢ Derived → OneRightAnswer → (budgets : Budgets) → budgets.effort.quick ≡ false
-    → (plans : List Plan) (q : BodyView) (a b : ToldReply) → IsRightTold format budgets plans q a → IsRightTold format budgets plans q b
-    → a ≡ b
-one_told format other one_answer budgets defined plans q a b f g =
-    ap₂ told_of (one_answer budgets plans q a.reply b.reply defined f.reply g.reply)
+one_told : (format : Format) → format ≢ Derived → OneRightAnswer → (budgets : Budgets) → budgets.effort.runs ≡ Defined
+    → (plans : List Plan) (q : BodyView) (a b : ToldReply) → is_in_reach (problem_of q) ≡ true
+    → IsRightTold format budgets plans q a → IsRightTold format budgets plans q b → a ≡ b
+one_told format other one_answer budgets defined plans q a b reach f g =
+    ap₂ told_of (one_answer budgets plans q a.reply b.reply defined reach f.reply g.reply)
     (none_told format other q a.reply.answer a.origins f.origins ∙ sym (none_told format other q b.reply.answer b.origins g.origins))
 
-one_line : OneRightAnswer → FileIsOne → (budgets : Budgets) → budgets.effort.quick ≡ false → (plans : List Plan) (seed count : ℕ) (line other : List ℕ)
-    → IsBenchLine budgets plans seed count line → IsBenchLine budgets plans seed count other → line ≡ other
-one_line one_answer one_file budgets defined plans seed count line other a b =
+one_line : OneRightAnswer → FileIsOne → FileIsInReach → (budgets : Budgets) → budgets.effort.runs ≡ Defined
+    → (plans : List Plan) (seed count : ℕ) (line other : List ℕ) → IsBenchLine budgets plans seed count line → IsBenchLine budgets plans seed count other → line ≡ other
+one_line one_answer one_file reach budgets defined plans seed count line other a b =
     let same = one_file (generated_file seed count) a.questions b.questions a.asked b.asked in
     let moved : AreCounted budgets plans [] no_counts b.questions a.counts = subst
     (λ (qs : List QuestionView). AreCounted budgets plans [] no_counts qs a.counts) same a.counted in
-    a.is ∙ ap (bench_line seed count) (one_count one_answer budgets defined plans [] no_counts b.questions a.counts b.counts moved b.counted) ∙ sym b.is
+    a.is ∙ ap (bench_line seed count) (one_count one_answer budgets defined plans [] no_counts b.questions a.counts b.counts
+    (reach (generated_file seed count) b.questions b.asked) moved b.counted) ∙ sym b.is
 
 -- what is asked of a question with some copies is one question, or there is one reason against it
 module _ (one : CopiesAreOne) where
@@ -169,71 +179,114 @@ module _ (one : CopiesAreOne) where
   asked_or_misfit x e (c ∷ cs) f is a (some, told, misfit) = one.either x.question.body e (c ∷ cs) f told a
       (subst (λ (ds : List CopyView). IsMisfit x.question.body ds f) is misfit)
 
-module _ (one_factor : OneRightReply) (effort : Effort) (defined : effort.quick ≡ false) where
-  one_best : CopiesAreOne → (x : CopyQuestion) (a b : BestReply) → IsRightBestReply effort x a → IsRightBestReply effort x b → a ≡ b
-  one_best one x (Misfit f) (Misfit g) (some, told, is) (some', other, so) = ap Misfit (one.misfit x.question.body x.copies f g told other is so)
-  one_best one x (Misfit f) (Extended e a) misfit (asked, right) = absurd (asked_or_misfit one x e x.copies f refl asked misfit)
-  one_best one x (Extended e a) (Misfit f) (asked, right) misfit = absurd (asked_or_misfit one x e x.copies f refl asked misfit)
-  one_best one x (Extended d a) (Extended e b) (asked, right) (other, is_right) =
+-- the defined run about a question, and about the question with copies, is in reach
+abbrev IsReached : CopyQuestion → Type 0
+IsReached x = (is_in_reach (problem_of x.question.body) ≡ true) × ((e : BodyView) → IsExtension x.question.body x.copies e → is_in_reach (problem_of e) ≡ true)
+
+asked_in_reach : (q e : BodyView) (cs : List CopyView) → is_in_reach (problem_of q) ≡ true
+    → ((d : BodyView) → IsExtension q cs d → is_in_reach (problem_of d) ≡ true) → IsAskedWith q cs e → is_in_reach (problem_of e) ≡ true
+asked_in_reach q e [] own extended is = subst (λ (d : BodyView). is_in_reach (problem_of d) ≡ true) (sym is) own
+asked_in_reach q e (c ∷ cs) own extended is = extended e is
+
+module _ (one_factor : OneRightReply) (effort : Effort) (defined : effort.runs ≡ Defined) where
+  one_best : CopiesAreOne → (x : CopyQuestion) (a b : BestReply) → IsReached x → IsRightBestReply effort x a → IsRightBestReply effort x b → a ≡ b
+  one_best one x (Misfit f) (Misfit g) reach (some, told, is) (some', other, so) = ap Misfit (one.misfit x.question.body x.copies f g told other is so)
+  one_best one x (Misfit f) (Extended e a) reach misfit (asked, right) = absurd (asked_or_misfit one x e x.copies f refl asked misfit)
+  one_best one x (Extended e a) (Misfit f) reach (asked, right) misfit = absurd (asked_or_misfit one x e x.copies f refl asked misfit)
+  one_best one x (Extended d a) (Extended e b) reach (asked, right) (other, is_right) =
       let same : e ≡ d = asked_is_one one x.question.body e d x.copies other asked in
-      ap₂ Extended (sym same) (one_factor effort d a b defined right (subst (λ (q : BodyView). IsRightReply effort q b) same is_right))
+      ap₂ Extended (sym same) (one_factor effort d a b defined (asked_in_reach x.question.body d x.copies reach.0 reach.1 asked) right
+      (subst (λ (q : BodyView). IsRightReply effort q b) same is_right))
 
-module _ (one_answer : OneRightAnswer) (effort : Effort) (defined : effort.quick ≡ false) where
+module _ (one_answer : OneRightAnswer) (effort : Effort) (defined : effort.runs ≡ Defined) where
   -- a question about a relation has one right answer
-  same_proof : (e : BodyView) (a b : AnswerView) → IsRightProof effort e a → IsRightProof effort e b → a ≡ b
-  same_proof e a b f g = ap (λ (r : Reply). r.answer) (one_answer (record { effort = effort; rows = 1; tries = 1 }) [] e
-      (record { answer = a; found = [] }) (record { answer = b; found = [] }) defined f g)
+  same_proof : (e : BodyView) (a b : AnswerView) → is_in_reach (problem_of e) ≡ true → IsRightProof effort e a → IsRightProof effort e b → a ≡ b
+  same_proof e a b reach f g = ap (λ (r : Reply). r.answer) (one_answer (record { effort = effort; rows = 1; tries = 1 }) [] e
+      (record { answer = a; found = [] }) (record { answer = b; found = [] }) defined reach f g)
 
-  one_copy : CopiesAreOne → (x : CopyQuestion) (a b : CopyReply) → IsRightCopy effort x a → IsRightCopy effort x b → a ≡ b
-  one_copy one x (Misfit f) (Misfit g) (told, is) (other, so) = ap Misfit (one.misfit x.question.body x.copies f g told other is so)
-  one_copy one x (Misfit f) (Extended e a) (told, is) (extension, right) = absurd (one.either x.question.body e x.copies f told extension is)
-  one_copy one x (Extended e a) (Misfit f) (extension, right) (told, is) = absurd (one.either x.question.body e x.copies f told extension is)
-  one_copy one x (Extended d a) (Extended e b) (extension, right) (other, is_right) =
+  one_copy : CopiesAreOne → (x : CopyQuestion) (a b : CopyReply) → IsReached x → IsRightCopy effort x a → IsRightCopy effort x b → a ≡ b
+  one_copy one x (Misfit f) (Misfit g) reach (told, is) (other, so) = ap Misfit (one.misfit x.question.body x.copies f g told other is so)
+  one_copy one x (Misfit f) (Extended e a) reach (told, is) (extension, right) = absurd (one.either x.question.body e x.copies f told extension is)
+  one_copy one x (Extended e a) (Misfit f) reach (extension, right) (told, is) = absurd (one.either x.question.body e x.copies f told extension is)
+  one_copy one x (Extended d a) (Extended e b) reach (extension, right) (other, is_right) =
       let same : e ≡ d = one.extension x.question.body e d x.copies other extension in
-      ap₂ Extended (sym same) (same_proof d a b right (subst (λ (q : BodyView). IsRightProof effort q b) same is_right))
+      ap₂ Extended (sym same) (same_proof d a b (reach.1 d extension) right (subst (λ (q : BodyView). IsRightProof effort q b) same is_right))
 
-  one_sharing : OneRightReply → (x : SharingView) (a b : SharingReply) → IsRightSharing effort x a → IsRightSharing effort x b → a ≡ b
-  one_sharing one_factor x Many Many f g = refl
-  one_sharing one_factor x Many (Answered b) f (few, asked, right) = absurd (omega (arith, f, few))
-  one_sharing one_factor x Many (Factored b) f (few, asked, right) = absurd (omega (arith, f, few))
-  one_sharing one_factor x (Answered a) Many (few, asked, right) g = absurd (omega (arith, g, few))
-  one_sharing one_factor x (Answered a) (Answered b) (few, asked, right) (few', asked', right') = ap Answered
-      (same_proof (made_question x).body a b right right')
-  one_sharing one_factor x (Answered a) (Factored b) (few, asked, right) (few', asked', right') = absurd (false≢true (sym asked ∙ asked'))
-  one_sharing one_factor x (Factored a) Many (few, asked, right) g = absurd (omega (arith, g, few))
-  one_sharing one_factor x (Factored a) (Answered b) (few, asked, right) (few', asked', right') = absurd (false≢true (sym asked' ∙ asked))
-  one_sharing one_factor x (Factored a) (Factored b) (few, asked, right) (few', asked', right') = ap Factored
-      (one_factor effort (made_question x).body a b defined right right')
+  one_sharing : OneRightReply → (x : SharingView) (a b : SharingReply)
+      → (minimal_count x + maximal_count x ≤ most_lines → is_in_reach (problem_of (made_question x).body) ≡ true)
+      → IsRightSharing effort x a → IsRightSharing effort x b → a ≡ b
+  one_sharing one_factor x Many Many reach f g = refl
+  one_sharing one_factor x Many (Answered b) reach f (few, asked, right) = absurd (omega (arith, f, few))
+  one_sharing one_factor x Many (Factored b) reach f (few, asked, right) = absurd (omega (arith, f, few))
+  one_sharing one_factor x (Answered a) Many reach (few, asked, right) g = absurd (omega (arith, g, few))
+  one_sharing one_factor x (Answered a) (Answered b) reach (few, asked, right) (few', asked', right') = ap Answered
+      (same_proof (made_question x).body a b (reach few) right right')
+  one_sharing one_factor x (Answered a) (Factored b) reach (few, asked, right) (few', asked', right') = absurd (false≢true (sym asked ∙ asked'))
+  one_sharing one_factor x (Factored a) Many reach (few, asked, right) g = absurd (omega (arith, g, few))
+  one_sharing one_factor x (Factored a) (Answered b) reach (few, asked, right) (few', asked', right') = absurd (false≢true (sym asked' ∙ asked))
+  one_sharing one_factor x (Factored a) (Factored b) reach (few, asked, right) (few', asked', right') = ap Factored
+      (one_factor effort (made_question x).body a b defined (reach few) right right')
+
+-- the items of a file with a head are in reach, and so is what a sharing file asks
+copies_reached : CopiesAreInReach → (bytes : List ℕ) (xs : List CopyQuestion) → AsksWithCopies bytes xs → All IsReached xs
+copies_reached reach bytes xs asked = subst (All IsReached) (sym asked.are) (all_of IsReached (map (with_copies asked.copies) asked.questions)
+    (every-map IsReached (with_copies asked.copies) asked.questions
+    (every_of (λ (q : QuestionView). IsReached (with_copies asked.copies q)) asked.questions (reach bytes asked.copies asked.questions asked.read))))
+
+-- what holds of a file's own questions holds of its items
+module _ (reach : FileIsInReach) (one_answer : OneRightAnswer) (budgets : Budgets) (defined : budgets.effort.runs ≡ Defined) (plans : List Plan)
+    (format : Format) (other : format ≢ Derived) where
+  answers_are_one : (bytes : List ℕ) (xs : List QuestionView) → IsFile bytes xs → All (HasOneReply (answer_mode budgets plans format)) xs
+  answers_are_one bytes xs asked = All-weaker (λ (q : QuestionView). is_in_reach (problem_of q.body) ≡ true) (HasOneReply (answer_mode budgets plans format))
+      (λ x near s a b f g. one_told format other one_answer budgets defined
+      (map (plan_after_all (flat_map (λ (t : ToldReply). t.reply.found) s)) plans) x.body a b near f g) xs (reach bytes xs asked)
+
+module _ (sharing_reach : SharingIsInReach) (one_answer : OneRightAnswer) (one_factor : OneRightReply) (effort : Effort) (defined : effort.runs ≡ Defined)
+    (report : Bool) where
+  sharings_are_one : (bytes : List ℕ) (xs : List SharingFile) → AsksOfSharing bytes xs → All (HasOneReply (sharing_mode report effort)) xs
+  sharings_are_one bytes xs asked = subst (All (HasOneReply (sharing_mode report effort))) (sym asked.is)
+      (All-cons (HasOneReply (sharing_mode report effort)) (said_by bytes asked.file) []
+      (λ s a b f g. one_sharing one_answer effort defined one_factor asked.file a b (sharing_reach bytes asked.file asked.read) f g)
+      (All-nil (HasOneReply (sharing_mode report effort))))
 
 module _ (reading : ModesHaveOneReading) (one_answer : OneRightAnswer) (one_file : FileIsOne) (one_verdict : reports.OneVerdict)
-    (copies : CopiesAreOne) (one_factor : OneRightReply) (one_bound : OneRightTold) where
+    (copies : CopiesAreOne) (one_factor : OneRightReply) (one_bound : OneRightTold)
+    (reach : FileIsInReach) (copies_reach : CopiesAreInReach) (sharing_reach : SharingIsInReach) where
   pub modes_are_determined : ModesAreDetermined
   modes_are_determined plans (Answer format run pivots rows tries) bland = record {
     reading = reading plans (Answer format run pivots rows tries);
-    one_reply = λ s x a b f g.
-        one_told format bland.1 one_answer (budgets_of run pivots rows tries) (not_quick run pivots bland.0)
-        (map (plan_after_all (flat_map (λ (t : ToldReply). t.reply.found) s)) plans) x.body a b f g;
+    one_reply = answers_are_one reach one_answer (budgets_of run pivots rows tries) (is_defined run pivots bland.0) plans format bland.1;
   }
-  modes_are_determined plans Check bland = record { reading = reading plans Check; one_reply = λ s x a b f g. one_verdict x a b f g }
+  modes_are_determined plans Check bland = record {
+    reading = reading plans Check;
+    one_reply = λ bytes xs asked i d l s a b f g. one_verdict (get_or xs i d) a b f g;
+  }
   modes_are_determined plans (Bench seed count run pivots rows tries) bland = record {
     reading = reading plans (Bench seed count run pivots rows tries);
-    one_reply = λ s x a b f g. one_line one_answer one_file (budgets_of run pivots rows tries) (not_quick run pivots bland) plans seed count a b f g;
+    one_reply = λ bytes xs asked i d l s a b f g.
+        one_line one_answer one_file reach (budgets_of run pivots rows tries) (is_defined run pivots bland) plans seed count a b f g;
   }
   modes_are_determined plans (Copy report run pivots) bland = record {
     reading = reading plans (Copy report run pivots);
-    one_reply = λ s x a b f g. one_copy one_answer (effort_of run pivots) (not_quick run pivots bland) copies x a b f g;
+    one_reply = λ bytes xs asked. All-weaker IsReached (HasOneReply (copy_mode report (effort_of run pivots)))
+        (λ x near s a b f g. one_copy one_answer (effort_of run pivots) (is_defined run pivots bland) copies x a b near f g)
+        xs (copies_reached copies_reach bytes xs asked);
   }
   modes_are_determined plans (Best report run pivots) bland = record {
     reading = reading plans (Best report run pivots);
-    one_reply = λ s x a b f g. one_best one_factor (effort_of run pivots) (not_quick run pivots bland) copies x a b f g;
+    one_reply = λ bytes xs asked. All-weaker IsReached (HasOneReply (best_mode report (effort_of run pivots)))
+        (λ x near s a b f g. one_best one_factor (effort_of run pivots) (is_defined run pivots bland) copies x a b near f g)
+        xs (copies_reached copies_reach bytes xs asked);
   }
   modes_are_determined plans (Outer report run pivots rows tries) bland = record {
     reading = reading plans (Outer report run pivots rows tries);
-    one_reply = λ s x a b f g. one_bound report (limits_of run pivots rows tries) x.body a b (not_quick run pivots bland) f g;
+    one_reply = λ bytes xs asked. All-weaker (λ (q : QuestionView). IsQuestion q.body) (HasOneReply (outer_mode report (limits_of run pivots rows tries)))
+        (λ x k s a b f g. one_bound report (limits_of run pivots rows tries) x.body a b (is_defined run pivots bland) k.few f g)
+        xs (file_limits bytes xs asked);
   }
   modes_are_determined plans (Sharing report run pivots) bland = record {
     reading = reading plans (Sharing report run pivots);
-    one_reply = λ s x a b f g. one_sharing one_answer (effort_of run pivots) (not_quick run pivots bland) one_factor x.says a b f g;
+    one_reply = sharings_are_one sharing_reach one_answer one_factor (effort_of run pivots) (is_defined run pivots bland) report;
   }
 
 pub one_output : ModesAreDetermined → OneOutput

@@ -1,5 +1,5 @@
 -- What follows from how a call ends and from what a right answer is.
-use Rattle.std.specs.Prelude.{◌≡◌, ◌≢◌, ℕ, ◌+◌, ◌≤◌, ◌<◌, List, [], ◌++◌, length, ◌⊎◌, Option, Some, None}
+use Rattle.std.specs.Prelude.{◌≡◌, ◌≢◌, ℕ, ◌+◌, ◌≤◌, ◌<◌, List, [], ◌++◌, length, All, ◌⊎◌, Option, Some, None, true}
 use Rattle.std.specs.List.{list_any}
 use Rattle.it_outside.specs.Causes.{next_count}
 use Rattle.it_settings.specs.declared.types.Format.TheVariants.{Derived}
@@ -13,6 +13,15 @@ use Rattle.it_space.specs.declared.answers.Cause.TheVariants.{Pivots}
 use Rattle.it_forms.specs.declared.types.Code.{Code}
 use Rattle.it_question.specs.Questions.{BodyView, QuestionView}
 use Rattle.it_question.specs.Files.{IsFile}
+use Rattle.it_question.specs.QuestionLimits.{most_lines}
+use Rattle.it_canon.specs.QuestionDemands.{problem_of}
+use Rattle.it_copy.specs.CopyLines.{CopyView}
+use Rattle.it_copy.specs.Extensions.{IsExtension}
+use Rattle.it_copy.specs.Files.{IsCopyFile}
+use Rattle.it_sharing.specs.SharingFiles.{IsSharingFile}
+use Rattle.it_sharing.specs.Sharings.{SharingView, made_question, maximal_count, minimal_count}
+use Rattle.it_prove.specs.ProofViews.{IsUnbound}
+use Rattle.it_prove.specs.Reach.{is_in_reach}
 use Rattle.it_region.specs.declared.types.Candidate.{Candidate}
 use Rattle.it_contain.specs.Proposals.{Plan}
 use Rattle.it_answer.specs.declared.types.Budgets.{Budgets}
@@ -115,6 +124,16 @@ AreByBland (Sharing report run pivots) = run ≡ Bland
 abbrev pub ModesHaveOneReading : Type 0
 ModesHaveOneReading = (plans : List Plan) (settings : Settings) → HasOneReading (mode_of plans settings)
 
+-- the defined run about each question of a file with a head is in reach, and so is that about the question with the copies
+abbrev pub CopiesAreInReach : Type 0
+CopiesAreInReach = (bytes : List ℕ) (copies : List CopyView) (qs : List QuestionView) → IsCopyFile bytes copies qs
+    → All (λ q. (is_in_reach (problem_of q.body) ≡ true) × ((e : BodyView) → IsExtension q.body copies e → is_in_reach (problem_of e) ≡ true)) qs
+
+-- the defined run about the question that is made of a sharing file is in reach
+abbrev pub SharingIsInReach : Type 0
+SharingIsInReach = (bytes : List ℕ) (x : SharingView) → IsSharingFile bytes x → minimal_count x + maximal_count x ≤ most_lines
+    → is_in_reach (problem_of (made_question x).body) ≡ true
+
 -- where targets are decided by the defined run alone, each mode is determined: an item has one right reply after others
 abbrev pub ModesAreDetermined : Type 0
 ModesAreDetermined = (plans : List Plan) (settings : Settings) → AreByBland settings → IsDetermined (mode_of plans settings)
@@ -124,10 +143,10 @@ abbrev pub OneOutput : Type 0
 OneOutput = (plans : List Plan) (settings : Settings) (bytes out other : List ℕ) (s t : Status) → AreByBland settings → IsOutput plans settings bytes out s → IsOutput plans settings bytes other t
     → (out ≡ other) × (s ≡ t)
 
--- without a budget of steps `undecided pivots` is never right
+-- where the defined run is made without a budget of steps, and is in reach, `undecided pivots` is never right
 abbrev pub NoLineIsOutOfSteps : Type 0
-NoLineIsOutOfSteps = (budgets : Budgets) (plans : List Plan) (q : BodyView) (steps : ℕ) (found : List Candidate) → budgets.effort.pivots ≡ None
-    → IsRightAnswer budgets plans q (record { answer = Undecided (Pivots steps); found = found }) → ⊥
+NoLineIsOutOfSteps = (budgets : Budgets) (plans : List Plan) (q : BodyView) (steps : ℕ) (found : List Candidate) → IsUnbound budgets.effort
+    → is_in_reach (problem_of q) ≡ true → IsRightAnswer budgets plans q (record { answer = Undecided (Pivots steps); found = found }) → ⊥
 
 -- ---- what is written in part
 

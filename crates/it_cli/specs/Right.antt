@@ -1,5 +1,5 @@
 -- Right answers to questions in order.
-use Rattle.std.specs.Prelude.{ℕ, List, map, Option, true, false}
+use Rattle.std.specs.Prelude.{ℕ, List, map, Option}
 use Rattle.it_settings.specs.declared.types.Run.{Run}
 use Rattle.it_settings.specs.declared.types.Run.TheVariants.{Bland, Quick}
 use Rattle.it_elemental.specs.Generators.{Generator}
@@ -15,11 +15,12 @@ use Rattle.it_answer.specs.Replies.{Reply}
 use Rattle.it_answer.specs.RightAnswers.{IsRightAnswer}
 use Rattle.it_outer.specs.declared.types.Limits.{Limits}
 use Rattle.it_prove.specs.declared.types.Effort.{Effort}
+use Rattle.it_prove.specs.declared.types.Runs.TheVariants.{Defined, QuickFirst}
 
 -- the effort to decide a target: a quick run first, or not, and the steps of the defined run, if they are bounded
 abbrev pub effort_of : Run → Option ℕ → Effort
-effort_of Bland pivots = record { quick = false; pivots = pivots }
-effort_of Quick pivots = record { quick = true; pivots = pivots }
+effort_of Bland pivots = record { runs = Defined; pivots = pivots }
+effort_of Quick pivots = record { runs = QuickFirst; pivots = pivots }
 
 -- the budgets of an answer: the effort for a target, the rows after a rate and the candidates that are tried
 abbrev pub budgets_of : Run → Option ℕ → ℕ → ℕ → Budgets

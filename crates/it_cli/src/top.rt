@@ -20,7 +20,7 @@ use it_answer::Budgets;
 use it_contain::Proposer;
 use it_outer::Limits;
 use it_outside::{InFault, Sink, Source, read_all};
-use it_prove::Effort;
+use it_prove::{Effort, Runs};
 use it_settings::settings;
 use it_settings::types::{Run, Settings, WordsFault};
 use std::alloc::Global;
@@ -127,11 +127,11 @@ fn effort_of(run: Run, pivots: Option<u32>) -> Effort
 {
     match run {
         Run::Bland => Effort {
-            quick: false,
+            runs: Runs::Defined,
             pivots,
         },
         Run::Quick => Effort {
-            quick: true,
+            runs: Runs::QuickFirst,
             pivots,
         },
     }

@@ -30,7 +30,7 @@ use Rattle.it_factor.specs.declared.types.Reply.{Reply}
 use Rattle.it_factor.specs.declared.types.Reply.TheVariants as replies
 use Rattle.it_factor.specs.Lines.{AreValuesOf, IsBestPrintable, IsPrintable, IsThere}
 use Rattle.it_factor.specs.Replies.{reply_view}
-use Rattle.it_factor.specs.RightReplies.{IsRightReply, ShowsFactor, question_ground}
+use Rattle.it_factor.specs.RightReplies.{IsDueReply, ShowsFactor, question_ground}
 
 length-demands : (n : ℕ) (ds : List Demand) → length (all_demands n ds) ≡ length (elementals n) + length ds
 unfolding all_demands
@@ -74,6 +74,6 @@ module _ (q : BodyView) (m : ℕ) (count : m ≡ length (question_demands q)) wh
 
   -- what is printed of a reply is there
   pub reply_printable : (effort : Effort) (r : RelationView) (reply : Reply) → IsQuestion q → q.verb ≡ Prove r
-      → IsRightReply effort q (reply_view reply) → IsPrintable q m reply
+      → IsDueReply effort q (reply_view reply) → IsPrintable q m reply
   reply_printable effort r (replies.Found best) k verb right = best_printable right.0 r best k verb right.2.shows
   reply_printable effort r replies.Other k verb right = tt

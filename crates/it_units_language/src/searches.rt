@@ -9,7 +9,7 @@ use it_contain::{
     Candidate, Contained, Pair, Proposer, Recent, Shape, Singles, Subsets, contain, pair,
 };
 use it_problems::Problem;
-use it_prove::Effort;
+use it_prove::{Effort, Runs};
 use it_question::questions;
 use it_question::types::Verb;
 use it_space::{Space, VarSet};
@@ -17,7 +17,7 @@ use std::alloc::Global;
 
 /// The defined run, with as many steps as it takes.
 const DEFINED: Effort = Effort {
-    quick: false,
+    runs: Runs::Defined,
     pivots: None,
 };
 
