@@ -4,8 +4,6 @@
 #[cfg(test)]
 mod draws;
 #[cfg(test)]
-mod efforts;
-#[cfg(test)]
 mod fixtures;
 #[cfg(test)]
 mod heads;
