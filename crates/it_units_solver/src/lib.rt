@@ -16,4 +16,6 @@ mod spaces;
 #[cfg(test)]
 mod spans;
 #[cfg(test)]
+mod symmetries;
+#[cfg(test)]
 mod tableaus;
