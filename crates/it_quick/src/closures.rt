@@ -120,9 +120,21 @@ fn closure(dependences: &Dependences, companions: &Companions, set: VarSet) -> V
     all
 }
 
+/// The sets that stand at their own numbers in `sets`, in order.
+pub fn own_sets(alloc: Global, sets: &[VarSet]) -> Result<Vec<VarSet>, AllocError> {
+    let mut own = Vec::new(alloc);
+    for number in 0..sets.len() {
+        if usize::from(sets[number].number()) == number {
+            own.push(sets[number])?;
+        }
+    }
+    Ok(own)
+}
+
 /// The closure of each set, by its number.
 #[derive(Drop)]
 pub struct Closures {
+    variables: u8,
     sets: Vec<VarSet>,
 }
 
@@ -133,13 +145,14 @@ impl Closures {
         dependences: &Dependences,
         companions: &Companions,
     ) -> Result<Closures, AllocError> {
-        let count = 1u32 << dependences.space().variables;
+        let variables = dependences.space().variables;
+        let count = 1u32 << variables;
         let mut sets = Vec::with_capacity(alloc, count as usize)?;
         for number in 0..count {
             let set = VarSet::from_number(number as u16);
             sets.push(closure(dependences, companions, set))?;
         }
-        Ok(Closures { sets })
+        Ok(Closures { variables, sets })
     }
 
     /// The closure of `set`.
@@ -152,9 +165,19 @@ impl Closures {
         self.of(set) == set
     }
 
-    /// The number of sets.
-    pub fn count(&self) -> usize {
-        self.sets.len()
+    /// The number of variables.
+    pub fn variables(&self) -> u8 {
+        self.variables
+    }
+
+    /// The closure of each set, by its number.
+    pub fn sets(&self) -> &[VarSet] {
+        self.sets.as_slice()
+    }
+
+    /// The closed sets in order, the first of which is the closure of the empty set.
+    pub fn closed_sets(&self, alloc: Global) -> Result<Vec<VarSet>, AllocError> {
+        own_sets(alloc, self.sets())
     }
 
     /// The set of all variables: the closure of the last set.

@@ -1,21 +1,17 @@
-//! From weights of columns over closed sets to a certificate over all sets.
+//! From weights of summands over closed sets to a certificate over all sets.
 //!
-//! A column of I(X;Y|K) over closed sets A, B and C is I(A;B|A∩B) plus h(A∩B) - h(C): a sum of elemental inequalities over all sets.
+//! The inequality of closed sets A and B given C is I(A;B|A∩B) plus h(A∩B) - h(C): a sum of elemental inequalities over all sets.
 //! The excess that is left at a set is then moved to its closure by the dependences.
 ghost use Rattle.std.specs.Prelude.{◌≡◌, ◌<◌, ◌≤◌, ◌^◌, bit_and};
 ghost use Rattle.std.specs.Bool.{OnTrue};
 ghost use Rattle.it_space.specs.Spaces.{most_variables};
 
-use crate::closed::ClosedProgram;
-use crate::closures::{Closures, with, without};
 use crate::numbers::at;
-use crate::programs::Column;
-use crate::running::ColumnWeight;
+use crate::summands::{Summand, SummandWeight};
 use it_closure::{Dependence, Dependences, first_open};
-use it_elemental::{
-    Elemental, count, expand_conditional, expand_mutual, generator_count, parts, row,
-};
+use it_elemental::{count, expand_conditional, expand_mutual, generator_count, row};
 use it_fraction::Wide;
+use it_orbits::Submodular;
 use it_problems::Problem;
 use it_space::{Certificate, Row, RowFault, VarSet, with_product};
 use it_vectors::{common_divisor, short_product};
@@ -121,94 +117,43 @@ fn add_rise(
     Ok(())
 }
 
-/// Two sets, and a set `below` that lies in both.
-#[derive(Clone, Copy, Drop)]
-struct SetPair {
-    left: VarSet,
-    right: VarSet,
-    below: VarSet,
-}
-
-/// Adds `amount` times h(left) + h(right) - h(left∪right) - h(below) to the weights.
-fn add_pair(
-    alloc: Global,
-    weights: &mut Totals,
-    n: u8,
-    pair: SetPair,
-    amount: i128,
-) -> Result<(), RowFault>
-    requires some { 1 ≤ n }
-    requires few { n ≤ most_variables }
-{
-    let both = pair.left.meet(pair.right);
-    let left = pair.left.minus(pair.right);
-    let right = pair.right.minus(pair.left);
-    let indexes = mutual(alloc, n, left, right, both)?;
-    weights.add_each(indexes.as_slice(), amount)?;
-    add_rise(alloc, weights, n, pair.below, both, amount)
-}
-
-/// Adds `amount` times an inequality over closed sets.
+/// Adds `amount` times h(left) + h(right) - h(left∪right) - h(given) to the weights.
 fn add_inequality(
     alloc: Global,
     weights: &mut Totals,
     n: u8,
-    closures: &Closures,
-    elemental: Elemental,
+    inequality: Submodular,
     amount: i128,
 ) -> Result<(), RowFault>
     requires some { 1 ≤ n }
     requires few { n ≤ most_variables }
 {
-    match elemental {
-        Elemental::Conditional { of } => {
-            let full = closures.full();
-            let rest = closures.of(without(full, of));
-            add_rise(alloc, weights, n, rest, full, amount)
-        }
-        Elemental::Mutual { left, right, given } => {
-            let pair = SetPair {
-                left: closures.of(with(given, left)),
-                right: closures.of(with(given, right)),
-                below: closures.of(given),
-            };
-            add_pair(alloc, weights, n, pair, amount)
-        }
-    }
+    let Submodular { left, right, given } = inequality;
+    let both = left.meet(right);
+    let indexes = mutual(alloc, n, left.minus(right), right.minus(left), both)?;
+    weights.add_each(indexes.as_slice(), amount)?;
+    add_rise(alloc, weights, n, given, both, amount)
 }
 
-/// Adds `amount` times the column of a constraint.
-fn add_constraint(weights: &mut Totals, column: &Column, amount: i128) -> Result<(), Wide> {
-    let sign = if column.negated { -1 } else { 1 };
-    weights.add(column.generator as usize, amount, sign)
-}
-
-/// Adds `amount` times column `column`.
-fn add_column(
+/// Adds `amount` times a summand.
+fn add_summand(
     alloc: Global,
     weights: &mut Totals,
     n: u8,
-    closed: &ClosedProgram,
-    column: usize,
+    summand: Summand,
     amount: i128,
 ) -> Result<(), RowFault>
     requires some { 1 ≤ n }
     requires few { n ≤ most_variables }
 {
-    match closed.program.inequalities.get(column) {
-        Some(inequality) => {
-            if inequality.generator < count(n) {
-                let elemental = parts(n, inequality.generator);
-                add_inequality(alloc, weights, n, &closed.closures, elemental, amount)?;
-            }
-        }
-        None => {
-            if let Some(other) = closed.program.other(column) {
-                add_constraint(weights, other, amount)?;
-            }
+    match summand {
+        Summand::Inequality(inequality) => add_inequality(alloc, weights, n, inequality, amount),
+        Summand::Constraint { generator, negated } => {
+            let sign = if negated { -1 } else { 1 };
+            weights.add(generator as usize, amount, sign)?;
+            Ok(())
         }
     }
-    Ok(())
 }
 
 /// Adds `amount` times the generators that lead from `set` to its union with the set that `by` determines.
@@ -223,12 +168,12 @@ fn add_turn(
     requires some { 1 ≤ n }
     requires few { n ≤ most_variables }
 {
-    let pair = SetPair {
+    let inequality = Submodular {
         left: by.to,
         right: set,
-        below: by.from,
+        given: by.from,
     };
-    add_pair(alloc, weights, n, pair, amount)?;
+    add_inequality(alloc, weights, n, inequality, amount)?;
     let sign = if by.negated { 1 } else { -1 };
     weights.add(by.generator as usize, amount, sign)?;
     Ok(())
@@ -326,7 +271,7 @@ fn excesses(
 }
 
 /// The least common multiple of the denominators. `None` if it is large, or a denominator is 0.
-fn common_denominator(weights: &[ColumnWeight]) -> Option<u64> {
+fn common_denominator(weights: &[SummandWeight]) -> Option<u64> {
     let mut all: u64 = 1;
     for weight in weights {
         if weight.denominator == 0 {
@@ -354,12 +299,11 @@ fn terms(alloc: Global, weights: &Totals) -> Result<Vec<(u32, i128)>, AllocError
     Ok(terms)
 }
 
-/// The weights of the generators by those of columns, times `scale`.
+/// The weights of the generators by those of summands, times `scale`.
 fn generator_weights(
     alloc: Global,
     problem: &Problem,
-    closed: &ClosedProgram,
-    weights: &[ColumnWeight],
+    weights: &[SummandWeight],
     scale: u64,
 ) -> Result<Totals, RowFault> {
     let mut all = Totals::zeros(alloc, generator_count(problem) as usize)?;
@@ -369,25 +313,24 @@ fn generator_weights(
                 weight.number,
             ));
             let n = problem.space().variables;
-            add_column(alloc, &mut all, n, closed, weight.column, amount)?;
+            add_summand(alloc, &mut all, n, weight.summand, amount)?;
         }
     }
     Ok(all)
 }
 
-/// The certificate by the weights of columns. `Wide` if a number is too large.
+/// The certificate by the weights of summands. `Wide` if a number is too large.
 pub fn certificate(
     alloc: Global,
     problem: &Problem,
     dependences: &Dependences,
-    closed: &ClosedProgram,
     target: &Row,
-    weights: &[ColumnWeight],
+    weights: &[SummandWeight],
 ) -> Result<Certificate, RowFault> {
     let Some(scale) = common_denominator(weights) else {
         return Err(RowFault::Wide);
     };
-    let mut all = generator_weights(alloc, problem, closed, weights, scale)?;
+    let mut all = generator_weights(alloc, problem, weights, scale)?;
     let scale = i128::from(scale);
     let left = excesses(alloc, problem, target, scale, &all)?;
     move_excesses(alloc, &mut all, dependences, &left)?;

@@ -4,7 +4,7 @@
 use crate::numbers::{at, number_at};
 use std::alloc::{AllocError, Global};
 
-/// The column h(plus) + h(other_plus) - h(minus) - h(other_minus) of an elemental inequality, each set by its place.
+/// The column h(plus) + h(other_plus) - h(minus) - h(other_minus) of an inequality, each set by its place.
 #[derive(Clone, Copy)]
 pub struct Inequality {
     pub plus: u16,
@@ -12,11 +12,14 @@ pub struct Inequality {
     pub minus: u16,
     pub other_minus: u16,
     pub cost: i64,
-    /// The number of the inequality among the generators of the problem.
-    pub generator: u32,
 }
 
 impl Inequality {
+    /// The places of its sets.
+    pub fn places(&self) -> (u16, u16, u16, u16) {
+        (self.plus, self.other_plus, self.minus, self.other_minus)
+    }
+
     /// The column's entry in `row`, a row of the inverse.
     #[inline]
     pub fn value(&self, row: &[i32]) -> i64 {

@@ -5,12 +5,15 @@ ghost use Rattle.it_number.specs.Limit.{IsWithin};
 ghost use Rattle.it_space.specs.Spaces.{IsSpace, size_of};
 ghost use Rattle.it_quick.specs.Proposals.{IsOfSpace};
 
-use crate::closed::ClosedProgram;
-use crate::closures::Companions;
+use crate::closed::ClosedSets;
+use crate::closures::{Closures, Companions};
 use crate::lifting::certificate;
 use crate::numbers::number_at;
+use crate::placed::PlacedProgram;
 use crate::places::Places;
-use crate::running::{ColumnWeight, End};
+use crate::running::End;
+use crate::summands::SummandWeight;
+use crate::symmetric;
 use it_closure::Dependences;
 use it_problems::Problem;
 use it_space::{Certificate, Point, Row, RowFault, Space};
@@ -61,18 +64,17 @@ fn point(space: Space, values: Vec<i128>) -> Option<Proposal>
     }
 }
 
-/// The proposal by weights of columns; `None` if a number is too large.
+/// The proposal by weights of summands; `None` if a number is too large.
 fn by_weights(
     alloc: Global,
     problem: &Problem,
     dependences: &Dependences,
-    closed: &ClosedProgram,
     target: &Row,
-    weights: &[ColumnWeight],
+    weights: &[SummandWeight],
 ) -> Result<Option<Proposal>, AllocError>
     ensures { IfOk result (λ o. IfSome o (IsOfSpace problem.now.space)) }
 {
-    match certificate(alloc, problem, dependences, closed, target, weights) {
+    match certificate(alloc, problem, dependences, target, weights) {
         Ok(certificate) => Ok(Some(Proposal::Yes(certificate))),
         Err(RowFault::Wide) => Ok(None),
         Err(RowFault::Memory) => Err(AllocError),
@@ -92,12 +94,12 @@ fn by_values(
     Ok(point(problem.space(), values))
 }
 
-/// The proposal by the end of a run; `None` if it gave up.
+/// The proposal by the end of a run of `program`; `None` if it gave up.
 fn by_end(
     alloc: Global,
     problem: &Problem,
     dependences: &Dependences,
-    closed: &ClosedProgram,
+    program: &PlacedProgram,
     target: &Row,
     end: End,
 ) -> Result<Option<Proposal>, AllocError>
@@ -105,49 +107,80 @@ fn by_end(
 {
     match end {
         End::Weights(weights) => {
-            by_weights(
-                alloc,
-                problem,
-                dependences,
-                closed,
-                target,
-                weights.as_slice(),
-            )
+            let summands = program.summands(alloc, weights.as_slice())?;
+            by_weights(alloc, problem, dependences, target, summands.as_slice())
         }
-        End::Point(values) => by_values(alloc, problem, &closed.places, values.as_slice()),
+        End::Point(values) => by_values(alloc, problem, program.places(), values.as_slice()),
         End::GaveUp => Ok(None),
     }
 }
 
-/// The proposal of a run of at most `steps` steps about `target`, by the program `closed`. The run begins at the last basis, and if it
-/// then proposes nothing, again from the start.
-fn by_run(
+/// The proposal of a run of at most `steps` steps about `target` by `program`. The run begins at the last basis, and if it then proposes
+/// nothing, again from the start.
+fn by_program(
     alloc: Global,
     problem: &Problem,
     dependences: &Dependences,
-    closed: &mut ClosedProgram,
+    program: &mut PlacedProgram,
     target: &Row,
     steps: u32,
 ) -> Result<Option<Proposal>, AllocError>
     ensures { IfOk result (λ o. IfSome o (IsOfSpace problem.now.space)) }
 {
-    if !closed.pose(alloc, problem, target)? {
+    if !program.pose(alloc, problem, target)? {
         return Ok(None);
     }
-    let end = closed.run_on(alloc, steps)?;
-    let proposal = by_end(alloc, problem, dependences, closed, target, end)?;
+    let end = program.run_on(alloc, steps)?;
+    let proposal = by_end(alloc, problem, dependences, program, target, end)?;
     if proposal.is_some() {
         return Ok(proposal);
     }
-    let end = closed.run(alloc, steps)?;
-    by_end(alloc, problem, dependences, closed, target, end)
+    let end = program.run(alloc, steps)?;
+    by_end(alloc, problem, dependences, program, target, end)
 }
 
-/// A problem about whose targets runs are made. The program of one target is kept for the next, which may have the same.
+/// The proposal of runs of at most `steps` steps each about `target`, over the orbits under the symmetries.
+fn by_symmetry(
+    alloc: Global,
+    problem: &Problem,
+    dependences: &Dependences,
+    closures: &Closures,
+    target: &Row,
+    steps: u32,
+) -> Result<Option<Proposal>, AllocError>
+    ensures { IfOk result (λ o. IfSome o (IsOfSpace problem.now.space)) }
+{
+    match symmetric::run(alloc, problem, closures, target, steps)? {
+        Some((program, end)) => by_end(alloc, problem, dependences, &program, target, end),
+        None => Ok(None),
+    }
+}
+
+/// The proposal of a run of at most `steps` steps about `target` over closed sets, or if this proposes nothing, of runs over orbits.
+fn by_closed_sets(
+    alloc: Global,
+    problem: &Problem,
+    dependences: &Dependences,
+    closed: &mut ClosedSets,
+    target: &Row,
+    steps: u32,
+) -> Result<Option<Proposal>, AllocError>
+    ensures { IfOk result (λ o. IfSome o (IsOfSpace problem.now.space)) }
+{
+    if let Some(program) = &mut closed.program {
+        let proposal = by_program(alloc, problem, dependences, program, target, steps)?;
+        if proposal.is_some() {
+            return Ok(proposal);
+        }
+    }
+    by_symmetry(alloc, problem, dependences, &closed.closures, target, steps)
+}
+
+/// A problem about whose targets runs are made. The closed sets of one target are kept for the next, which may have the same.
 #[derive(Drop)]
 pub struct QuickProblem {
     dependences: Dependences,
-    kept: Option<ClosedProgram>,
+    kept: Option<ClosedSets>,
 }
 
 impl QuickProblem {
@@ -159,23 +192,19 @@ impl QuickProblem {
         })
     }
 
-    /// The program of `companions`: the one that was kept, if it is theirs, else a new one. `None` if it would have too many places.
-    fn program(
-        &mut self,
-        alloc: Global,
-        companions: Companions,
-    ) -> Result<Option<ClosedProgram>, AllocError> {
+    /// The closed sets by `companions`: those that were kept, if they are theirs, else new ones.
+    fn closed(&mut self, alloc: Global, companions: Companions) -> Result<ClosedSets, AllocError> {
         if let Some(closed) = self.kept.take() {
             if closed.is_of(&companions) {
-                return Ok(Some(closed));
+                return Ok(closed);
             }
         }
-        ClosedProgram::read(alloc, &self.dependences, companions)
+        ClosedSets::read(alloc, &self.dependences, companions)
     }
 
-    /// A certificate of `target` or a point that refutes it, proposed by a run of at most `steps` steps. A point has a value for each
-    /// coordinate; the contract says no more, so the caller has to check the proposal. If `problem` isn't the one that was read, the
-    /// dependences are still those of that one.
+    /// A certificate of `target` or a point that refutes it, proposed by a run of at most `steps` steps, or if this proposes nothing, by
+    /// two such runs that use the symmetries. A point has a value for each coordinate; the contract says no more, so the caller has to
+    /// check the proposal. If `problem` isn't the one that was read, the dependences are still those of that one.
     pub fn propose(
         &mut self,
         alloc: Global,
@@ -186,10 +215,8 @@ impl QuickProblem {
         ensures { IfOk result (λ o. IfSome o (IsOfSpace problem.now.space)) }
     {
         let companions = Companions::read(alloc, &self.dependences, problem, target)?;
-        let Some(mut closed) = self.program(alloc, companions)? else {
-            return Ok(None);
-        };
-        let proposal = by_run(
+        let mut closed = self.closed(alloc, companions)?;
+        let proposal = by_closed_sets(
             alloc,
             problem,
             &self.dependences,
