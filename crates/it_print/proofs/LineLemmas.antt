@@ -77,18 +77,31 @@ set_step names i set name some out e =
         ∙ ap (λ n. n ∷ drop (i + 1) names) (get_or_from_slice_get names i name name e)
 
 -- whether each variable from i on raises a value, by the first of them and the others
-pub raise_step : (names : List (List ℕ)) (i : ℕ) (p : ℕ → ℤ) (s : ℕ) → i < length names
-    → each_raises i (drop i names) p s ≡ ((has_member s i || int_lt (p s) (p (bit_or s (2 ^ i)))) && each_raises (i + 1) (drop (i + 1) names) p s)
+abbrev raises_at : ℕ → (ℕ → ℤ) → ℕ → Bool
+raises_at i p s = has_member s i || int_lt (p s) (p (bit_or s (2 ^ i)))
+
+raise_step : (names : List (List ℕ)) (i : ℕ) (p : ℕ → ℤ) (s : ℕ) → i < length names
+    → each_raises i (drop i names) p s ≡ (raises_at i p s && each_raises (i + 1) (drop (i + 1) names) p s)
 raise_step names i p s h = ap (λ ns. each_raises i ns p s) (drop_more names i [] h)
+
+-- where the first doesn't, not each does
+pub raise_stops : (names : List (List ℕ)) (i : ℕ) (p : ℕ → ℤ) (s : ℕ) (all : Bool) → i < length names → each_raises i (drop i names) p s ≡ all
+    → raises_at i p s ≡ false → false ≡ all
+raise_stops names i p s all h e t = ap (λ b. b && each_raises (i + 1) (drop (i + 1) names) p s) (sym t) ∙ sym (raise_step names i p s h) ∙ e
+
+-- where the first does, the others tell
+pub raise_goes : (names : List (List ℕ)) (i : ℕ) (p : ℕ → ℤ) (s : ℕ) (all : Bool) → i < length names → each_raises i (drop i names) p s ≡ all
+    → raises_at i p s ≡ true → each_raises (i + 1) (drop (i + 1) names) p s ≡ all
+raise_goes names i p s all h e t = ap (λ b. b && each_raises (i + 1) (drop (i + 1) names) p s) (sym t) ∙ sym (raise_step names i p s h) ∙ e
 
 -- one more value of a point
 pub pair_step : (v : NamesView) (values : List ℤ) (i : ℕ) (x : ℤ) (some : Bool) (out : List ℕ) → slice_get values i ≡ Some x
     → (out ++ joined_texts (codes " ") some (if is_told v values (i + 1) then (coordinate_text v (i + 1) ++ codes "=" ++ signed_decimal x) ∷ [] else []))
-    ++ joined_texts (codes " ") (some || is_told v values (i + 1)) (pair_texts v (is_told v values) (i + 1 + 1) (drop (i + 1) values))
+      ++ joined_texts (codes " ") (some || is_told v values (i + 1)) (pair_texts v (is_told v values) (i + 1 + 1) (drop (i + 1) values))
     ≡ out ++ joined_texts (codes " ") some (pair_texts v (is_told v values) (i + 1) (drop i values))
 pair_step v values i x some out e =
     joined_step (codes " ") some (is_told v values (i + 1)) (coordinate_text v (i + 1) ++ codes "=" ++ signed_decimal x)
-    (pair_texts v (is_told v values) (i + 1 + 1) (drop (i + 1) values)) out
+      (pair_texts v (is_told v values) (i + 1 + 1) (drop (i + 1) values)) out
     ∙ ap (λ xs. out ++ joined_texts (codes " ") some (pair_texts v (is_told v values) (i + 1) xs)) (sym value_is_first)
   where
     value_is_first : drop i values ≡ x ∷ drop (i + 1) values
