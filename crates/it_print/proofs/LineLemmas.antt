@@ -1,5 +1,5 @@
 -- Steps of texts.
-use Rattle.std.proofs.Common.{◌&&◌, int_lt, bit_or, length, ◌≡◌, ℕ, ◌<◌, ◌≤◌, ◌*◌, ◌%◌, ◌^◌, ◌-◌, List, ◌∷◌, ◌++◌, ◌+◌, Some, Bool, true, false, if◌then◌else◌, sym, ap, ◌∙◌, arith, append_assoc, append-nil, codes, ◌||◌, drop, [], ℤ, map, filter, cond, refl}
+use Rattle.std.proofs.Common.{get_or, ◌&&◌, int_lt, bit_or, length, ◌≡◌, ℕ, ◌<◌, ◌≤◌, ◌*◌, ◌%◌, ◌^◌, ◌-◌, List, ◌∷◌, ◌++◌, ◌+◌, Some, Bool, true, false, if◌then◌else◌, sym, ap, ◌∙◌, arith, append_assoc, append-nil, codes, ◌||◌, drop, [], ℤ, map, filter, cond, refl}
 use Rattle.it_space.specs.Answers.{is_nonzero_weight}
 use Rattle.it_problems.specs.declared.problems.Origin.{Origin}
 use Rattle.std.specs.List.{slice_get}
@@ -95,14 +95,11 @@ pub raise_goes : (names : List (List ℕ)) (i : ℕ) (p : ℕ → ℤ) (s : ℕ)
 raise_goes names i p s all h e t = ap (λ b. b && each_raises (i + 1) (drop (i + 1) names) p s) (sym t) ∙ sym (raise_step names i p s h) ∙ e
 
 -- one more value of a point
-pub pair_step : (v : NamesView) (values : List ℤ) (i : ℕ) (x : ℤ) (some : Bool) (out : List ℕ) → slice_get values i ≡ Some x
-    → (out ++ joined_texts (codes " ") some (if is_told v values (i + 1) then (coordinate_text v (i + 1) ++ codes "=" ++ signed_decimal x) ∷ [] else []))
-      ++ joined_texts (codes " ") (some || is_told v values (i + 1)) (pair_texts v (is_told v values) (i + 1 + 1) (drop (i + 1) values))
+pub pair_step : (v : NamesView) (values : List ℤ) (i : ℕ) (d : ℤ) (some : Bool) (out : List ℕ) → i < length values
+    → (out ++ joined_texts (codes " ") some (if is_told v values (i + 1) then (coordinate_text v (i + 1) ++ codes "=" ++ signed_decimal (get_or values i d)) ∷ [] else []))
+    ++ joined_texts (codes " ") (some || is_told v values (i + 1)) (pair_texts v (is_told v values) (i + 1 + 1) (drop (i + 1) values))
     ≡ out ++ joined_texts (codes " ") some (pair_texts v (is_told v values) (i + 1) (drop i values))
-pair_step v values i x some out e =
-    joined_step (codes " ") some (is_told v values (i + 1)) (coordinate_text v (i + 1) ++ codes "=" ++ signed_decimal x)
-      (pair_texts v (is_told v values) (i + 1 + 1) (drop (i + 1) values)) out
-    ∙ ap (λ xs. out ++ joined_texts (codes " ") some (pair_texts v (is_told v values) (i + 1) xs)) (sym value_is_first)
-  where
-    value_is_first : drop i values ≡ x ∷ drop (i + 1) values
-    value_is_first = drop_more values i x (slice_get_within values i x e) ∙ ap (λ y. y ∷ drop (i + 1) values) (get_or_from_slice_get values i x x e)
+pair_step v values i d some out h =
+    joined_step (codes " ") some (is_told v values (i + 1)) (coordinate_text v (i + 1) ++ codes "=" ++ signed_decimal (get_or values i d))
+    (pair_texts v (is_told v values) (i + 1 + 1) (drop (i + 1) values)) out
+    ∙ ap (λ xs. out ++ joined_texts (codes " ") some (pair_texts v (is_told v values) (i + 1) xs)) (sym (drop_more values i d h))
