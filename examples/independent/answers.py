@@ -13,7 +13,7 @@ import sharing
 from contain import Containment
 from copies import Misfit, extended, read_with_head
 from generate import generated_file
-from questions import Fault, read
+from questions import USUAL, Fault, read, wide
 from reports import answer_json, best_json, judge, misfit_json, report_json
 
 # the most bytes of a question file
@@ -24,6 +24,12 @@ def options(words):
     """The value after each word, an option's among them; `--rows=5` is `--rows 5`."""
     words = [part for word in words for part in word.split("=")]
     return dict(zip(words, words[1:]))
+
+
+def limits_of(words):
+    """How large a file's questions may be, by the words of a call."""
+    names = options(words).get("--names")
+    return wide(int(names)) if names else USUAL
 
 
 # the word of the mode may stand behind options
@@ -107,7 +113,8 @@ def asked(words, text):
         question = sharing.made(text)
         question.about = {"sharing": re.sub("[^\0-\x7f]", "?", text)}
         return [question]
-    copies, questions = read_with_head(text) if "copy" in words or "best" in words else ([], read(text))
+    limits = limits_of(words)
+    copies, questions = read_with_head(text, limits) if "copy" in words or "best" in words else ([], read(text, limits))
     if "copy" not in words and not copies:
         for question in questions:
             question.about = {"question": question.text}
@@ -115,7 +122,7 @@ def asked(words, text):
 
     def with_copies(question):
         try:
-            found = extended(question, copies)
+            found = extended(question, copies, limits)
         except Misfit as misfit:
             found = misfit
         found.about = {"copies": "".join(copy.text for copy in copies), "question": question.text}
@@ -134,11 +141,15 @@ def bench_line(words):
     return f"bench seed {seed} count {count} {counts}"
 
 
-def verdict_lines(report):
+def verdict_lines(report, limits=USUAL):
     """A verdict for each line of a report."""
+    return [judge(number, text, limits) for number, text in enumerate(lines_of_report(report), 1)]
+
+
+def lines_of_report(report):
+    """The lines of a report, bytes without line ends."""
     lines = report.split(b"\n")
-    lines = lines if lines[-1] else lines[:-1]
-    return [judge(number, text.removesuffix(b"\r")) for number, text in enumerate(lines, 1)]
+    return [line.removesuffix(b"\r") for line in (lines if lines[-1] else lines[:-1])]
 
 
 def outcome(words, source):
@@ -146,7 +157,7 @@ def outcome(words, source):
     if "bench" in words:
         return bench_line(words) + "\n", 0
     if "check" in words:
-        lines = verdict_lines(source)
+        lines = verdict_lines(source, limits_of(words))
         return "".join(line + "\n" for line in lines), int(any(" invalid " in line for line in lines))
     if len(source) > BYTES:
         return "refused long\n", 3

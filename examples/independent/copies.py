@@ -6,7 +6,7 @@ inequalities", 1998).
 """
 
 from closures import table_size
-from questions import ENTRIES, LINES, VARIABLES, File, Generator, Line, Question, lines_of, row_of
+from questions import LINES, USUAL, File, Generator, Line, Question, lines_of, row_of
 
 # the most copies, and the most names of a set
 COPIES, PARTS = 4, 4
@@ -55,7 +55,7 @@ def named(line, room=True):
     return name
 
 
-def read_with_head(text):
+def read_with_head(text, limits=USUAL):
     """The copies that the head asks for, and the questions after it; `Fault` where there is none of both. Lines are counted from the
     file's first one."""
     copies, lines = [], lines_of(text)
@@ -64,18 +64,19 @@ def read_with_head(text):
             continue
         line = Line(plain, number)
         if line.peek() == "vars":
-            return copies, File(lines, number).questions
+            return copies, File(lines, number, limits).questions
         copies.append(copy_of(line, len(copies) < COPIES))
     return copies, []
 
 
-def extended(question, copies):
+def extended(question, copies, limits=USUAL):
     """The question with copies; `Misfit` where it can't have them."""
     if question.verb != "prove":
         raise Misfit("verb")
     names, lines, added = list(question.names), question.givens, []
     for number, copy in enumerate(copies, 1):
-        if copy.name in names + question.rates or not {copy.of, *copy.over} <= set(names) or copy.of in copy.over or len(names) == VARIABLES:
+        taken, full = copy.name in names + question.rates, len(names) == limits.variables
+        if taken or full or not {copy.of, *copy.over} <= set(names) or copy.of in copy.over:
             raise Misfit(f"copy {number}")
         old, over, new = 2 ** names.index(copy.of), sum(2 ** names.index(name) for name in set(copy.over)), 2 ** len(names)
         rows = [row_of([(1, new | part), (-1, old | part)]) for part in range(over + 1) if part | over == over]
@@ -100,6 +101,6 @@ def extended(question, copies):
     made.targets = [moved(row) for row in question.targets]
     sign, left, right = question.sides
     made.sides = sign, moved(left), moved(right)
-    if table_size(len(names), len(made.rates), made.constraints) > ENTRIES:
+    if limits.entries is not None and table_size(len(names), len(made.rates), made.constraints) > limits.entries:
         raise Misfit("large")
     return made

@@ -7,7 +7,7 @@ from math import gcd
 from cones import generators, product, rows_of
 from eliminate import row_text
 from outer import kept_rates, with_all_lines
-from questions import row_of
+from questions import VARIABLES, row_of
 from verify import near_point_fault, read_sum, sum_fault
 
 TERM = re.compile(r"( \+ | - |^-|^)(?:([0-9]+) )?([A-Za-z]\w*)")
@@ -38,12 +38,36 @@ def read_row(question, text):
     return row
 
 
+def read_shown(text, what):
+    """The names that a text tells, each with its value."""
+    shown = [part.rsplit("=", 1) for part in text.split(" ")] if text else []
+    wanted(all(len(pair) == 2 and re.fullmatch("0|-?[1-9][0-9]*", pair[1]) for pair in shown), f"{what}: no whole number")
+    return [(name, int(value)) for name, value in shown]
+
+
 def read_values(names, text, what):
     """The values of these names, in their order."""
-    shown = [part.rsplit("=", 1) for part in text.split(" ")] if text else []
-    wanted([name for name, *_ in shown] == names, f"{what}: other coordinates")
-    wanted(all(re.fullmatch("0|-?[1-9][0-9]*", *value) for _, *value in shown), f"{what}: no whole number")
-    return [int(value) for _, value in shown]
+    shown = read_shown(text, what)
+    wanted([name for name, _ in shown] == names, f"{what}: other coordinates")
+    return [value for _, value in shown]
+
+
+def read_point(question, text, what):
+    """The values of a point by coordinate. With more names than usual the text has those of rates and of closed sets alone, which each
+    further variable raises: any other set has the least value of the sets around it."""
+    names = {question.coordinate_text(at): at for at in range(1, question.size() + 1)}
+    if len(question.names) <= VARIABLES:
+        return dict(enumerate(read_values(list(names), text, what), 1))
+    shown, variables = read_shown(text, what), len(question.names)
+    wanted(all(name in names for name, _ in shown), f"{what}: other coordinates")
+    values = {names[name]: value for name, value in shown}
+    wanted(2**variables - 1 in values, f"{what}: other coordinates")
+    around = {s: [s | 1 << i for i in range(variables) if not s >> i & 1] for s in range(1, 2**variables)}
+    for s in sorted(around, reverse=True):
+        values.setdefault(s, min((values[t] for t in around[s]), default=0))
+    told = [name for name, at in names.items() if all(values[t] > values[at] for t in around.get(at, ()))]
+    wanted([name for name, _ in shown] == told, f"{what}: other coordinates")
+    return values
 
 
 class Judge:
@@ -74,8 +98,7 @@ class Judge:
         line = re.fullmatch(r"ray (.*) at (.*)", text)
         wanted(line, f"{what}: no line of a ray")
         rates = read_values([self.question.coordinate_text(at) for at in self.kept], line[1], what)
-        names = [self.question.coordinate_text(at) for at in range(1, self.question.size() + 1)]
-        values = dict(enumerate(read_values(names, line[2], what), 1))
+        values = read_point(self.question, line[2], what)
         fault = near_point_fault(self.scope, values)
         wanted(not fault, f"{what}: {fault}")
         own = [values[at] for at in self.kept]

@@ -7,8 +7,10 @@ is looked at, then its place in the grammar, what it means, and the limits.
 """
 
 import re
+from collections import namedtuple
 from functools import lru_cache
-from math import lcm
+from itertools import combinations
+from math import comb, lcm
 
 from closures import table_size
 
@@ -19,6 +21,16 @@ SIGNS = (">=", "<=", "=")
 # the most of each, and the most entries of a table
 QUESTIONS, VARIABLES, AUXILIARIES, RATES, LINES, MEMBERS, TERMS = 1000, 10, 4, 16, 64, 16, 256
 ENTRIES = 4000000
+
+# how large the questions of a file may be: how many names of variables, and how many entries of a table, None where these aren't bounded
+Limits = namedtuple("Limits", "variables entries")
+USUAL = Limits(VARIABLES, ENTRIES)
+
+
+def wide(names):
+    """The limits of files with so many names; a containment has at most VARIABLES in any file."""
+    return Limits(names, None)
+
 
 # the greatest least common multiple of a relation's denominators
 MULTIPLE = 2**32
@@ -71,6 +83,34 @@ class Scope:
 
     def generators(self):
         return self.elementals() + self.constraints
+
+    def elemental_count(self):
+        n = len(self.names)
+        return n + comb(n, 2) * 2**n // 4
+
+    def generator(self, number):
+        """One generator, where a list of all of them would be long; an elemental inequality without its name. None where there is none."""
+        first = self.elemental_count()
+        if number < first:
+            return Generator("", elemental_row(len(self.names), number))
+        return self.constraints[number - first] if number - first < len(self.constraints) else None
+
+
+@lru_cache
+def pairs(n):
+    return list(combinations(range(n), 2))
+
+
+def elemental_row(n, number):
+    """The row of an elemental inequality, in the order of `elementals`: K is the rest of the number with a 0 put in at i and at j."""
+    if number < n:
+        return row_of([(1, 2**n - 1), (-1, 2**n - 1 - 2**number)])
+    pair, k = divmod(number - n, 2 ** (n - 2))
+    i, j = pairs(n)[pair]
+    for place in (i, j):
+        k = (k >> place) * 2 ** (place + 1) + k % 2**place
+    x, y = 2**i, 2**j
+    return row_of([(1, x | k), (1, y | k), (-1, x | y | k), (-1, k)])
 
 
 @lru_cache(maxsize=16)
@@ -344,8 +384,9 @@ class Line:
 class File:
     """The questions of the lines of a text from the one with number `first` on; `Fault` where they are none."""
 
-    def __init__(self, lines, first=1):
+    def __init__(self, lines, first=1, limits=USUAL):
         self.questions, self.question, self.before = [], None, None
+        self.limits = limits
         self.counts = {}
         for number, line in enumerate(lines[first - 1 :], first):
             self.read(line, number)
@@ -373,14 +414,19 @@ class File:
             words += ["try", "contain"] if self.scope().auxiliaries else ["contain"]
         return words
 
-    def table_size(self, verb):
-        """The size of the first table of the question: of its `given` lines to eliminate, of its first region's lines to contain."""
+    def is_large(self, verb):
+        """Whether a question with this verb is too large: its names for a containment, which begins with `region`, or the first table
+        of the question: of its `given` lines to eliminate, of its first region's lines to contain."""
         question = self.question
+        if verb == "region":
+            return len(question.names) > VARIABLES
+        if self.limits.entries is None:
+            return False
         scope = question.regions[0] if verb == "contain" else question
         constraints = question.constraints + (scope.constraints if scope is not question else [])
         if verb == "eliminate":
             constraints = [g for g in constraints if g.given]
-        return table_size(len(scope.names), len(question.rates), constraints)
+        return table_size(len(scope.names), len(question.rates), constraints) > self.limits.entries
 
     def read(self, text, number):
         if not text.strip(" "):
@@ -393,8 +439,8 @@ class File:
         if word in ("given", "row", "try"):
             self.counts[word] = self.counts.get(word, 0) + 1
             line.rule(self.counts[word] <= LINES, "many")
-        if word in ("prove", "eliminate", "contain"):
-            line.rule(self.table_size(word) <= ENTRIES, "large")
+        if word in ("prove", "eliminate", "region", "contain"):
+            line.rule(not self.is_large(word), "large")
         line.next()
         getattr(self, word)(line)
         self.before = word
@@ -402,7 +448,7 @@ class File:
         of.text += text.strip(" ") + "\n"
 
     def vars(self, line):
-        self.question, self.counts = Question(line.new_names([], VARIABLES)), {}
+        self.question, self.counts = Question(line.new_names([], self.limits.variables)), {}
         self.question.line = line.number
 
     def rates(self, line):
@@ -472,6 +518,6 @@ def lines_of(text):
     return [line.removesuffix("\r").split("#")[0].replace("\t", " ") for line in lines]
 
 
-def read(text):
+def read(text, limits=USUAL):
     """The questions of a file, each character of `text` a byte; `Fault` where it is none."""
-    return File(lines_of(text)).questions
+    return File(lines_of(text), 1, limits).questions

@@ -7,6 +7,7 @@ are written, so `1.0` and `1e0` are no whole numbers.
 
 import json
 import re
+from functools import partial
 
 from certificates import Wide, fit, met_verdict, point_verdict, sum_verdict
 from certificates import value as row_value
@@ -16,12 +17,16 @@ from defined import LIMIT
 from hulls import hull_verdict
 from linear_codes import first_other
 from outer import kept_rates, with_all_lines
-from questions import Fault, read
+from questions import USUAL, Fault, read
 from sharing import TooMany, made
 
 ANSWERS = {"prove": ("yes", "no", "undecided"), "eliminate": ("region", "undecided", "outer"), "contain": ("contained", "open")}
 # those about the factors of `prove E >= F`; an `undecided` with a phase is one of them
 FACTORS = ("best", "none", "unbounded")
+
+
+# a whole number as decimal text
+DECIMAL = re.compile("-?[0-9]{1,39}")
 
 
 class Written(str):
@@ -147,7 +152,7 @@ def plain(value):
     if isinstance(value, list):
         for member in value:
             plain(member)
-    elif isinstance(value, str) and re.search("[\ud800-\udfff]", value):
+    elif isinstance(value, str) and not value.isascii() and re.search("[\ud800-\udfff]", value):
         raise NoReading
 
 
@@ -185,7 +190,7 @@ def count(value, key, most=2**32 - 1):
 
 def decimal(value, key):
     """A whole number as decimal text."""
-    rule(isinstance(value, str) and not isinstance(value, Written) and re.fullmatch("-?[0-9]{1,39}", value), key)
+    rule(isinstance(value, str) and not isinstance(value, Written) and DECIMAL.fullmatch(value), key)
     rule(abs(int(value)) <= LIMIT, key)
     return int(value)
 
@@ -200,7 +205,7 @@ def members(value, key):
     return value
 
 
-def question_of(value):
+def question_of(value, limits):
     """The question that is asked: that of the sharing file where there is one, else that of the text, with the copies of the head where
     there is one."""
     if "sharing" in value:
@@ -209,13 +214,13 @@ def question_of(value):
         return question
     if "copies" in value:
         rule(isinstance(value.get("question"), str) and not isinstance(value["question"], Written), "copies")
-        copies, questions = file_of(text_at(value, "copies") + value["question"], 1048577, read_with_head, "copies")
+        copies, questions = file_of(text_at(value, "copies") + value["question"], 1048577, partial(read_with_head, limits=limits), "copies")
         rule(len(questions) == 1, "copies")
         try:
-            return extended(questions[0], copies)
+            return extended(questions[0], copies, limits)
         except Misfit:
             raise Shape("copies") from None
-    questions = file_of(text_at(value, "question"), 1048577, read, "question")
+    questions = file_of(text_at(value, "question"), 1048577, partial(read, limits=limits), "question")
     rule(len(questions) == 1, "question")
     return questions[0]
 
@@ -330,7 +335,7 @@ def tight_fault(question, below, zero, values):
     try:
         rest = row_value(zero, values)
     except Wide:
-        return f"width {len(question.generators()) + 1}"
+        return f"width {question.elemental_count() + len(question.constraints) + 1}"
     return f"zero {rest}" if rest else None
 
 
@@ -351,9 +356,9 @@ def best_fault(question, answer, factor, proofs, values):
     return tight_fault(question, turned, row, values) if answer == "best" else sum_verdict(question, turned, *proofs[1])
 
 
-def best_words(value, answer):
+def best_words(value, answer, limits):
     """The words about a line of factors."""
-    question = question_of(value)
+    question = question_of(value, limits)
     rule(question.verb == "prove" and question.sides[0] == ">=", "answer")
     if answer == "undecided":
         rule(text_at(value, "cause") in ("pivots", "width", "scale", "size"), "cause")
@@ -416,16 +421,16 @@ def outer_words(value, question):
     return f"invalid {wrong}" if wrong else "valid"
 
 
-def verdict(line):
+def verdict(line, limits):
     """The words of a verdict, without the line's number."""
     value = reading(line)
     answer = text_at(members(value, "answer"), "answer")
     if answer == "misfit":
         return "skipped"
     if is_about_factors(value, answer):
-        return best_words(value, answer)
+        return best_words(value, answer, limits)
     rule(any(answer in answers for answers in ANSWERS.values()), "answer")
-    question = question_of(value)
+    question = question_of(value, limits)
     rule(answer in ANSWERS[question.verb], "answer")
     if answer == "yes":
         return first_fault(question, question.targets, proofs_of(value, len(question.targets)))
@@ -446,10 +451,10 @@ def verdict(line):
     return "skipped"
 
 
-def judge(number, line):
-    """The verdict line of a report's line, bytes without the line feed."""
+def judge(number, line, limits=USUAL):
+    """The verdict line of a report's line, bytes without the line feed; its question may be as large as the limits say."""
     try:
-        return f"{number} {verdict(line)}"
+        return f"{number} {verdict(line, limits)}"
     except NoReading:
         return f"{number} invalid json"
     except Shape as shape:

@@ -9,8 +9,8 @@ from pathlib import Path
 
 import itip.asking
 from itip import (
-    Contained, H, I, Itip, No, NotationError, Open, Projected, Undecided, UndecidedError, Yes, ask, configure, func, indep, markov,
-    prove, prove_all, rates, rv,
+    Contained, H, I, Itip, No, NotationError, Open, Projected, Refused, Undecided, UndecidedError, Yes, ask, configure, func, indep,
+    markov, prove, prove_all, rates, rv,
 )
 
 from .programs import BLAND
@@ -119,6 +119,19 @@ class Answers(unittest.TestCase):
         with self.assertRaisesRegex(UndecidedError, "neither yes nor no"):
             bool(answer)
         self.assertIsInstance(answer.again(), No)
+
+    def test_names(self):
+        """Eleven names, which determine each other, are read where they are allowed."""
+        self.addCleanup(configure, names=None)
+        names = "ABCDEFGJKLM"
+        same = "".join(f"given func {after} of {name}\ngiven func {name} of {after}\n" for name, after in zip(names, names[1:]))
+        text = f"vars {', '.join(names)}\n{same}prove H(M) >= H(A)\n"
+        with self.assertRaisesRegex(Refused, "many"):
+            ask(text)
+        for answers in (ask(text, program=Itip(names=11)), ask(text, program=Itip(names=16, run="bland"))):
+            self.assertEqual([(type(answer), answer.check()) for answer in answers], [(Yes, "valid")])
+        configure(names=11)
+        self.assertIsInstance(prove(H(A) >= 0), Yes)
 
     def test_told(self):
         """The steps of docs/guide/ask.md."""

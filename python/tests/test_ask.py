@@ -1,5 +1,6 @@
 """The command ./ask: its words, statuses and bytes, and its modes against the program's own lines and the literature."""
 
+import json
 import os
 import re
 import signal
@@ -396,6 +397,16 @@ class Modes(Asks):
             self.asks(f"{PATH}prove H(b) + H(c) >= 3 H(s)\n", "--sharing"),
         ]:
             self.assertIn("\n```\n" + "".join(line + "\n" for line in told) + "```\n", page)
+
+    def test_points_that_are_alike(self):
+        """Of a point of eleven names one of the sets that a symmetry makes alike is told, and the symmetry: by hand. Only X and Y aren't
+        constant, each has the value 2, and both have 3; no other two names have the same coefficient."""
+        constant = " + ".join(f"{number} H({name})" for number, name in enumerate("ABCDEFGJK", 1))
+        question = f"vars {', '.join('ABCDEFGJKXY')}\ngiven {constant} = 0\nprove I(X;Y) <= 0\n"
+        values = [("0", "2", "2", "3")[number >> 9] for number in range(1, 2**11)]
+        report = json.dumps({"answer": "no", "point": values, "question": question, "side": "forward"})
+        sets = ["h(A,B,C,D,E,F,G,J,K)=0", "h(A,B,C,D,E,F,G,J,K,X)=2", "h(A,B,C,D,E,F,G,J,K,X,Y)=3"]
+        self.assertEqual(default().tell([report], [])[0], ["no", f"as point {' '.join(sets)} alike X->Y Y->X"])
 
     def test_sharing_like_the_package(self):
         s, a, b, c, d = rv("s a b c d")

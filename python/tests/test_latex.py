@@ -33,6 +33,13 @@ class Latex(unittest.TestCase):
             self.assertTrue(typeset(told).startswith(rf"\paragraph{{1.}} {said}"), told)
         self.assertEqual(typeset("3 undecided size\n"), "\\paragraph{3.} This stayed undecided: \\texttt{size}.\n")
 
+    def test_alike(self):
+        """A point by some of its values, and by the maps under which other sets are like these."""
+        text = typeset("1 no\n  as point h(X)=2 h(X,Y)=3 R=1 alike X->Y Y->X, Z_1->X X->Z_1\n")
+        self.assertIn("h(X) &= 2, & h(X,Y) &= 3, & R &= 1\n", text)
+        said = r"under $X \mapsto Y,\ Y \mapsto X$ and under $Z_{1} \mapsto X,\ X \mapsto Z_{1}$."
+        self.assertIn(f"Each set has the value of its image {said}", text)
+
     def test_nothing(self):
         self.assertEqual((typeset(""), typeset("\n")), ("", "\\par{\\raggedright\\texttt{}\\par}\n"))
 

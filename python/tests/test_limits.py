@@ -44,6 +44,19 @@ class Limits(Asks):
             status, told, said = self.ask(self.file(text))
             self.assertEqual((status, told.split()[-1], said.splitlines()[-1]), (3, "large" if "table" in due else "many", "    " + due))
 
+    def test_names(self):
+        """A file past what `--names` allows, and a containment, which has ten names in any file."""
+        many = ", ".join("ABCDEFGJKLMNO")
+        shared = PATH.replace("a, b, c, d\n", f"a, b, c, d, {many}\n")
+        regions = f"vars {many}\nregion\nregion\ncontain\n"
+        for words, text, word, due in [
+            (("--names", "12"), f"vars {many}\nprove H(A) >= 0\n", "many", "variables of this question: 13, of at most 12"),
+            (("--names", "12"), shared + "prove H(a) >= 0\n", "many", "parties: 17, of at most 11"),
+            (("--names", "16"), regions, "large", "variables of a question about regions: 13, of at most 10"),
+        ]:
+            status, told, said = self.ask(*words, self.file(text))
+            self.assertEqual((status, told.split()[-1], said.splitlines()[-1]), (3, word, "    " + due))
+
     def test_no_count(self):
         """What isn't past a limit isn't told, whatever the place."""
         for word in ("many", "large"):

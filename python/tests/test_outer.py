@@ -87,7 +87,9 @@ class Command(Asks):
             if path.stem == "regenerating-code-433":  # which takes long
                 continue
             due = Literature(path.stem)
-            status, told, _ = self.ask("--outer", str(path))
+            words = path.with_suffix(".words").read_text().split()
+            names = words[words.index("--names") :][:2] if "--names" in words else []
+            status, told, _ = self.ask("--outer", *names, str(path))
             answers = grouped(told)
             self.assertEqual((status, len(answers)), (0, len(due.questions)))
             for number, ((first, *below), asked) in enumerate(zip(answers, due.questions), 1):
@@ -140,10 +142,10 @@ class Command(Asks):
     def test_rays_by_hand(self):
         """What is below 0 per F, and directions in which F isn't 0."""
         rows = (RowLine("needed", (1, 0), ""), RowLine("needed", (2, -3), ""))
-        rays = tuple(RayLine(numbers, "") for numbers in ((3, 2), (0, -1), (1, 0)))
+        rays = tuple(RayLine(numbers, ()) for numbers in ((3, 2), (0, -1), (1, 0)))
         told = [text for text, _ in told_rays(BoundLines(("M", "F"), rows, rays), "F")]
         self.assertEqual(told, ["corner M = 3/2 per F", "direction (M, F) = (0, -1)", "direction M = 1"])
-        alone = BoundLines(("F",), (), (RayLine((1,), ""), RayLine((-1,), "")))
+        alone = BoundLines(("F",), (), (RayLine((1,), ()), RayLine((-1,), ())))
         self.assertEqual([text for text, _ in told_rays(alone, "F")], ["line F = 1", ""])
         self.assertEqual([text for text, _ in told_rays(alone)], ["line F = 1", ""])
 

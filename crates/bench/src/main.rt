@@ -28,8 +28,8 @@ mod targets;
 
 use crate::output::Output;
 use it_outside::{StdSource, read_all};
-use it_question::questions;
 use it_question::types::Question;
+use it_question::{FileLimits, questions};
 use std::alloc::{AllocError, Global};
 use std::{io, str};
 
@@ -48,7 +48,7 @@ pub struct Task<'a> {
 fn count(alloc: Global, file: &[u8]) -> usize
     requires { length file.now ≤ most_text_bytes }
 {
-    match questions(alloc, file) {
+    match questions(alloc, file, FileLimits::USUAL) {
         Ok(questions) => questions.len(),
         Err(_) => 0,
     }
@@ -115,7 +115,7 @@ fn on_questions(
 ) -> Result<(), AllocError>
     requires { length file.now ≤ most_text_bytes }
 {
-    match questions(alloc, file) {
+    match questions(alloc, file, FileLimits::USUAL) {
         Ok(questions) if kernel == "questions" || kernel == "targets" => {
             write_all(alloc, out, kernel, questions.as_slice(), task)
         }

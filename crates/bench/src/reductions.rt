@@ -11,7 +11,7 @@ use crate::targets::Asking;
 use it_canon::{problem, system};
 use it_eliminate::{Eliminated, step};
 use it_problems::{Constraint, Kind, Origin, Problem, System};
-use it_prove::Effort;
+use it_prove::{Effort, Runs};
 use it_question::types::{Question, Verb};
 use it_redundant::{kept_system, reduce};
 use it_space::Row;
@@ -19,7 +19,7 @@ use std::alloc::{AllocError, Global};
 
 /// The defined run, with as many steps as it takes.
 const DEFINED: Effort = Effort {
-    quick: false,
+    runs: Runs::Defined,
     pivots: None,
 };
 

@@ -10,14 +10,14 @@ use indexmap::IndexSet;
 use it_contain::{
     Candidate, Contained, Pair, Proposer, Shape, Singles, Subsets, contain, fits, obligations, pair,
 };
-use it_prove::{Effort, Proof, prove};
+use it_prove::{Effort, Proof, Runs, prove};
 use it_question::types::{Question, Verb};
 use it_space::Row;
 use std::alloc::{AllocError, Global};
 
 /// The defined run, with as many steps as it takes.
 const DEFINED: Effort = Effort {
-    quick: false,
+    runs: Runs::Defined,
     pivots: None,
 };
 

@@ -11,7 +11,7 @@ use crate::output::Output;
 use crate::reductions::elimination;
 use it_canon::{problem, target_rows};
 use it_problems::Problem;
-use it_prove::{Effort, Proof, prove, settle};
+use it_prove::{Effort, Proof, Runs, prove, settle};
 use it_question::types::{Question, Verb};
 use it_quick::QuickProblem;
 use it_space::Row;
@@ -20,7 +20,7 @@ use std::alloc::{AllocError, Global};
 
 /// The defined run, with as many steps as it takes.
 const DEFINED: Effort = Effort {
-    quick: false,
+    runs: Runs::Defined,
     pivots: None,
 };
 

@@ -16,7 +16,7 @@ use Rattle.it_demand.specs.Canonical.{IsRowOf}
 use Rattle.it_demand.specs.Origins.{AreStated}
 use Rattle.it_demand.specs.Targets.{negation, targets}
 use Rattle.it_canon.specs.TrueLines.{variable_count, AreTrueAt}
-use Rattle.it_canon.specs.QuestionDemands.{question_demands as demanded, question_origins, terms_in}
+use Rattle.it_canon.specs.QuestionDemands.{IsProblemOf, problem_of, question_demands as demanded, question_origins, terms_in}
 use Rattle.it_demand.specs.QuestionSpaces.{space_of}
 use Rattle.it_demand.specs.SystemForms.{AreRowsOf}
 use Rattle.it_question.specs.ProblemLines.{problem_names, problem_lines}
@@ -40,7 +40,7 @@ use Rattle.it_answer.specs.Shows.{IsCounterexample, ShowsBy, Refutes}
 use Rattle.it_answer.specs.DueEliminations.{IsDueElimination}
 use Rattle.it_answer.specs.DueRelations.{IsDueByRuns, IsDueRelation}
 use Rattle.it_answer.specs.Replies.{Reply}
-use Rattle.it_answer.specs.RightAnswers.{IsDueBy, IsRightAnswer, IsAnswered}
+use Rattle.it_answer.specs.RightAnswers.{IsDueBy, IsDueAnswer, IsAnswered, budgets_under}
 use Rattle.it_answer.specs.RowAnswers.{CertifyRows, RefutesFirst, ShowsRows, AnswersRows, AnswersForms, answer_after_one, answer_after_two}
 use Rattle.it_answer.proofs.FormLemmas.{generators_speak, by_forms, rows_add_up}
 
@@ -108,22 +108,30 @@ row_negation s f t u e h = subst (IsRowOf s (negation f)) (sym e) (record {
 -- ---- a right answer by the question's verb
 
 pub right_by_verb : (budgets : Budgets) (plans : List Plan) (q : BodyView) (verb : VerbView) (reply : Reply) → q.verb ≡ verb
-    → ShowsBy q verb reply.answer → IsDueBy budgets plans q verb reply → IsRightAnswer budgets plans q reply
+    → ShowsBy q verb reply.answer → IsDueBy budgets plans q verb reply → IsDueAnswer budgets plans q reply
 right_by_verb budgets plans q verb reply is x d = record {
   shows = subst (λ (v : VerbView). ShowsBy q v reply.answer) (sym is) x;
   due = subst (λ (v : VerbView). IsDueBy budgets plans q v reply) (sym is) d;
 }
 
+-- an answer that is due with the budgets under the code's problem is due with those under the question's
+pub answered_under : (budgets own : Budgets) (question : QuestionView) (p : ProblemView) → IsProblemOf question.body p → own ≡ budgets_under p budgets
+    → (plans plans_after : List Plan) (answer : Answer) → IsAnswered own plans question answer plans_after
+    → IsAnswered (budgets_under (problem_of question.body) budgets) plans question answer plans_after
+answered_under budgets own question p posed is plans plans_after answer x =
+    subst (λ (b : Budgets). IsAnswered b plans question answer plans_after)
+    (is ∙ ap (λ (r : ProblemView). budgets_under r budgets) (one_problem question.body p posed)) x
+
 -- where nothing was found, the boxes keep their plans
 
 pub nothing_found : (budgets : Budgets) (plans : List Plan) (question : QuestionView) (answer : Answer)
-    → IsRightAnswer budgets plans question.body (record { answer = answer_view answer; found = [] })
+    → IsDueAnswer budgets plans question.body (record { answer = answer_view answer; found = [] })
     → IsAnswered budgets plans question answer plans
 nothing_found budgets plans question answer x = record { found = []; right = x; learned = sym (after_none plans) }
 
 pub left_of_rows : (budgets : Budgets) (plans : List Plan) (q : BodyView) (rates : List ℕ) (answer : AnswerView) → q.verb ≡ Eliminate rates
     → ShowsBy q (Eliminate rates) answer → IsDueElimination budgets q rates answer
-    → IsRightAnswer budgets plans q (record { answer = answer; found = [] })
+    → IsDueAnswer budgets plans q (record { answer = answer; found = [] })
 left_of_rows budgets plans q rates answer is x d = right_by_verb budgets plans q (Eliminate rates) (record { answer = answer; found = [] }) is x (d, refl)
 
 -- ---- from rows to the meaning of the text
@@ -192,7 +200,7 @@ module _ (q : BodyView) (p : ProblemView) (e : p.space ≡ space_of (problem_nam
 
   pub answers_relation : (budgets : Budgets) (plans : List Plan) (r : RelationView) (answer : AnswerView) → q.verb ≡ Prove r
       → AnswersForms p (targets p.space.variables r) answer budgets.effort
-      → IsRightAnswer budgets plans q (record { answer = answer; found = [] })
+      → IsDueAnswer budgets plans q (record { answer = answer; found = [] })
   answers_relation budgets plans r answer is a =
       let shown = shown_targets q r answer (to_question_space (λ s. ShowsTargets q (targets s.variables r) answer)
       (show_targets (targets p.space.variables r) a.rows answer a.are a.answered.shows)) in

@@ -44,7 +44,7 @@ use Rattle.it_answer.specs.declared.types.Budgets.{Budgets}
 use Rattle.it_answer.specs.Forms.{CertifyAll}
 use Rattle.it_answer.specs.Shows.{ShowsBy, ShowsContained}
 use Rattle.it_answer.specs.DueContainments.{tried_of, FitsRegions, containment_goal, IsDueContainment}
-use Rattle.it_answer.specs.RightAnswers.{IsRightAnswer}
+use Rattle.it_answer.specs.RightAnswers.{IsDueAnswer}
 use Rattle.it_answer.specs.SearchAnswers.{answer_of_search, found_of}
 use Rattle.it_answer.proofs.AnswerLemmas.{right_by_verb, show_certificate}
 
@@ -183,13 +183,13 @@ module _ (q : BodyView) (a b : RegionView) (tries : List (List ℕ)) (p : Pair) 
 
     pub question_is_answered : (end : Contained) (first : List Candidate) (answer : AnswerView) → first ≡ tried_of b tries → answer ≡ answer_of_search end
         → SearchEnds (pair_goal p budgets.effort) budgets.tries (plan_of first plans (shape_of p)) plans end plans_after
-        → IsRightAnswer budgets plans q (record { answer = answer; found = found_of end }) × (plans_after ≡ map (plan_after_all (found_of end)) plans)
+        → IsDueAnswer budgets plans q (record { answer = answer; found = found_of end }) × (plans_after ≡ map (plan_after_all (found_of end)) plans)
     question_is_answered end first answer first_are answer_is e =
         let ends : SearchEnds (pair_goal p budgets.effort) budgets.tries plan plans end plans_after =
         subst (λ (cs : List Candidate). SearchEnds (pair_goal p budgets.effort) budgets.tries cs plans end plans_after)
         (ap₂ (λ cs s. plan_of cs plans s) first_are shape_is) e in
         let right = right_search end ends in (
-          subst (λ (x : AnswerView). IsRightAnswer budgets plans q (record { answer = x; found = found_of end })) (sym answer_is)
+          subst (λ (x : AnswerView). IsDueAnswer budgets plans q (record { answer = x; found = found_of end })) (sym answer_is)
               (right_by_verb budgets plans q (Contain a b tries) (record { answer = answer_of_search end; found = found_of end }) is right.0 right.1),
           learned_search end ends,
         )

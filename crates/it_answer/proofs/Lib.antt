@@ -8,3 +8,4 @@ pub mod TargetLemmas
 pub mod KindLemmas
 pub mod UniqueLemmas
 pub mod StartLemmas
+pub mod ReachLemmas

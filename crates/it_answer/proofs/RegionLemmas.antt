@@ -1,5 +1,5 @@
 -- What reduced elimination of the rows of the text ends with is the one right answer.
-use Rattle.std.proofs.Common.{◌≡◌, inl, inr, ◌↔◌, ℕ, ◌+◌, ◌^◌, ℤ, pos, ◌*ℤ◌, refl, sym, ap, ap₂, subst, ◌∙◌, arith, List, [], ◌∷◌, ◌++◌, length, map, All, Contains, false}
+use Rattle.std.proofs.Common.{◌≡◌, inl, inr, ◌↔◌, ℕ, ◌+◌, ◌^◌, ℤ, pos, ◌*ℤ◌, refl, sym, ap, ap₂, subst, ◌∙◌, arith, List, [], ◌∷◌, ◌++◌, length, map, All, Contains}
 use Rattle.std.proofs.lemmas.Int.{ints}
 use Rattle.std.proofs.lemmas.Nat.{pow_pos}
 use Rattle.it_space.specs.declared.answers.Cause.TheVariants.{Width}
@@ -24,6 +24,7 @@ use Rattle.it_demand.specs.RowsOfForms.{terms_of_form}
 use Rattle.it_demand.proofs.FormRows.{rows_are_terms_of_forms}
 use Rattle.it_eliminate.proofs.MemberLemmas.{Member, member_of}
 use Rattle.it_eliminate.specs.Projections.{IsPointOf, LacksCoordinate, Extends}
+use Rattle.it_prove.specs.declared.types.Runs.TheVariants.{Defined}
 use Rattle.it_redundant.specs.Reduction.{NeedView, Needed, Unsettled, kept_rows}
 use Rattle.it_redundant.specs.ReducedElimination.{ProjectedView, ReducedEnds}
 use Rattle.it_redundant.specs.ReducedElimination as projections
@@ -184,7 +185,7 @@ system_rows_are q s rows same are = rows_are_terms_of_forms s (system_forms s.va
 
 -- ---- there is one right answer
 
-pub one_elimination : (budgets : Budgets) (q : BodyView) (rates : List ℕ) (a b : AnswerView) → budgets.effort.quick ≡ false
+pub one_elimination : (budgets : Budgets) (q : BodyView) (rates : List ℕ) (a b : AnswerView) → budgets.effort.runs ≡ Defined
     → IsDueElimination budgets q rates a → IsDueElimination budgets q rates b → a ≡ b
 one_elimination budgets q rates a b defined x y = x.is
     ∙ ap answer_of_end (one_reduced_end (problem_of q) budgets.effort budgets.rows

@@ -24,7 +24,7 @@ use Rattle.it_contain.specs.Proposals.{Plan}
 use Rattle.it_answer.specs.declared.types.Budgets.{Budgets}
 use Rattle.it_answer.proofs.RegionLemmas.{not_width}
 use Rattle.it_answer.specs.DueRelations.{CauseIsDue}
-use Rattle.it_answer.specs.RightAnswers.{IsDueBy, IsRightAnswer, NoStepIsZero}
+use Rattle.it_answer.specs.RightAnswers.{IsDueBy, IsRightAnswer, NoStepIsZero, budgets_under}
 
 small_constraints : (q : BodyView) (p : ProblemView) → IsProblemOf q p → All (λ (c : Constraint). IsSmall c.row) p.constraints
 small_constraints q p is = zip-right (States p.space) (λ (c : Constraint). IsSmall c.row) (λ d c s. s.row.small)
@@ -51,4 +51,4 @@ module _ (q : BodyView) (k : IsQuestion q) (small : QuestionHasSmallNumbers q) (
 pub no_step_is_zero : NoStepIsZero
 no_step_is_zero = each_question (λ q. (budgets : Budgets) (plans : List Plan) (found : List Candidate)
     → IsRightAnswer budgets plans q.body (record { answer = answer_views.Undecided (Width 0); found = found }) → ⊥)
-    (λ q k small budgets plans found a. by_verb q.body k small budgets plans found q.body.verb refl a.due)
+    (λ q k small budgets plans found a. by_verb q.body k small (budgets_under (problem_of q.body) budgets) plans found q.body.verb refl a.due)

@@ -16,7 +16,9 @@ use Rattle.it_redundant.specs.ReducedElimination.{ProjectedView}
 use Rattle.it_redundant.specs.ReducedElimination as projections
 use Rattle.it_prove.specs.ProofViews.{ProofView, Yes, No, Undecided, EndsWith, AreProofsOf}
 use Rattle.it_prove.proofs.ProofLemmas.{one_outcome, proven_ascends}
+use Rattle.it_prove.proofs.ReachLemmas.{defined_in_reach}
 use Rattle.it_prove.specs.declared.types.Effort.{Effort}
+use Rattle.it_prove.specs.declared.types.Runs.TheVariants.{Defined}
 use Rattle.it_region.specs.declared.types.Candidate.{Candidate}
 use Rattle.it_region.specs.Obligations.{obligations}
 use Rattle.it_contain.specs.Proposals.{Plan}
@@ -28,7 +30,7 @@ use Rattle.it_answer.specs.Replies.{Reply}
 use Rattle.it_answer.specs.DueEliminations.{answer_of_end}
 use Rattle.it_answer.specs.DueContainments.{IsFound, IsDueBySearch, containment_goal}
 use Rattle.it_answer.specs.DueRelations.{PointIsDue, CauseIsDue, IsDueByRuns, IsDueRelation}
-use Rattle.it_answer.specs.RightAnswers.{IsDueBy, OneRightAnswer, ProofsAscend, AYesAscends}
+use Rattle.it_answer.specs.RightAnswers.{IsDueBy, OneRightAnswer, ProofsAscend, AYesAscends, budgets_under}
 
 -- ---- the answer that the runs, the elimination or the search end with
 
@@ -50,7 +52,7 @@ proven_not_open w c e = cc
 refuted_not_open : (xs : List ℤ) (c : Cause) → No xs ≡ Undecided c → ⊥
 refuted_not_open xs c e = cc
 
-module _ (p : ProblemView) (effort : Effort) (defined : effort.quick ≡ false) where
+module _ (p : ProblemView) (effort : Effort) (defined : effort.runs ≡ Defined) where
   same : (t : Terms) (o other : ProofView) → EndsWith p t effort o → EndsWith p t effort other → o ≡ other
   same t o other = one_outcome p t effort o other defined
 
@@ -137,7 +139,7 @@ module _ (p : ProblemView) (effort : Effort) (defined : effort.quick ≡ false) 
   one_due ts (answer_views.Contained parts proofs) b x y = absurd x
   one_due ts (answer_views.Open tried) b x y = absurd x
 
-one_for : (effort : Effort) (q : BodyView) (r : RelationView) (a b : AnswerView) → effort.quick ≡ false → IsDueRelation effort q r a
+one_for : (effort : Effort) (q : BodyView) (r : RelationView) (a b : AnswerView) → effort.runs ≡ Defined → IsDueRelation effort q r a
     → IsDueRelation effort q r b → a ≡ b
 one_for effort q r a b defined x y = one_due (problem_of q) effort defined (map (terms_in q) (targets (variable_count q) r)) a b x y
 
@@ -146,7 +148,7 @@ one_for effort q r a b defined x y = one_due (problem_of q) effort defined (map 
 abbrev reply_of : AnswerView → List Candidate → Reply
 reply_of answer found = record { answer = answer; found = found }
 
-module _ (q : BodyView) (a b : RegionView) (effort : Effort) (defined : effort.quick ≡ false) (tries : ℕ) (plan : List Candidate) where
+module _ (q : BodyView) (a b : RegionView) (effort : Effort) (defined : effort.runs ≡ Defined) (tries : ℕ) (plan : List Candidate) where
   abbrev proves : Goal
   proves = containment_goal q a b effort
 
@@ -198,7 +200,7 @@ module _ (q : BodyView) (a b : RegionView) (effort : Effort) (defined : effort.q
 without_found : (one other : AnswerView) (xs ys : List Candidate) → one ≡ other → xs ≡ [] → ys ≡ [] → reply_of one xs ≡ reply_of other ys
 without_found one other xs ys same e f = ap₂ reply_of same (e ∙ sym f)
 
-one_by : (budgets : Budgets) (plans : List Plan) (q : BodyView) (verb : VerbView) (a b : Reply) → budgets.effort.quick ≡ false
+one_by : (budgets : Budgets) (plans : List Plan) (q : BodyView) (verb : VerbView) (a b : Reply) → budgets.effort.runs ≡ Defined
     → IsDueBy budgets plans q verb a → IsDueBy budgets plans q verb b → a ≡ b
 one_by budgets plans q (Prove r) a b defined x y = without_found a.answer b.answer a.found b.found
     (one_for budgets.effort q r a.answer b.answer defined x.0 y.0) x.1 y.1
@@ -208,7 +210,8 @@ one_by budgets plans q (Contain first second tries) a b defined x y =
     one_search q first second budgets.effort defined budgets.tries _ a.found b.found a.answer b.answer x y
 
 pub one_right_answer : OneRightAnswer
-one_right_answer budgets plans q a b defined x y = one_by budgets plans q q.verb a b defined x.due y.due
+one_right_answer budgets plans q a b defined reach x y = one_by (budgets_under (problem_of q) budgets) plans q q.verb a b
+    (defined_in_reach (problem_of q) budgets.effort reach defined) x.due y.due
 
 -- ---- the certificates of an answer
 
@@ -250,4 +253,4 @@ ascends_by budgets plans q (Eliminate rates) reply d = region_ascends reply.answ
 ascends_by budgets plans q (Contain a b tries) reply d = search_ascends q a b budgets.effort budgets.tries _ reply.found reply.answer d
 
 pub a_yes_ascends : AYesAscends
-a_yes_ascends budgets plans q reply x = ascends_by budgets plans q q.verb reply x.due
+a_yes_ascends budgets plans q reply x = ascends_by (budgets_under (problem_of q) budgets) plans q q.verb reply x.due

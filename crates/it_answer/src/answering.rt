@@ -6,9 +6,9 @@ ghost use Rattle.it_syntax.specs.Givens.{IsRelationOf};
 ghost use Rattle.it_demand.specs.Origins.{AreStated};
 ghost use Rattle.it_demand.specs.QuestionSpaces.{space_of};
 ghost use Rattle.it_question.specs.ProblemLines.{problem_names};
-ghost use Rattle.it_canon.specs.QuestionDemands.{question_demands, question_origins, IsProblemOf};
+ghost use Rattle.it_canon.specs.QuestionDemands.{question_demands, question_origins, problem_of, IsProblemOf};
 ghost use Rattle.it_prove.specs.ProofViews.{proof_view};
-ghost use Rattle.it_answer.specs.RightAnswers.{IsAnswered};
+ghost use Rattle.it_answer.specs.RightAnswers.{IsAnswered, budgets_under};
 ghost use Rattle.it_answer.specs.RowAnswers.{AnswersEquality, AnswersInequality, AnswersRelation, answer_after_one, answer_after_two};
 
 use crate::containments::containment;
@@ -24,8 +24,8 @@ use it_space::{Answer, Certificate};
 use it_syntax::types::{Relation, Sign};
 use std::alloc::{AllocError, Global};
 
-/// A right answer to a question, within the budgets. The boxes propose what a containment tries after its `try` lines, and learn of
-/// the candidate that it finds, for later questions.
+/// A right answer to a question, within the budgets; where the defined run about the question's problem is out of reach, by quick runs
+/// alone. The boxes propose what a containment tries after its `try` lines, and learn of the candidate that it finds, for later questions.
 pub fn answer(
     alloc: Global,
     question: &Question,
@@ -34,10 +34,11 @@ pub fn answer(
 ) -> Result<AnsweredProblem, AllocError>
     ensures space { IfOk result (λ a. a.problem.space ≡ space_of (problem_names question.now.body)) }
     ensures problem { IfOk result (λ a. AreStated a.problem.space (question_origins question.now.body) (question_demands question.now.body) a.problem.constraints) }
-    ensures answered { IfOk result (λ a. IsAnswered budgets (map plan boxes.old.items) question.now a.answer (map plan boxes.new.items)) }
+    ensures answered { IfOk result (λ a. IsAnswered (budgets_under (problem_of question.now.body) budgets) (map plan boxes.old.items) question.now a.answer (map plan boxes.new.items)) }
 {
     let problem = problem(alloc, question)?;
-    let answer = answer_under(alloc, question, &problem, budgets, boxes)?;
+    let own = budgets.under(alloc, &problem)?;
+    let answer = answer_under(alloc, question, &problem, own, boxes)?;
     Ok(AnsweredProblem { problem, answer })
 }
 

@@ -11,7 +11,10 @@ mod targets;
 mod types;
 
 pub use answering::answer;
-pub use laws::{answers_are_determined, never_yes_and_no, no_step_is_zero, shown_answers_are_true};
+pub use laws::{
+    answers_are_determined, files_are_in_reach, never_yes_and_no, no_step_is_zero,
+    shown_answers_are_true,
+};
 pub use regions::marked_rows;
 pub use targets::target_rows;
 pub use types::{AnsweredProblem, Budgets};

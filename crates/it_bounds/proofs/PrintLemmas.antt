@@ -18,6 +18,7 @@ use Rattle.it_elemental.specs.Generators.{forms_of, generator_list, generators}
 use Rattle.it_check.specs.Meaning.{CertifiesRow}
 use Rattle.it_syntax.specs.NamesViews.{NamesView}
 use Rattle.it_question.specs.Limits.{IsQuestion}
+use Rattle.it_question.specs.declared.sizes.FileLimits.{FileLimits}
 use Rattle.it_question.specs.Questions.{BodyView, Eliminate}
 use Rattle.it_question.specs.ProblemLines.{problem_names, names_under}
 use Rattle.it_demand.specs.QuestionSpaces.{space_of}
@@ -78,7 +79,7 @@ rows_of_names v rows over = All-weaker (λ (row : Mark × Terms). IsOver (size_o
 
 -- ---- replies
 
-module _ (q : BodyView) (p : ProblemView) (posed : IsProblemOf (under_all_lines q) p) (limits : Limits) (gone : List ℕ) (k : IsQuestion q)
+module _ (q : BodyView) (p : ProblemView) (posed : IsProblemOf (under_all_lines q) p) (file : FileLimits) (limits : Limits) (gone : List ℕ) (k : IsQuestion q)
     (few_rows : limits.rows ≤ 65535) (asked : q.verb ≡ Eliminate gone) where
   own_names : problem_names q ≡ q.names
   own_names = ap (names_under q.names) asked
@@ -92,18 +93,18 @@ module _ (q : BodyView) (p : ProblemView) (posed : IsProblemOf (under_all_lines 
   cause_printable : (cause : OuterCause) → SearchEnds (search_without p gone limits) (EndsUndecided (cause_view cause))
       → IsCausePrintable (problem_names q) cause
   cause_printable (causes.Run row cause) e =
-      let r = cause_over p gone limits posed.limits (rates_within q p posed limits gone k few_rows asked)
+      let r = cause_over p gone limits posed.limits (rates_within q p posed file limits gone k few_rows asked)
       (eliminated_rates q gone k asked).some few_rows row cause e in
       (row_of_names (problem_names q) row (at_names (λ s. IsOver (size_of s) row) r.0), r.1)
   cause_printable causes.Rows e = tt
   cause_printable causes.Width e = tt
   cause_printable causes.Rays e = tt
 
-  pub reply_printable : (reply : Reply) → IsReplyByRows limits p gone (reply_view reply) → IsPrintable q (length p.constraints) reply
+  pub reply_printable : (reply : Reply) → IsReplyByRows file limits p gone (reply_view reply) → IsPrintable q (length p.constraints) reply
   reply_printable (replies.Bounded rows proofs rays) b = (
     as_many p rows.items proofs.items b.bounds.certified,
     rows_of_names (problem_names q) rows.items (at_names (λ s. All (IsOver (size_of s)) (region_rows rows.items))
-        (bounds_over p gone limits posed.limits (rates_within q p posed limits gone k few_rows asked)
+        (bounds_over p gone limits posed.limits (rates_within q p posed file limits gone k few_rows asked)
         (eliminated_rates q gone k asked).some few_rows (region_rows rows.items) _ _ b.ends).0),
     at_names (λ s. AreListed s.variables (length p.constraints) proofs.items)
         (all_of (λ (c : Certificate). All (λ w. w.0 < length (elementals p.space.variables) + length p.constraints) c.weights.items)

@@ -1,5 +1,5 @@
 -- What holds of each hull of a search holds where it ends.
-use Rattle.std.proofs.Common.{◌≡◌, inl, inr, ℕ, zero, suc, ◌+◌, ◌-◌, ◌*◌, ◌^◌, ◌≤◌, ◌<◌, ℤ, List, [], ◌∷◌, ◌++◌, length, Bool, true, false, if◌then◌else◌, nat_eq, refl, sym, subst, arith, All, None}
+use Rattle.std.proofs.Common.{◌≡◌, inl, inr, ℕ, zero, suc, ◌+◌, ◌-◌, ◌*◌, ◌^◌, ◌≤◌, ◌<◌, ℤ, List, [], ◌∷◌, ◌++◌, length, Bool, true, false, if◌then◌else◌, nat_eq, refl, sym, subst, arith, All}
 use Rattle.std.specs.List.{list_any}
 use Rattle.std.proofs.lemmas.List.{length-map}
 use Rattle.std.proofs.lemmas.List.Elements.{All-head}
@@ -16,8 +16,8 @@ use Rattle.it_eliminate.specs.Elimination as elimination
 use Rattle.it_eliminate.proofs.MemberLemmas.{all_back}
 use Rattle.it_prove.specs.declared.types.Effort.{Effort}
 use Rattle.it_prove.specs.ProofViews as proofs
-use Rattle.it_prove.specs.ProofViews.{ProofView, EndsWith, Follows}
-use Rattle.it_prove.proofs.ProofLemmas.{never_out_of_steps}
+use Rattle.it_prove.specs.ProofViews.{ProofView, EndsWith, Follows, IsUnbound}
+use Rattle.it_prove.proofs.ProofLemmas.{never_out_of_steps, quick_cause}
 use Rattle.it_redundant.specs.Reduction.{NeedView, Reduces, kept_by, kept_rows}
 use Rattle.it_redundant.proofs.ReductionLemmas.{all_kept}
 use Rattle.it_hull.specs.Hulls.{first_rows}
@@ -105,13 +105,13 @@ cause_of_run q row effort cause (inl e) = by_end e.end e.follows
     by_end (runs.Point qs) (inr f) = by_cause Scale tt f.1
     by_end (runs.Pivots k) f = by_cause (Pivots k) tt f
     by_end (runs.Width k) f = by_cause (WideStep k) tt f
-cause_of_run q row effort cause (inr (quick, settled)) = absurd settled
+cause_of_run q row effort cause (inr e) = subst (λ (c : Cause). IsOfRun c) (sym (quick_cause effort.runs q row cause e)) tt
 
--- without a budget no row is left for lack of steps
-pub search_never_out_of_steps : (s : Search) (row : Terms) (k : ℕ) → s.limits.effort.pivots ≡ None → SearchEnds s (Undecided (Run row (Pivots k))) → ⊥
-search_never_out_of_steps s row k none e =
+-- where the defined run is made without a budget no row is left for lack of steps
+pub search_never_out_of_steps : (s : Search) (row : Terms) (k : ℕ) → IsUnbound s.limits.effort → SearchEnds s (Undecided (Run row (Pivots k))) → ⊥
+search_never_out_of_steps s row k unbound e =
     let h = of_search s (λ rows. Unit {0}) tt (λ rows next ray p n. tt) (Undecided (Run row (Pivots k))) e in
-    never_out_of_steps s.problem row s.limits.effort k none h.2.ends
+    never_out_of_steps s.problem row s.limits.effort k unbound h.2.ends
 
 -- ---- the rows are of the space, and few
 

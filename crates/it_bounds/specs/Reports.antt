@@ -3,8 +3,12 @@ use Rattle.std.specs.Prelude.{◌≡◌, ℕ, List, ◌++◌, ◌≤◌, length,
 use Rattle.it_space.specs.Spaces.{size_of}
 use Rattle.it_hull.specs.Hulls.{first_rows}
 use Rattle.it_spans.specs.Spans.{StepView}
+use Rattle.it_closure.specs.Sizes.{most_variables_in_reach}
+use Rattle.it_prove.specs.declared.types.Runs.TheVariants.{Defined}
 use Rattle.it_syntax.specs.NamesViews.{NamesView}
 use Rattle.it_question.specs.Questions.{BodyView, QuestionView}
+use Rattle.it_question.specs.QuestionLimits.{usual}
+use Rattle.it_question.specs.declared.sizes.FileLimits.{FileLimits}
 use Rattle.it_question.specs.ProblemLines.{problem_names}
 use Rattle.it_demand.specs.QuestionSpaces.{space_of}
 use Rattle.it_canon.specs.QuestionDemands.{question_origins}
@@ -18,7 +22,7 @@ use Rattle.it_bounds.specs.declared.types.Reply.{Reply}
 use Rattle.it_bounds.specs.declared.types.Reply.TheVariants as replies
 use Rattle.it_bounds.specs.Lines.{IsCausePrintable, bounds_cause_text, reply_lines}
 use Rattle.it_bounds.specs.Replies.{ReplyView, Bounded, Undecided, Size, Other}
-use Rattle.it_bounds.specs.RightReplies.{IsRightReply}
+use Rattle.it_bounds.specs.RightReplies.{IsRightReply, limits_for}
 
 -- a reply, and the steps that make the hull of its rays, if there are any
 pub record ToldReply : Type 0 where
@@ -27,12 +31,13 @@ pub record ToldReply : Type 0 where
 
 -- the steps are those of the rays, where a report is asked for and the reply has rays
 abbrev pub AreToldSteps : Bool → Limits → BodyView → ReplyView → Option (List StepView) → Type 0
-AreToldSteps true limits q (Bounded rows proofs rays) steps = AreMade (hull_frame limits.rows q) limits.effort (first_rows (kept_rates q (gone_rates q.verb))) rays steps
+AreToldSteps true limits q (Bounded rows proofs rays) steps = AreMade (hull_frame limits.rows q) (limits_for q limits).effort
+    (first_rows (kept_rates q (gone_rates q.verb))) rays steps
 AreToldSteps report limits q reply steps = steps ≡ None
 
 -- the right reply to a question, with the steps that are asked for
-pub record IsRightTold (report : Bool) (limits : Limits) (q : BodyView) (told : ToldReply) : Type 0 where
-  pub reply : IsRightReply limits q told.reply
+pub record IsRightTold (report : Bool) (file : FileLimits) (limits : Limits) (q : BodyView) (told : ToldReply) : Type 0 where
+  pub reply : IsRightReply file limits q told.reply
   pub steps : AreToldSteps report limits q told.reply told.steps
 
 -- ---- as the line of a report
@@ -70,6 +75,8 @@ IsToldReply q replies.Other = Unit {0}
 
 -- ---- what follows
 
--- where no quick run comes first, one reply with steps is right
+-- where the defined run alone is asked for, one reply with steps to a question of a file with the usual limits, of so few variables, is
+-- right
 abbrev pub OneRightTold : Type 0
-OneRightTold = (report : Bool) (limits : Limits) (q : BodyView) (a b : ToldReply) → limits.effort.quick ≡ false → IsRightTold report limits q a → IsRightTold report limits q b → a ≡ b
+OneRightTold = (report : Bool) (limits : Limits) (q : BodyView) (a b : ToldReply) → limits.effort.runs ≡ Defined
+    → length q.names.variables ≤ most_variables_in_reach → IsRightTold report usual limits q a → IsRightTold report usual limits q b → a ≡ b

@@ -1,23 +1,28 @@
 -- Right replies to questions in mode `outer`: they show what they say, by the meaning of the question's text alone, and they are due: the
 -- search, and a reduction for the marks, end with them. And what follows.
-use Rattle.std.specs.Prelude.{◌≡◌, ℕ, ℤ, List, [], ◌∷◌, map, All, Option, Some, None, false}
+use Rattle.std.specs.Prelude.{◌≡◌, ℕ, ◌≤◌, ℤ, List, [], ◌∷◌, length, map, All, Option, Some, None}
 use Rattle.it_space.specs.declared.answers.Cause.TheVariants.{Pivots}
 use Rattle.it_space.specs.declared.answers.Mark.{Mark}
 use Rattle.it_space.specs.declared.answers.Mark.TheVariants as marks
 use Rattle.it_space.specs.declared.spaces.Space.{Space}
 use Rattle.it_space.specs.Answers.{CertificateView}
 use Rattle.it_space.specs.Rows.{Terms, value}
-use Rattle.it_question.specs.Files.{IsFile}
+use Rattle.it_question.specs.declared.sizes.FileLimits.{FileLimits}
+use Rattle.it_question.specs.Files.{IsFileWithin}
 use Rattle.it_question.specs.Questions.{BodyView, QuestionView}
-use Rattle.it_question.specs.TableSizes.{HasSmallTable}
+use Rattle.it_question.specs.QuestionLimits.{usual}
+use Rattle.it_question.specs.TableSizes.{HasTableWithin}
 use Rattle.it_demand.specs.QuestionSpaces.{space_of}
 use Rattle.it_canon.specs.QuestionDemands.{problem_of}
+use Rattle.it_closure.specs.Sizes.{most_variables_in_reach}
+use Rattle.it_prove.specs.ProofViews.{IsUnbound}
 use Rattle.it_prove.specs.declared.types.Effort.{Effort}
+use Rattle.it_prove.specs.declared.types.Runs.TheVariants.{Defined}
 use Rattle.it_redundant.specs.Reduction.{NeedView, Reduces}
 use Rattle.it_hull.specs.Hulls.{IsHull}
 use Rattle.it_outer.specs.declared.types.Limits.{Limits}
 use Rattle.it_hull.specs.Constants.{constants}
-use Rattle.it_outer.specs.Outer.{OuterView, CauseView, Run, search_without}
+use Rattle.it_outer.specs.Outer.{OuterView, CauseView, Run, limits_under, search_without}
 use Rattle.it_outer.specs.Outer as outers
 use Rattle.it_outer.specs.Search.{SearchEnds}
 use Rattle.it_answer.specs.DueEliminations.{marked_rows}
@@ -61,33 +66,45 @@ MarksEnd s effort rows = (kept : List (Terms × NeedView)) × (dropped : List (T
 abbrev pub Ends : Limits → BodyView → List ℕ → OuterView → Type 0
 Ends limits q gone end = SearchEnds (search_without (problem_of (under_all_lines q)) gone limits) end
 
--- Where a question asks to eliminate rates, the reply is that the table of the problem that all lines pose is too large, exactly where it
--- is; else it is what the search ends with. To any other question it is `Other`.
-abbrev pub IsDue : Limits → BodyView → Option (List ℕ) → ReplyView → Type 0
-IsDue limits q (Some gone) (Bounded rows proofs rays) = HasSmallTable (under_all_lines q) × Ends limits q gone (outers.Bounds (region_rows rows) proofs rays)
-    × MarksEnd (space_of q.names) limits.effort rows
-IsDue limits q (Some gone) (Undecided cause) = HasSmallTable (under_all_lines q) × Ends limits q gone (outers.Undecided cause)
-IsDue limits q (Some gone) Size = ¬ (HasSmallTable (under_all_lines q))
-IsDue limits q None Other = Unit {0}
-IsDue limits q asked reply = ⊥
+-- Where a question asks to eliminate rates, the reply is that the table of the problem that all lines pose is too large for a file with
+-- these limits, exactly where it is; else it is what the search ends with. To any other question it is `Other`.
+abbrev pub IsDue : FileLimits → Limits → BodyView → Option (List ℕ) → ReplyView → Type 0
+IsDue file limits q (Some gone) (Bounded rows proofs rays) = HasTableWithin file (under_all_lines q)
+    × Ends limits q gone (outers.Bounds (region_rows rows) proofs rays) × MarksEnd (space_of q.names) limits.effort rows
+IsDue file limits q (Some gone) (Undecided cause) = HasTableWithin file (under_all_lines q) × Ends limits q gone (outers.Undecided cause)
+IsDue file limits q (Some gone) Size = ¬ (HasTableWithin file (under_all_lines q))
+IsDue file limits q None Other = Unit {0}
+IsDue file limits q asked reply = ⊥
 
 -- ---- right replies
 
--- a right reply to a question: it shows what it says, and it is due
-pub record IsRightReply (limits : Limits) (q : BodyView) (reply : ReplyView) : Type 0 where
+-- a reply to a question that shows what it says, and is due with these limits of its file and of the search
+pub record IsDueReply (file : FileLimits) (limits : Limits) (q : BodyView) (reply : ReplyView) : Type 0 where
   pub shows : ShowsReply q reply
-  pub due : IsDue limits q (eliminated_by q.verb) reply
+  pub due : IsDue file limits q (eliminated_by q.verb) reply
+
+-- the limits for a question: quick runs alone decide rows where the defined run about the problem that all lines pose is out of reach
+abbrev pub limits_for : BodyView → Limits → Limits
+limits_for q limits = limits_under (problem_of (under_all_lines q)) limits
+
+-- a right reply to a question within these limits
+abbrev pub IsRightReply : FileLimits → Limits → BodyView → ReplyView → Type 0
+IsRightReply file limits q reply = IsDueReply file (limits_for q limits) q reply
 
 -- ---- what follows
 
--- where no quick run comes first a question has one right reply
+-- where the defined run alone is asked for, a question of a file with the usual limits, of so few variables that the run is in reach, has
+-- one right reply
 abbrev pub OneRightReply : Type 0
-OneRightReply = (limits : Limits) (q : BodyView) (a b : ReplyView) → limits.effort.quick ≡ false → IsRightReply limits q a → IsRightReply limits q b → a ≡ b
+OneRightReply = (limits : Limits) (q : BodyView) (a b : ReplyView) → limits.effort.runs ≡ Defined → length q.names.variables ≤ most_variables_in_reach
+    → IsRightReply usual limits q a → IsRightReply usual limits q b → a ≡ b
 
--- without a budget no reply is undecided for lack of steps
+-- where the defined run is made without a budget, no reply to such a question is undecided for lack of steps
 abbrev pub NeverOutOfSteps : Type 0
-NeverOutOfSteps = (limits : Limits) (q : BodyView) (row : Terms) (k : ℕ) → limits.effort.pivots ≡ None → IsRightReply limits q (Undecided (Run row (Pivots k))) → ⊥
+NeverOutOfSteps = (limits : Limits) (q : BodyView) (row : Terms) (k : ℕ) → IsUnbound limits.effort → length q.names.variables ≤ most_variables_in_reach
+    → IsRightReply usual limits q (Undecided (Run row (Pivots k))) → ⊥
 
 -- what a reply to a question of a file shows is true
 abbrev pub WhatIsShownIsTrue : Type 0
-WhatIsShownIsTrue = (bytes : List ℕ) (qs : List QuestionView) → IsFile bytes qs → All (λ q. (reply : ReplyView) → ShowsReply q.body reply → IsTrueReply q.body reply) qs
+WhatIsShownIsTrue = (limits : FileLimits) (bytes : List ℕ) (qs : List QuestionView) → IsFileWithin limits bytes qs
+    → All (λ q. (reply : ReplyView) → ShowsReply q.body reply → IsTrueReply q.body reply) qs

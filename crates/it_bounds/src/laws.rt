@@ -9,8 +9,8 @@ pub fn shown_bounds_are_true()
     ensures { WhatIsShownIsTrue }
 {}
 
-/// Where no quick run comes first, a question has one right reply, and its report one list of steps. With any effort, no reply is
-/// undecided for lack of steps where there is no budget of them.
+/// Where the defined run alone is asked for, a question of so few variables that it is in reach has one right reply, and its report one
+/// list of steps. Where that run is made without a budget of steps, no reply is undecided for lack of them.
 pub fn replies_are_determined()
     ensures one { OneRightReply }
     ensures steps { NeverOutOfSteps }

@@ -12,6 +12,7 @@ ghost use Rattle.it_bounds.specs.HullSteps.{AreMade};
 ghost use Rattle.it_bounds.specs.Replies.{reply_view};
 ghost use Rattle.it_bounds.specs.Reports.{AreToldSteps, IsToldReply, IsToldReport, unreported};
 ghost use Rattle.it_bounds.specs.ReportViews.{IsBounded, IsBoundsReport, IsToldCause};
+ghost use Rattle.it_bounds.specs.RightReplies.{limits_for};
 ghost use Rattle.it_space.specs.Rows.{most_system_rows};
 
 use crate::lines::write_cause;
@@ -22,7 +23,7 @@ use it_certificate::{ReportedBounds, SourceText, bounds_json, misfit_json, unmar
 use it_hull::kept_coordinates;
 use it_outer::Limits;
 use it_question::types::Question;
-use it_rates::gone_rates;
+use it_rates::{gone_rates, problem_of_lines};
 use it_space::{Certificate, Point};
 use it_spans::{Frame, Step};
 use it_syntax::Names;
@@ -85,13 +86,31 @@ fn told_steps(
 {
     match reply {
         Reply::Bounded { rays, .. } => {
-            let steps = steps_of(alloc, limits, question, rays.as_slice())?;
+            let steps = steps_for(alloc, limits, question, rays.as_slice())?;
             Ok(steps)
         }
         Reply::Undecided(_) => Ok(None),
         Reply::Size => Ok(None),
         Reply::Other => Ok(None),
     }
+}
+
+/// The steps that make the hull of rays, with the limits for the question.
+fn steps_for(
+    alloc: Global,
+    limits: Limits,
+    question: &Question,
+    rays: &[Point],
+) -> Result<Option<Vec<Step>>, AllocError>
+    requires few_rows { limits.rows ≤ most_system_rows }
+    requires asked { 1 ≤ length (gone_rates question.now.body.verb) }
+    requires rays { All (λ ray. length ray ≡ size_of (space_of question.now.body.names)) rays.now }
+    ensures { IfOk result (λ s. AreMade (hull_frame limits.rows question.now.body) (limits_for question.now.body limits).effort (first_rows (kept_rates question.now.body (gone_rates question.now.body.verb))) rays.now (option_map (λ v. step_views v.items) s)) }
+{
+    let problem = problem_of_lines(alloc, question)?;
+    let own = limits.under(alloc, &problem)?;
+    let steps = steps_of(alloc, own, question, rays)?;
+    Ok(steps)
 }
 
 /// The steps that make the hull of rays, where the question asks to eliminate rates: multipliers stand at the first of these.

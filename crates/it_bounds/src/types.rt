@@ -15,7 +15,7 @@ pub enum Reply {
     },
     /// The search has no end within its limits, and why.
     Undecided(OuterCause),
-    /// With all lines given the question's table is too large.
+    /// With all lines given the question's table is too large for its file.
     Size,
     /// To any other verb.
     Other,

@@ -13,7 +13,8 @@ use Rattle.it_polymatroid.specs.Certificates.{Form}
 use Rattle.it_syntax.specs.Givens.{IsRelationOf, IsGivenOf}
 use Rattle.it_syntax.specs.Meaning.{RelationView}
 use Rattle.it_syntax.specs.NamesViews.{NamesView}
-use Rattle.it_question.specs.Files.{IsFile}
+use Rattle.it_question.specs.declared.sizes.FileLimits.{FileLimits}
+use Rattle.it_question.specs.Files.{IsFileWithin}
 use Rattle.it_question.specs.Limits.{IsVerbOver, IsQuestion}
 use Rattle.it_question.specs.OwnLines.{OwnLinesView}
 use Rattle.it_question.specs.Questions.{VerbView, Prove, Eliminate, Contain, BodyView, QuestionView}
@@ -151,9 +152,9 @@ module _ (q : BodyView) (k : IsQuestion q) (small : QuestionHasSmallNumbers q) w
 
 -- what follows from the limits and from small numbers
 pub each_question : (P : QuestionView → Type 0) → ((q : QuestionView) → IsQuestion q.body → QuestionHasSmallNumbers q.body → P q)
-    → (bytes : List ℕ) (qs : List QuestionView) → IsFile bytes qs → All P qs
-each_question P f bytes qs file = all_of P qs (every_from_both qs (every_of (λ (q : QuestionView). IsQuestion q.body) qs
-    (file_limits bytes qs file)) (file_has_small_numbers bytes qs file))
+    → (limits : FileLimits) (bytes : List ℕ) (qs : List QuestionView) → IsFileWithin limits bytes qs → All P qs
+each_question P f limits bytes qs file = all_of P qs (every_from_both qs (every_of (λ (q : QuestionView). IsQuestion q.body) qs
+    (file_limits limits bytes qs file)) (file_has_small_numbers limits bytes qs file))
   where
     every_from_both : (qs : List QuestionView) → Every (λ (q : QuestionView). IsQuestion q.body) qs
         → Every (λ (q : QuestionView). QuestionHasSmallNumbers q.body) qs → Every P qs

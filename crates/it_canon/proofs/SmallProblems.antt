@@ -2,9 +2,9 @@
 use Rattle.std.proofs.Common.{◌≤◌, sym, subst}
 use Rattle.std.proofs.lemmas.List.Elements.{All-weaker}
 use Rattle.it_problems.specs.Problems.{ProblemView}
-use Rattle.it_closure.specs.Sizes.{table_size}
+use Rattle.it_closure.specs.Sizes.{most_entries, table_size}
 use Rattle.it_question.specs.Questions.{BodyView, QuestionView}
-use Rattle.it_question.specs.TableSizes.{most_entries, HasSmallTable}
+use Rattle.it_question.specs.TableSizes.{HasSmallTable}
 use Rattle.it_question.proofs.FileReadings.{file_has_small_tables}
 use Rattle.it_canon.specs.QuestionDemands.{IsProblemOf}
 use Rattle.it_canon.specs.Theorems.{TableIsSmall}

@@ -77,7 +77,7 @@ shape_of q rows fits = fits
 
 pub origins_read_back : OriginsReadBack
 unfolding report_of
-origins_read_back q rows ws short file fits =
+origins_read_back limits q rows ws short file fits =
     let v = q.body.names in
     let d = derived_value q.text v rows ws in
     let others = other_key q.text v rows ws in

@@ -358,7 +358,7 @@ other_key text v (Open tried) = (refl, refl)
 
 pub reads_back : ReadsBack
 unfolding report_of
-reads_back q a short file fits =
+reads_back limits q a short file fits =
     let d = answer_value q.text q.body.names a in
     let others = other_key q.text q.body.names a in
     record {

@@ -10,6 +10,7 @@ use Rattle.it_forms.specs.Forms.{Form, Give, Take, Then}
 use Rattle.it_forms.specs.Letters.{Letter}
 use Rattle.it_forms.proofs.FormParts.{Always, Fact, always_weaker}
 use Rattle.it_syntax.specs.NamesViews.{NamesView}
+use Rattle.it_question.specs.declared.sizes.FileLimits.{FileLimits}
 use Rattle.it_question.specs.Lines.{split_lines, letters_of_lines}
 use Rattle.it_question.specs.QuestionForms.{file}
 use Rattle.it_question.specs.Questions.{BodyView, QuestionView}
@@ -18,7 +19,7 @@ use Rattle.it_question.proofs.WholeFileLemmas.{said}
 use Rattle.it_copy.specs.CopyForms.{more_copies, copy_file}
 use Rattle.it_copy.specs.CopyLines.{CopyView}
 use Rattle.it_copy.specs.Equations.{inside_equation, inside_equations, apart_equation, copy_equations}
-use Rattle.it_copy.specs.Extensions.{equations_at, equations_of, extended, placed, with_copy}
+use Rattle.it_copy.specs.Extensions.{equations_at, equations_of, extended, named_parts, with_copy}
 use Rattle.it_copy.specs.Files.{copies_with_questions, IsCopyFile}
 use Rattle.it_copy.proofs.CopyOutlines.{copy_file_has}
 use Rattle.std.specs.Prelude.{codes}
@@ -45,17 +46,18 @@ use Rattle.it_certificate.specs.Sources.{IsSourceOf, Source, Text, Copies, Shari
 
 -- ---- the questions of a file
 
-copy_file_small : Always copy_file (λ p y. AreSmall p → Every QuestionHasSmallNumbers y.1)
+copy_file_small : (limits : FileLimits) → Always (copy_file limits) (λ p y. AreSmall p → Every QuestionHasSmallNumbers y.1)
 unfolding copy_file Always
-copy_file_small = always_any (more_copies []) _ (λ p copies. always_weaker file _ _
-    (λ q ys h small. h (front_small q [] (rest_small p (q ++ []) small))) file_small)
+copy_file_small limits = always_any (more_copies []) _ (λ p copies. always_weaker (file limits) _ _
+    (λ q ys h small. h (front_small q [] (rest_small p (q ++ []) small))) (file_small limits))
 
-pub copied_questions_have_small_numbers : (bytes : List ℕ) (copies : List CopyView) (qs : List QuestionView) → IsCopyFile bytes copies qs
+pub copied_questions_have_small_numbers : (limits : FileLimits) (bytes : List ℕ) (copies : List CopyView) (qs : List QuestionView)
+    → IsCopyFile limits bytes copies qs
     → Every (λ (q : QuestionView). QuestionHasSmallNumbers q.body) qs
-copied_questions_have_small_numbers bytes copies qs asked =
+copied_questions_have_small_numbers limits bytes copies qs asked =
     let small = lines_small 1 (split_lines bytes) asked.lines asked.cut in
-    let all = always_said copy_file _ copy_file_has (λ p y. AreSmall p → Every QuestionHasSmallNumbers y.1) copy_file_small
-    (letters_of_lines asked.lines) asked.tree.0 (said copy_file copies_with_questions bytes (copies, qs) asked) small in
+    let all = always_said (copy_file limits) _ (copy_file_has limits) (λ p y. AreSmall p → Every QuestionHasSmallNumbers y.1) (copy_file_small limits)
+    (letters_of_lines asked.lines) asked.tree.0 (said (copy_file limits) copies_with_questions bytes (copies, qs) asked) small in
     subst (λ (w : List CopyView × List QuestionView). Every (λ (q : QuestionView). QuestionHasSmallNumbers q.body) w.1) asked.says
     (texts_apart (drop (length asked.tree.0.0) asked.lines) asked.tree.0.1 all)
 
@@ -80,8 +82,8 @@ placed_small v (Some x) = copy_small (length v.variables) x.0 x.1
 
 equations_small : (v : NamesView) (cs : List CopyView) → Every GivenHasSmallNumbers (equations_of v cs)
 equations_small v [] = tt
-equations_small v (c ∷ cs) = every-append GivenHasSmallNumbers (option_map_or (λ (x : ℕ × ℕ). equations_at v x) (placed v c) [])
-    (equations_of (with_copy v c) cs) (placed_small v (placed v c)) (equations_small (with_copy v c) cs)
+equations_small v (c ∷ cs) = every-append GivenHasSmallNumbers (option_map_or (λ (x : ℕ × ℕ). equations_at v x) (named_parts v c) [])
+    (equations_of (with_copy v c) cs) (placed_small v (named_parts v c)) (equations_small (with_copy v c) cs)
 
 pub extended_has_small_numbers : (q : BodyView) (cs : List CopyView) → QuestionHasSmallNumbers q → QuestionHasSmallNumbers (extended q cs)
 extended_has_small_numbers q cs small = (
@@ -132,22 +134,22 @@ give_is : {A : Type 0} (a : A) (P : Fact A) → P [] a → Always (Give a) P
 unfolding Always
 give_is a P h = h
 
-sharing_small : Always sharing (λ p x. AreSmall p → HasSmallNumbers x.relation)
+sharing_small : (limits : FileLimits) → Always (sharing limits) (λ p x. AreSmall p → HasSmallNumbers x.relation)
 unfolding sharing
-sharing_small =
+sharing_small limits =
     then_any (Take (word (codes "secret"))) _ _ (λ k u. then_any secret_name _ _ (λ p secret.
-    then_any (Take (word (codes "parties"))) _ _ (λ l u. then_any (party_names secret) _ _ (λ q all.
+    then_any (Take (word (codes "parties"))) _ _ (λ l u. then_any (party_names limits secret) _ _ (λ q all.
     then_any (Take (word (codes "qualified"))) _ _ (λ m u. then_any (to_end (names (party_env all))) _ _ (λ r first.
     then_any (more_lists (party_env all) (first ∷ [])) _ _ (λ s lists. then_by (aim all) _ _ _ (aim_small all) (λ t asked h. then_any file_end _ _ (λ n u.
     give_is _ _ (λ small. h (front_small t _ (rest_small s _ (rest_small r _
     (rest_small m _ (rest_small q _ (rest_small l _ (rest_small p _ (rest_small k _ small))))))))))))))))))
 
-relation_of_file : (bytes : List ℕ) (x : SharingView) → IsSharingFile bytes x → HasSmallNumbers x.relation
-relation_of_file bytes x asked =
+relation_of_file : (limits : FileLimits) (bytes : List ℕ) (x : SharingView) → IsSharingFile limits bytes x → HasSmallNumbers x.relation
+relation_of_file limits bytes x asked =
     let small = lines_small 1 (split_lines bytes) asked.lines asked.cut in
     subst (λ (y : SharingView). HasSmallNumbers y.relation) asked.says
-    (always_said sharing _ sharing_has (λ p y. AreSmall p → HasSmallNumbers y.relation) sharing_small
-    (letters_of_lines asked.lines) asked.tree.0 (said sharing (λ lines y. y) bytes x asked) small)
+    (always_said (sharing limits) _ (sharing_has limits) (λ p y. AreSmall p → HasSmallNumbers y.relation) (sharing_small limits)
+    (letters_of_lines asked.lines) asked.tree.0 (said (sharing limits) (λ lines y. y) bytes x asked) small)
 
 -- ---- the question that is made
 
@@ -164,25 +166,26 @@ unfolding made_givens
 givens_small n listed = every-append GivenHasSmallNumbers (map knows (minimal_sets listed)) (map knows_nothing (maximal_sets n listed))
     (known_small (minimal_sets listed)) (hidden_small (maximal_sets n listed))
 
-pub made_question_has_small_numbers : (bytes : List ℕ) (x : SharingView) → IsSharingFile bytes x → QuestionHasSmallNumbers (made_question x).body
+pub made_question_has_small_numbers : (limits : FileLimits) (bytes : List ℕ) (x : SharingView) → IsSharingFile limits bytes x
+    → QuestionHasSmallNumbers (made_question x).body
 unfolding made_question
-made_question_has_small_numbers bytes x file = ((givens_small (length x.names.variables) x.qualified, tt), relation_of_file bytes x file)
+made_question_has_small_numbers limits bytes x file = ((givens_small (length x.names.variables) x.qualified, tt), relation_of_file limits bytes x file)
 
 -- ---- the question that is asked
 
 first_of : (P : QuestionView → Type 0) (q : QuestionView) → Every P (q ∷ []) → P q
 first_of P q h = h.0
 
-pub source_limits : (d : Data) (source : Source) → IsSourceOf d source → IsQuestion (asked source).body
-source_limits d (Text q) h = All-head (λ (q : QuestionView). IsQuestion q.body) q [] (file_limits h.text (q ∷ []) h.reads)
-source_limits d (Copies q copies) h =
-    extended_is_question q.body copies (All-head (λ (q : QuestionView). IsQuestion q.body) q []
-    (copied_questions_are_within (h.head ++ h.text) copies (q ∷ []) h.asks.reads)) h.asks.extension.made h.asks.extension.few
-source_limits d (Sharing x) h = question_limited x (sharing_is_within h.text x h.makes.reads).0 h.makes.few
+pub source_limits : (limits : FileLimits) (d : Data) (source : Source) → IsSourceOf limits d source → IsQuestion (asked source).body
+source_limits limits d (Text q) h = All-head (λ (q : QuestionView). IsQuestion q.body) q [] (file_limits limits h.text (q ∷ []) h.reads)
+source_limits limits d (Copies q copies) h =
+    extended_is_question limits q.body copies (All-head (λ (q : QuestionView). IsQuestion q.body) q []
+    (copied_questions_are_within limits (h.head ++ h.text) copies (q ∷ []) h.asks.reads)) h.asks.extension.made h.asks.extension.few
+source_limits limits d (Sharing x) h = question_limited x (sharing_is_within limits h.text x h.makes.reads).0 h.makes.few
 
-pub source_numbers : (d : Data) (source : Source) → IsSourceOf d source → QuestionHasSmallNumbers (asked source).body
-source_numbers d (Text q) h = first_of (λ (q : QuestionView). QuestionHasSmallNumbers q.body) q (file_has_small_numbers h.text (q ∷ []) h.reads)
-source_numbers d (Copies q copies) h =
+pub source_numbers : (limits : FileLimits) (d : Data) (source : Source) → IsSourceOf limits d source → QuestionHasSmallNumbers (asked source).body
+source_numbers limits d (Text q) h = first_of (λ (q : QuestionView). QuestionHasSmallNumbers q.body) q (file_has_small_numbers limits h.text (q ∷ []) h.reads)
+source_numbers limits d (Copies q copies) h =
     extended_has_small_numbers q.body copies (first_of (λ (q : QuestionView). QuestionHasSmallNumbers q.body) q
-    (copied_questions_have_small_numbers (h.head ++ h.text) copies (q ∷ []) h.asks.reads))
-source_numbers d (Sharing x) h = made_question_has_small_numbers h.text x h.makes.reads
+    (copied_questions_have_small_numbers limits (h.head ++ h.text) copies (q ∷ []) h.asks.reads))
+source_numbers limits d (Sharing x) h = made_question_has_small_numbers limits h.text x h.makes.reads

@@ -4,8 +4,9 @@ use Rattle.it_space.specs.Answers.{CertificateView, AnswerView, is_nonzero_weigh
 use Rattle.it_space.specs.Answers.AnswerView.{Yes, No, Undecided, Region, Contained, Open}
 use Rattle.it_space.specs.declared.answers.Mark.{Mark}
 use Rattle.it_space.specs.Rows.{Terms}
+use Rattle.it_question.specs.declared.sizes.FileLimits.{FileLimits}
 use Rattle.it_question.specs.Questions.{QuestionView}
-use Rattle.it_question.specs.Files.{IsFile}
+use Rattle.it_question.specs.Files.{IsFileWithin}
 use Rattle.it_certificate.specs.declared.keys.Key.{Key}
 use Rattle.it_certificate.specs.OriginReading.{HasDerivedShape}
 use Rattle.it_certificate.specs.Values.{answer_value, derived_value}
@@ -29,15 +30,18 @@ written_answer (Open tried) = Open tried
 
 -- The value of an answer that fits a question reads as that question with that answer.
 abbrev pub ReadsBack : Type 0
-ReadsBack = (q : QuestionView) (answer : AnswerView) → length q.text ≤ most_text_bytes → IsFile q.text (q ∷ []) → HasQuestionShape q.body answer
-    → ReadsAs (answer_value q.text q.body.names answer) (Ok (Answered (Text q) (written_answer answer)))
+ReadsBack = (limits : FileLimits) (q : QuestionView) (answer : AnswerView) → length q.text ≤ most_text_bytes
+    → IsFileWithin limits q.text (q ∷ []) → HasQuestionShape q.body answer
+    → ReadsAs limits (answer_value q.text q.body.names answer) (Ok (Answered (Text q) (written_answer answer)))
 
 -- The value of a region with a certificate for each of its rows, which fit the question, reads as that question with that
 -- region and these certificates.
 abbrev pub OriginsReadBack : Type 0
-OriginsReadBack = (q : QuestionView) (rows : List (Mark × Terms)) (origins : List CertificateView) → length q.text ≤ most_text_bytes → IsFile q.text (q ∷ []) → HasDerivedShape q.body (Region rows) origins
-    → ReadsAs (derived_value q.text q.body.names rows origins) (Ok (Derived (Text q) (Region rows) (map without_zeros origins)))
+OriginsReadBack = (limits : FileLimits) (q : QuestionView) (rows : List (Mark × Terms)) (origins : List CertificateView)
+    → length q.text ≤ most_text_bytes → IsFileWithin limits q.text (q ∷ []) → HasDerivedShape q.body (Region rows) origins
+    → ReadsAs limits (derived_value q.text q.body.names rows origins) (Ok (Derived (Text q) (Region rows) (map without_zeros origins)))
 
 -- A line has at most one reading.
 abbrev pub OneReading : Type 0
-OneReading = (line : List ℕ) (r s : Result Reading Key) → ReadsReport line r → ReadsReport line s → r ≡ s
+OneReading = (limits : FileLimits) (line : List ℕ) (r s : Result Reading Key) → ReadsReport limits line r → ReadsReport limits line s
+    → r ≡ s

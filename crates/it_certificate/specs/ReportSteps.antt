@@ -7,8 +7,9 @@ use Rattle.it_syntax.specs.declared.types.Sign.{Sign}
 use Rattle.it_syntax.specs.Meaning.{RelationView}
 use Rattle.it_demand.specs.Demands.{kind_of}
 use Rattle.it_syntax.specs.Givens.{GivenView, Relation, Markov, Independent, Function}
+use Rattle.it_question.specs.declared.sizes.FileLimits.{FileLimits}
 use Rattle.it_question.specs.Questions.{QuestionView}
-use Rattle.it_question.specs.Files.{IsFile}
+use Rattle.it_question.specs.Files.{IsFileWithin}
 use Rattle.it_question.specs.QuestionLimits.{most_lines}
 use Rattle.it_certificate.specs.declared.keys.Refusal.{Refusal}
 use Rattle.it_certificate.specs.declared.keys.Refusal.TheVariants.{Memory, Shape}
@@ -50,22 +51,25 @@ IsOnly qs (Some q) = qs ≡ q ∷ []
 IsOnly qs None = length qs ≡ 1 → ⊥
 
 -- what the reader of a text as exactly one question gave
-abbrev pub GivesOnly : List ℕ → Result QuestionView Refusal → Type 0
-GivesOnly text (Ok q) = (length text ≤ most_text_bytes) × IsFile text (q ∷ [])
-GivesOnly text (Err Shape) = (q : QuestionView) → length text ≤ most_text_bytes → IsFile text (q ∷ []) → ⊥
-GivesOnly text (Err Memory) = Unit {0}
+abbrev pub GivesOnly : FileLimits → List ℕ → Result QuestionView Refusal → Type 0
+GivesOnly limits text (Ok q) = (length text ≤ most_text_bytes) × IsFileWithin limits text (q ∷ [])
+GivesOnly limits text (Err Shape) = (q : QuestionView) → length text ≤ most_text_bytes → IsFileWithin limits text (q ∷ []) → ⊥
+GivesOnly limits text (Err Memory) = Unit {0}
 
 -- what the reader of bytes as a file with a head gave: the file's only question with the copies
-abbrev pub GivesCopied : List ℕ → Result QuestionView Refusal → Type 0
-GivesCopied bytes (Ok e) = (q : QuestionView) × (copies : List CopyView) × AsksOnly bytes q copies × (asked (Copies q copies) ≡ e)
-GivesCopied bytes (Err Shape) = (q : QuestionView) (copies : List CopyView) → AsksOnly bytes q copies → ⊥
-GivesCopied bytes (Err Memory) = Unit {0}
+abbrev pub GivesCopied : FileLimits → List ℕ → Result QuestionView Refusal → Type 0
+GivesCopied limits bytes (Ok e) = (q : QuestionView) × (copies : List CopyView) × AsksOnly limits bytes q copies
+    × (asked (Copies q copies) ≡ e)
+GivesCopied limits bytes (Err Shape) = (q : QuestionView) (copies : List CopyView) → AsksOnly limits bytes q copies → ⊥
+GivesCopied limits bytes (Err Memory) = Unit {0}
 
 -- what the extender of the only one of some questions gave
-abbrev pub GivesExtended : List CopyView → List QuestionView → Result QuestionView Refusal → Type 0
-GivesExtended copies qs (Ok e) = (q : QuestionView) × (qs ≡ q ∷ []) × IsExtension q.body copies (extended q.body copies) × (asked (Copies q copies) ≡ e)
-GivesExtended copies qs (Err Shape) = (q : QuestionView) → qs ≡ q ∷ [] → IsExtension q.body copies (extended q.body copies) → ⊥
-GivesExtended copies qs (Err Memory) = Unit {0}
+abbrev pub GivesExtended : FileLimits → List CopyView → List QuestionView → Result QuestionView Refusal → Type 0
+GivesExtended limits copies qs (Ok e) = (q : QuestionView) × (qs ≡ q ∷ []) × IsExtension limits q.body copies (extended q.body copies)
+    × (asked (Copies q copies) ≡ e)
+GivesExtended limits copies qs (Err Shape) = (q : QuestionView) → qs ≡ q ∷ [] → IsExtension limits q.body copies (extended q.body copies)
+    → ⊥
+GivesExtended limits copies qs (Err Memory) = Unit {0}
 
 -- why the only question isn't extended, by the fault of its copies
 abbrev pub refusal_by : CopyFault → Refusal
@@ -79,27 +83,27 @@ GivesMadeFrom x (Err Shape) = most_lines < minimal_count x + maximal_count x
 GivesMadeFrom x (Err Memory) = Unit {0}
 
 -- what the reader of bytes as a sharing file gave: the question that it makes
-abbrev pub GivesMade : List ℕ → Result QuestionView Refusal → Type 0
-GivesMade bytes (Ok q) = (x : SharingView) × IsMakeable bytes x × (made_question x ≡ q)
-GivesMade bytes (Err Shape) = (x : SharingView) → IsMakeable bytes x → ⊥
-GivesMade bytes (Err Memory) = Unit {0}
+abbrev pub GivesMade : FileLimits → List ℕ → Result QuestionView Refusal → Type 0
+GivesMade limits bytes (Ok q) = (x : SharingView) × IsMakeable limits bytes x × (made_question x ≡ q)
+GivesMade limits bytes (Err Shape) = (x : SharingView) → IsMakeable limits bytes x → ⊥
+GivesMade limits bytes (Err Memory) = Unit {0}
 
 -- what the reader of what an object is about gave: the question that is asked
-abbrev pub GivesSource : Data → Result QuestionView Refusal → Type 0
-GivesSource d (Ok q) = (source : Source) × IsSourceOf d source × (asked source ≡ q)
-GivesSource d (Err Shape) = (source : Source) → IsSourceOf d source → ⊥
-GivesSource d (Err Memory) = Unit {0}
+abbrev pub GivesSource : FileLimits → Data → Result QuestionView Refusal → Type 0
+GivesSource limits d (Ok q) = (source : Source) × IsSourceOf limits d source × (asked source ≡ q)
+GivesSource limits d (Err Shape) = (source : Source) → IsSourceOf limits d source → ⊥
+GivesSource limits d (Err Memory) = Unit {0}
 
 -- what the reader of what a line is about gave: the question that is asked, or the key at fault
-abbrev pub GivesAsked : Data → Result QuestionView ReportFault → Type 0
-GivesAsked d (Ok q) = GivesSource d (Ok q)
-GivesAsked d (Err (faults.Shape key)) = (key ≡ source_key d) × ((source : Source) → IsSourceOf d source → ⊥)
-GivesAsked d (Err faults.NotJson) = ⊥
-GivesAsked d (Err faults.Memory) = Unit {0}
+abbrev pub GivesAsked : FileLimits → Data → Result QuestionView ReportFault → Type 0
+GivesAsked limits d (Ok q) = GivesSource limits d (Ok q)
+GivesAsked limits d (Err (faults.Shape key)) = (key ≡ source_key d) × ((source : Source) → IsSourceOf limits d source → ⊥)
+GivesAsked limits d (Err faults.NotJson) = ⊥
+GivesAsked limits d (Err faults.Memory) = Unit {0}
 
 -- what the reader of a value gave
-abbrev pub ReadsValue : Data → Result Reported ReportFault → Type 0
-ReadsValue d (Ok r) = (reading : Reading) × IsReported reading r × ReadsAs d (Ok reading)
-ReadsValue d (Err (faults.Shape key)) = ReadsAs d (Err key)
-ReadsValue d (Err faults.NotJson) = ⊥
-ReadsValue d (Err faults.Memory) = Unit {0}
+abbrev pub ReadsValue : FileLimits → Data → Result Reported ReportFault → Type 0
+ReadsValue limits d (Ok r) = (reading : Reading) × IsReported reading r × ReadsAs limits d (Ok reading)
+ReadsValue limits d (Err (faults.Shape key)) = ReadsAs limits d (Err key)
+ReadsValue limits d (Err faults.NotJson) = ⊥
+ReadsValue limits d (Err faults.Memory) = Unit {0}

@@ -9,6 +9,7 @@ use Rattle.it_space.specs.Answers.{AnswerView, CertificateView, answer_view, cer
 use Rattle.it_space.specs.Answers.{AnswerView as answers}
 use Rattle.it_space.specs.Spaces.{size_of}
 use Rattle.it_syntax.specs.NamesViews.{NamesView}
+use Rattle.it_question.specs.declared.sizes.FileLimits.{FileLimits}
 use Rattle.it_question.specs.Limits.{IsQuestion}
 use Rattle.it_question.specs.Questions.{VerbView, Prove, Eliminate, Contain}
 use Rattle.it_demand.specs.QuestionSpaces.{space_of}
@@ -132,18 +133,18 @@ reading_by own None d = if tells_code d then coded_of own d else if tells_origin
 unfoldable pub report_of : Option Source → Data → Result Reading Key
 report_of own d = if tells_misfit d then Ok Misfit else if tells_outer d then bounded_of own d else reading_by own (factor_kind_at d) d
 
--- the reading of a JSON value
-pub record ReadsAs (value : Data) (r : Result Reading Key) : Type 0 where
+-- the reading of a JSON value, where what it is about is within these limits
+pub record ReadsAs (limits : FileLimits) (value : Data) (r : Result Reading Key) : Type 0 where
   pub own : Option Source
-  pub source : IsSourceAt value own
+  pub source : IsSourceAt limits value own
   pub is : report_of own value ≡ r
 
--- the line is JSON, and this is its reading
-pub record ReadsReport (line : List ℕ) (r : Result Reading Key) : Type 0 where
+-- the line is JSON, and this is its reading within these limits
+pub record ReadsReport (limits : FileLimits) (line : List ℕ) (r : Result Reading Key) : Type 0 where
   pub value : Data
   pub utf8 : IsUtf8 line
   pub is_json : read line ≡ Some value
-  pub reads : ReadsAs value r
+  pub reads : ReadsAs limits value r
 
 -- what was read of a line, by the question that is asked
 abbrev pub IsReported : Reading → Reported → Type 0
@@ -157,11 +158,11 @@ IsReported reading r = ⊥
 
 -- what the reader of a line gives: what the line says, its first key at fault, that it has no JSON reading, or that allocation
 -- failed
-abbrev pub Reports : List ℕ → Result Reported ReportFault → Type 0
-Reports line (Ok r) = (reading : Reading) × IsReported reading r × ReadsReport line (Ok reading)
-Reports line (Err (faults.Shape key)) = ReadsReport line (Err key)
-Reports line (Err faults.NotJson) = IsUtf8 line → read line ≡ None
-Reports line (Err faults.Memory) = Unit {0}
+abbrev pub Reports : FileLimits → List ℕ → Result Reported ReportFault → Type 0
+Reports limits line (Ok r) = (reading : Reading) × IsReported reading r × ReadsReport limits line (Ok reading)
+Reports limits line (Err (faults.Shape key)) = ReadsReport limits line (Err key)
+Reports limits line (Err faults.NotJson) = IsUtf8 line → read line ≡ None
+Reports limits line (Err faults.Memory) = Unit {0}
 
 -- the question that was read is within the limits, and what was read with it fits it: an answer, one with its code or its
 -- origins, what is found of its factors, or bounds

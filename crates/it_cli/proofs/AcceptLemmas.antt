@@ -1,5 +1,5 @@
 -- The verdict on the line of a right answer: `Valid` for a yes, a no and a containment, `Skipped` for the others.
-use Rattle.std.proofs.Common.{◌≡◌, ℕ, zero, suc, ◌+◌, ◌<◌, ◌≤◌, ◌^◌, ℤ, pos, neg_ℤ, ◌≤ℤ◌, List, [], ◌∷◌, map, length, decimal, slice_index_or, Bool, true, false, Some, IfSome, Ok, All, IsUtf8, IsAscii, if◌then◌else◌, refl, sym, ap, subst, ◌∙◌, arith, inl, inr, lit≤}
+use Rattle.std.proofs.Common.{◌≡◌, ℕ, zero, suc, ◌+◌, ◌<◌, ◌≤◌, ◌^◌, ℤ, pos, neg_ℤ, ◌≤ℤ◌, List, [], ◌∷◌, map, length, decimal, slice_index_or, Bool, true, false, Option, Some, IfSome, Ok, All, IsUtf8, IsAscii, if◌then◌else◌, refl, sym, ap, subst, ◌∙◌, arith, inl, inr, lit≤}
 use Rattle.std.specs.List.{AllByRecursion as Every}
 use Rattle.std.proofs.lemmas.Fmt.{IsAscii-decimal_wide}
 use Rattle.std.proofs.lemmas.List.Elements.{All-head, All-tail, All-weaker}
@@ -26,14 +26,17 @@ use Rattle.it_run.specs.Runs.RunEndView.{Weights, Point, Pivots, Width}
 use Rattle.it_prove.specs.Closed.{spread_point}
 use Rattle.it_prove.specs.ProofViews as proof_views
 use Rattle.it_prove.specs.ProofViews.{Follows, EndsWith, AreProofsOf}
+use Rattle.it_prove.proofs.ProofLemmas.{quick_no, quick_yes}
+use Rattle.it_prove.proofs.ReachLemmas.{same_pivots}
 use Rattle.it_prove.proofs.RightLemmas.{ends_are_right}
 use Rattle.it_prove.specs.declared.types.Effort.{Effort}
 use Rattle.it_syntax.specs.Meaning.{RelationView}
 use Rattle.it_syntax.specs.NamesViews.{NamesView}
+use Rattle.it_question.specs.declared.sizes.FileLimits.{FileLimits}
 use Rattle.it_question.specs.AsciiTexts.{IsAsciiQuestion}
 use Rattle.it_question.specs.OwnLines.{RegionView}
 use Rattle.it_question.specs.Questions.{BodyView, QuestionView, VerbView, Prove, Eliminate, Contain}
-use Rattle.it_question.specs.Files.{IsFile}
+use Rattle.it_question.specs.Files.{IsFileWithin}
 use Rattle.it_question.specs.Limits.{IsQuestion, IsVerbOver}
 use Rattle.it_question.proofs.FileReadings.{file_limits}
 use Rattle.it_question.proofs.NumberLemmas.{QuestionHasSmallNumbers, file_has_small_numbers}
@@ -60,7 +63,7 @@ use Rattle.it_answer.specs.Truth.{IsExactRegion}
 use Rattle.it_answer.specs.DueContainments.{IsDueContainment}
 use Rattle.it_answer.specs.DueEliminations.{IsDueElimination}
 use Rattle.it_answer.specs.DueRelations.{IsDueRelation, PointIsDue}
-use Rattle.it_answer.specs.RightAnswers.{IsDueBy, IsRightAnswer, ProofsAscend}
+use Rattle.it_answer.specs.RightAnswers.{IsDueBy, IsRightAnswer, ProofsAscend, budgets_under}
 use Rattle.it_eliminate.proofs.MemberLemmas.{every_member}
 use Rattle.it_space.proofs.EveryLemmas.{every_of}
 use Rattle.it_answer.proofs.FormLemmas.{generators_speak, by_rows}
@@ -124,11 +127,11 @@ module _ (q : BodyView) (posed : IsProblemOf q (problem_of q)) (effort : Effort)
 
   fits_of_yes : (t : Terms) (w : CertificateView) → EndsWith (problem_of q) t effort (proof_views.Yes w) → CertificateFits (problem_of q) t w
   fits_of_yes t w (inl e) = certificate_fits (problem_of q) t w e.end e.follows
-  fits_of_yes t w (inr (quick, settled)) = settled.0.1
+  fits_of_yes t w (inr e) = (quick_yes effort.runs (problem_of q) t w e).0.1
 
   fits_of_no : (t : Terms) (values : List ℤ) → EndsWith (problem_of q) t effort (proof_views.No values) → PointFits (problem_of q) t values
   fits_of_no t values (inl e) = point_fits (problem_of q) t values e.end e.follows
-  fits_of_no t values (inr (quick, settled)) = settled.0.1
+  fits_of_no t values (inr e) = (quick_no effort.runs (problem_of q) t values e).0.1
 
   proof_valid : (f : Form) (t : Terms) (w : CertificateView) → IsRowOf (problem_of q).space f t → CertifiesForm q f w
       → EndsWith (problem_of q) t effort (proof_views.Yes w) → proof_verdict (problem_of q) t w ≡ Valid
@@ -179,12 +182,13 @@ unfolding HasQuestionShape
 question_fits q a verb e h = subst (λ x. HasVerbShape q.names x a) (sym e) h
 
 -- no verdict on the line is invalid, and it is one line
-pub record IsAccepted (line : List ℕ) : Type 0 where
+pub record IsAccepted (allowed : FileLimits) (line : List ℕ) : Type 0 where
   pub clear : Every IsNoFeed line
-  pub verdicts : (v : LineVerdict) → IsVerdict line v → is_invalid v ≡ false
+  pub verdicts : (v : LineVerdict) → IsVerdict allowed line v → is_invalid v ≡ false
 
-pub accepted_by_verdict : (line : List ℕ) (w : LineVerdict) → Every IsNoFeed line → IsVerdict line w → is_invalid w ≡ false → IsAccepted line
-accepted_by_verdict line w clear is ok = record { clear = clear; verdicts = λ v h. ap is_invalid (one_verdict line v w h is) ∙ ok }
+pub accepted_by_verdict : (allowed : FileLimits) (line : List ℕ) (w : LineVerdict) → Every IsNoFeed line → IsVerdict allowed line w → is_invalid w ≡ false
+    → IsAccepted allowed line
+accepted_by_verdict allowed line w clear is ok = record { clear = clear; verdicts = λ v h. ap is_invalid (one_verdict allowed line v w h is) ∙ ok }
 
 rate_ascii : (rates : List (List ℕ)) (r : ℕ) → All IsAscii rates → IsAscii (slice_index_or rates r [])
 rate_ascii [] zero all = IsAscii-nil
@@ -202,24 +206,24 @@ step_or_rate_ascii v causes.Scale all h = IsAscii-cons 48 [] (omega arith) IsAsc
 step_or_rate_ascii v (causes.Rows r) all h = rate_ascii v.rates r all
 step_or_rate_ascii v (causes.WideRate r) all h = rate_ascii v.rates r all
 
-module _ (back : ReadsBack) (q : QuestionView) (short : length q.text ≤ 1048577) (file : IsFile q.text (q ∷ [])) where
+module _ (allowed : FileLimits) (back : ReadsBack) (q : QuestionView) (short : length q.text ≤ 1048577) (file : IsFileWithin allowed q.text (q ∷ [])) where
   -- the report's line of an answer
   abbrev line_of : AnswerView → List ℕ
   line_of a = answer_text q.text q.body.names a
 
   question_ascii : IsAsciiQuestion q
-  question_ascii = All-head IsAsciiQuestion q [] (texts_are_ascii q.text (q ∷ []) file)
+  question_ascii = All-head IsAsciiQuestion q [] (texts_are_ascii allowed q.text (q ∷ []) file)
 
   pub text_is : IsUtf8 q.text
   text_is = IsUtf8-from_ascii q.text question_ascii.text
 
   line_reads : (a : AnswerView) → HasQuestionShape q.body a → IsPlain (answer_value q.text q.body.names a)
-      → ReadsReport (line_of a) (Ok (Answered (Text q) (written_answer a)))
+      → ReadsReport allowed (line_of a) (Ok (Answered (Text q) (written_answer a)))
   line_reads a fits plain = record {
     value = answer_value q.text q.body.names a;
     utf8 = answer_text_utf8 q.text q.body.names a plain;
     is_json = answer_text_back q.text q.body.names a plain;
-    reads = back q a short file fits;
+    reads = back allowed q a short file fits;
   }
 
   clear_of : (a : AnswerView) → IsPlain (answer_value q.text q.body.names a) → Every IsNoFeed (line_of a)
@@ -227,10 +231,10 @@ module _ (back : ReadsBack) (q : QuestionView) (short : length q.text ≤ 104857
 
   -- the question keeps the limits, and its problem and its rows are there
   pub limits : IsQuestion q.body
-  limits = All-head (λ (x : QuestionView). IsQuestion x.body) q [] (file_limits q.text (q ∷ []) file)
+  limits = All-head (λ (x : QuestionView). IsQuestion x.body) q [] (file_limits allowed q.text (q ∷ []) file)
 
   pub small : QuestionHasSmallNumbers q.body
-  small = (file_has_small_numbers q.text (q ∷ []) file).0
+  small = (file_has_small_numbers allowed q.text (q ∷ []) file).0
 
   posed : IsProblemOf q.body (problem_of q.body)
   posed = question_poses q.body limits small
@@ -241,15 +245,16 @@ module _ (back : ReadsBack) (q : QuestionView) (short : length q.text ≤ 104857
   verdict_by_verb a verb about e = (refl, ap (λ v. answer_verdict (problem_of q.body) (map (terms_in q.body) (answer_forms_by q.body v a)) a) about ∙ e)
 
   judged_is_accepted : (a : AnswerView) (line : List ℕ) → Every IsNoFeed line
-      → IsAnswerVerdict q.body a (Judged (problem_names q.body) Valid) → ReadsReport line (Ok (Answered (Text q) a)) → IsAccepted line
-  judged_is_accepted a line clear verdict reads = accepted_by_verdict line (Judged (problem_names q.body) Valid) clear
+      → IsAnswerVerdict q.body a (Judged (problem_names q.body) Valid) → ReadsReport allowed line (Ok (Answered (Text q) a)) → IsAccepted allowed line
+  judged_is_accepted a line clear verdict reads = accepted_by_verdict allowed line (Judged (problem_names q.body) Valid) clear
       (record { reading = Answered (Text q) a; reads = reads; verdict = verdict }) refl
 
   skipped_is_accepted : (a : AnswerView) (line : List ℕ) → Every IsNoFeed line → IsAnswerVerdict q.body a Skipped
-      → ReadsReport line (Ok (Answered (Text q) a)) → IsAccepted line
-  skipped_is_accepted a line clear e reads = accepted_by_verdict line Skipped clear (record { reading = Answered (Text q) a; reads = reads; verdict = e }) refl
+      → ReadsReport allowed line (Ok (Answered (Text q) a)) → IsAccepted allowed line
+  skipped_is_accepted a line clear e reads = accepted_by_verdict allowed line Skipped clear
+      (record { reading = Answered (Text q) a; reads = reads; verdict = e }) refl
 
-  undecided_accepted : (c : Cause) → HasQuestionShape q.body (Undecided c) → IsCauseFor q.body.names c → IsAccepted (line_of (Undecided c))
+  undecided_accepted : (c : Cause) → HasQuestionShape q.body (Undecided c) → IsCauseFor q.body.names c → IsAccepted allowed (line_of (Undecided c))
   undecided_accepted c fits cause =
       let plain = undecided_plain q.text q.body.names text_is c (IsUtf8-from_ascii (step_or_rate_word q.body.names c)
       (step_or_rate_ascii q.body.names c question_ascii.rates cause)) in
@@ -257,7 +262,7 @@ module _ (back : ReadsBack) (q : QuestionView) (short : length q.text ≤ 104857
 
   region_accepted : (budgets : Budgets) (rates : List ℕ) (rows : List (Mark × Terms)) → q.body.verb ≡ Eliminate rates
       → IsExactRegion q.body rates rows → IsDueElimination budgets q.body rates (Region rows)
-      → IsAccepted (line_of (Region rows))
+      → IsAccepted allowed (line_of (Region rows))
   region_accepted budgets rates rows about shown due =
       let fits = right_region_fits budgets q.body rates rows limits (system_rows q.body limits small) shown due in
       let plain = region_plain q.text q.body.names text_is rows (λ i d l. (fits i d l).terms) in
@@ -266,7 +271,7 @@ module _ (back : ReadsBack) (q : QuestionView) (short : length q.text ≤ 104857
 
   module _ (budgets : Budgets) (few : IfSome budgets.effort.pivots (λ n. n < 2 ^ 32)) where
     yes_accepted : (r : RelationView) (ws : List CertificateView) → q.body.verb ≡ Prove r → ProofsAscend (Yes ws)
-        → ShowsBy q.body (Prove r) (Yes ws) → IsDueRelation budgets.effort q.body r (Yes ws) → IsAccepted (line_of (Yes ws))
+        → ShowsBy q.body (Prove r) (Yes ws) → IsDueRelation budgets.effort q.body r (Yes ws) → IsAccepted allowed (line_of (Yes ws))
     yes_accepted r ws about ascend shown due =
         let fits = right_prove_fits budgets.effort q.body r (Yes ws) few posed about shown due in
         let e = proofs_valid q.body posed budgets.effort (targets (variable_count q.body) r)
@@ -274,11 +279,11 @@ module _ (back : ReadsBack) (q : QuestionView) (short : length q.text ≤ 104857
         let plain = yes_plain q.text q.body.names text_is ws fits.1 in
         let reads = line_reads (Yes ws) (question_fits q.body (Yes ws) (Prove r) about fits) plain in
         judged_is_accepted (Yes ws) (line_of (Yes ws)) (clear_of (Yes ws) plain) (verdict_by_verb (Yes ws) (Prove r) about (ap Some e))
-        (subst (λ us. ReadsReport (line_of (Yes ws)) (Ok (Answered (Text q) (Yes us)))) (all_weights_written ws ascend) reads)
+        (subst (λ us. ReadsReport allowed (line_of (Yes ws)) (Ok (Answered (Text q) (Yes us)))) (all_weights_written ws ascend) reads)
 
     no_accepted : (r : RelationView) (is_back : Bool) (values : List ℤ) → q.body.verb ≡ Prove r
         → ShowsBy q.body (Prove r) (No is_back values) → IsDueRelation budgets.effort q.body r (No is_back values)
-        → IsAccepted (line_of (No is_back values))
+        → IsAccepted allowed (line_of (No is_back values))
     no_accepted r is_back values about shown due =
         let fits = right_prove_fits budgets.effort q.body r (No is_back values) few posed about shown due in
         let rows = relation_rows q.body limits small r about in
@@ -290,7 +295,7 @@ module _ (back : ReadsBack) (q : QuestionView) (short : length q.text ≤ 104857
         (line_reads (No is_back values) (question_fits q.body (No is_back values) (Prove r) about fits) plain)
 
     prove_accepted : (r : RelationView) (a : AnswerView) → q.body.verb ≡ Prove r → ProofsAscend a → ShowsBy q.body (Prove r) a
-        → IsDueRelation budgets.effort q.body r a → IsAccepted (line_of a)
+        → IsDueRelation budgets.effort q.body r a → IsAccepted allowed (line_of a)
     prove_accepted r (Yes ws) about ascend shown due = yes_accepted r ws about ascend shown due
     prove_accepted r (No is_back values) about ascend shown due = no_accepted r is_back values about shown due
     prove_accepted r (Undecided c) about ascend shown due =
@@ -301,12 +306,12 @@ module _ (back : ReadsBack) (q : QuestionView) (short : length q.text ≤ 104857
     prove_accepted r (Open tried) about ascend shown due = absurd shown
 
     eliminate_accepted : (rates : List ℕ) (a : AnswerView) → q.body.verb ≡ Eliminate rates → ShowsBy q.body (Eliminate rates) a
-        → IsDueElimination budgets q.body rates a → IsAccepted (line_of a)
+        → IsDueElimination budgets q.body rates a → IsAccepted allowed (line_of a)
     eliminate_accepted rates (Yes ws) about shown due = absurd shown
     eliminate_accepted rates (No is_back values) about shown due = absurd shown
     eliminate_accepted rates (Undecided c) about shown due =
         let within = (subst (IsVerbOver q.body.names) about limits.verb).within in
-        let fits = eliminated_cause_fits budgets q.body rates c (λ r m. rates_found q r file
+        let fits = eliminated_cause_fits budgets q.body rates c (λ r m. rates_found allowed q r file
         (every_member (λ i. i < length q.body.names.rates) rates r (every_of (λ i. i < length q.body.names.rates) rates within) m)) due
         in
         undecided_accepted c (question_fits q.body (Undecided c) (Eliminate rates) about fits) fits
@@ -318,7 +323,7 @@ module _ (back : ReadsBack) (q : QuestionView) (short : length q.text ≤ 104857
         (ws : List CertificateView) (found : List Candidate) → q.body.verb ≡ Contain first second tries
         → ProofsAscend (Contained parts ws) → ShowsContained q.body first second parts ws
         → IsDueContainment budgets plans q.body first second tries (record { answer = Contained parts ws; found = found })
-        → IsAccepted (line_of (Contained parts ws))
+        → IsAccepted allowed (line_of (Contained parts ws))
     contained_accepted plans first second tries parts ws found about ascend shown due =
         let a = Contained parts ws in
         let forms = obligations q.body first second parts in
@@ -334,11 +339,11 @@ module _ (back : ReadsBack) (q : QuestionView) (short : length q.text ≤ 104857
         let e = proofs_by_valid (problem_of q.body) budgets.effort forms rows ws posed.limits are proofs in
         let verdict = verdict_by_verb a (Contain first second tries) about (ap Some e) in
         judged_is_accepted a (line_of a) (clear_of a plain) verdict
-        (subst (λ us. ReadsReport (line_of a) (Ok (Answered (Text q) (Contained parts us)))) (all_weights_written ws ascend) reads)
+        (subst (λ us. ReadsReport allowed (line_of a) (Ok (Answered (Text q) (Contained parts us)))) (all_weights_written ws ascend) reads)
 
     open_accepted : (plans : List Plan) (first second : RegionView) (tries : List (List ℕ)) (tried : ℕ) (found : List Candidate)
         → budgets.tries < 2 ^ 32 → q.body.verb ≡ Contain first second tries
-        → IsDueContainment budgets plans q.body first second tries (record { answer = Open tried; found = found }) → IsAccepted (line_of (Open tried))
+        → IsDueContainment budgets plans q.body first second tries (record { answer = Open tried; found = found }) → IsAccepted allowed (line_of (Open tried))
     open_accepted plans first second tries tried found short about due =
         let l : tried < 2 ^ 32 = let is = due.0.tried_is in omega (arith, is, short) in
         let plain = open_plain q.text q.body.names text_is tried l in
@@ -348,7 +353,7 @@ module _ (back : ReadsBack) (q : QuestionView) (short : length q.text ≤ 104857
     contain_accepted : (plans : List Plan) (first second : RegionView) (tries : List (List ℕ)) (a : AnswerView) (found : List Candidate)
         → budgets.tries < 2 ^ 32 → q.body.verb ≡ Contain first second tries
         → ProofsAscend a → ShowsBy q.body (Contain first second tries) a
-        → IsDueContainment budgets plans q.body first second tries (record { answer = a; found = found }) → IsAccepted (line_of a)
+        → IsDueContainment budgets plans q.body first second tries (record { answer = a; found = found }) → IsAccepted allowed (line_of a)
     contain_accepted plans first second tries (Yes ws) found short about ascend shown due = absurd shown
     contain_accepted plans first second tries (No is_back values) found short about ascend shown due = absurd shown
     contain_accepted plans first second tries (Undecided c) found short about ascend shown due = absurd shown
@@ -360,14 +365,16 @@ module _ (back : ReadsBack) (q : QuestionView) (short : length q.text ≤ 104857
 
     verb_accepted : (plans : List Plan) (verb : VerbView) (reply : Reply) → q.body.verb ≡ verb → budgets.tries < 2 ^ 32
         → ProofsAscend reply.answer → ShowsBy q.body verb reply.answer
-        → IsDueBy budgets plans q.body verb reply → IsAccepted (line_of reply.answer)
+        → IsDueBy budgets plans q.body verb reply → IsAccepted allowed (line_of reply.answer)
     verb_accepted plans (Prove r) reply about short ascend shown due = prove_accepted r reply.answer about ascend shown due.0
     verb_accepted plans (Eliminate rates) reply about short ascend shown due = eliminate_accepted rates reply.answer about shown due.0
     verb_accepted plans (Contain first second tries) reply about short ascend shown due = contain_accepted plans first second tries
         reply.answer reply.found short about ascend shown due
 
-pub right_accepted : ReadsBack → (budgets : Budgets) (plans : List Plan) (q : QuestionView) (reply : Reply)
-    → IfSome budgets.effort.pivots (λ n. n < 2 ^ 32) → budgets.tries < 2 ^ 32 → length q.text ≤ 1048577 → IsFile q.text (q ∷ [])
-    → IsRightAnswer budgets plans q.body reply → IsAccepted (answer_text q.text q.body.names reply.answer)
-right_accepted back budgets plans q reply few tries short file right = verb_accepted back q short file budgets few plans q.body.verb reply
+pub right_accepted : (allowed : FileLimits) → ReadsBack → (budgets : Budgets) (plans : List Plan) (q : QuestionView) (reply : Reply)
+    → IfSome budgets.effort.pivots (λ n. n < 2 ^ 32) → budgets.tries < 2 ^ 32 → length q.text ≤ 1048577 → IsFileWithin allowed q.text (q ∷ [])
+    → IsRightAnswer budgets plans q.body reply → IsAccepted allowed (answer_text q.text q.body.names reply.answer)
+right_accepted allowed back budgets plans q reply few tries short file right = verb_accepted allowed back q short file
+    (budgets_under (problem_of q.body) budgets)
+    (subst (λ (pivots : Option ℕ). IfSome pivots (λ n. n < 2 ^ 32)) (sym (same_pivots (problem_of q.body) budgets.effort)) few) plans q.body.verb reply
     refl tries (a_yes_ascends budgets plans q.body reply right) right.shows right.due

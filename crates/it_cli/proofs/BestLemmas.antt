@@ -3,6 +3,7 @@ use Rattle.std.proofs.Common.{◌≡◌, ℕ, List, [], ◌∷◌, ◌++◌, len
 use Rattle.std.specs.Global.{Vec}
 use Rattle.std.proofs.lemmas.List.{nil_from_length}
 use Rattle.it_prove.specs.declared.types.Effort.{Effort}
+use Rattle.it_question.specs.declared.sizes.FileLimits.{FileLimits}
 use Rattle.it_question.specs.Questions.{BodyView}
 use Rattle.it_copy.specs.declared.types.CopyLine.{CopyLine}
 use Rattle.it_copy.specs.CopyLines.{CopyView, copy_view}
@@ -22,12 +23,12 @@ pub some_copies : (lines : List CopyLine) → (length lines ≡ 0 → ⊥) → m
 some_copies [] some none = some refl
 some_copies (c ∷ lines) some none = cc
 
-pub asked_alone : (q : BodyView) (cs : List CopyView) → cs ≡ [] → IsAskedWith q cs q
-asked_alone q cs none = subst (λ (ds : List CopyView). IsAskedWith q ds q) (sym none) refl
+pub asked_alone : (limits : FileLimits) (q : BodyView) (cs : List CopyView) → cs ≡ [] → IsAskedWith limits q cs q
+asked_alone limits q cs none = subst (λ (ds : List CopyView). IsAskedWith limits q ds q) (sym none) refl
 
-pub asked_with : (q e : BodyView) (cs : List CopyView) → (cs ≡ [] → ⊥) → IsExtension q cs e → IsAskedWith q cs e
-asked_with q e [] some extension = absurd (some refl)
-asked_with q e (c ∷ cs) some extension = extension
+pub asked_with : (limits : FileLimits) (q e : BodyView) (cs : List CopyView) → (cs ≡ [] → ⊥) → IsExtension limits q cs e → IsAskedWith limits q cs e
+asked_with limits q e [] some extension = absurd (some refl)
+asked_with limits q e (c ∷ cs) some extension = extension
 
 pub text_alone : (text own : List ℕ) (cs : List CopyView) → text ≡ own → cs ≡ [] → OfQuestion text ≡ texts_with cs own
 text_alone text own cs same none = ap OfQuestion same ∙ ap (λ (ds : List CopyView). texts_with ds own) (sym none)
@@ -38,17 +39,19 @@ texts_after_head head text own (c ∷ cs) is same some = ap₂ OfCopies is same
 
 -- ---- the line of a question that is asked
 
-pub factored_text : {E : Type 0} (effort : Effort) (x : CopyQuestion) (k : ℕ) (e : BodyView) (r : Result (Vec ℕ) E) → IsAskedWith x.question.body x.copies e
-    → IfOk r (λ t. IsFactorText effort k e t.items) → IfOk r (λ t. IsTextOf (best_mode false effort) [] k x t.items)
-factored_text effort x k e (Ok t) asked told = record { reply = Extended e told.reply; right = (asked, told.right); is = told.is }
-factored_text effort x k e (Err f) asked told = tt
+pub factored_text : {E : Type 0} (limits : FileLimits) (effort : Effort) (x : CopyQuestion) (k : ℕ) (e : BodyView) (r : Result (Vec ℕ) E)
+    → IsAskedWith limits x.question.body x.copies e
+    → IfOk r (λ t. IsFactorText effort k e t.items) → IfOk r (λ t. IsTextOf (best_mode limits false effort) [] k x t.items)
+factored_text limits effort x k e (Ok t) asked told = record { reply = Extended e told.reply; right = (asked, told.right); is = told.is }
+factored_text limits effort x k e (Err f) asked told = tt
 
-pub factored_report : {E : Type 0} (effort : Effort) (x : CopyQuestion) (k : ℕ) (e : BodyView) (texts : SourceTexts) (r : Result (Vec ℕ) E)
-    → texts ≡ texts_with x.copies x.question.text → IsAskedWith x.question.body x.copies e
-    → IfOk r (λ t. IsFactorReportOf effort texts e t.items) → IfOk r (λ t. IsTextOf (best_mode true effort) [] k x t.items)
-factored_report effort x k e texts (Ok t) same asked told = record {
+pub factored_report : {E : Type 0} (limits : FileLimits) (effort : Effort) (x : CopyQuestion) (k : ℕ) (e : BodyView) (texts : SourceTexts)
+    (r : Result (Vec ℕ) E)
+    → texts ≡ texts_with x.copies x.question.text → IsAskedWith limits x.question.body x.copies e
+    → IfOk r (λ t. IsFactorReportOf effort texts e t.items) → IfOk r (λ t. IsTextOf (best_mode limits true effort) [] k x t.items)
+factored_report limits effort x k e texts (Ok t) same asked told = record {
   reply = Extended e told.reply;
   right = (asked, told.right);
   is = told.is ∙ ap (λ (s : SourceTexts). report_text s (reply_members told.reply) ++ codes "\n") same;
 }
-factored_report effort x k e texts (Err f) same asked told = tt
+factored_report limits effort x k e texts (Err f) same asked told = tt

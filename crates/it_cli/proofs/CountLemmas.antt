@@ -1,5 +1,5 @@
 -- The counts of mode `bench`.
-use Rattle.std.proofs.Common.{◌≡◌, ℕ, zero, suc, ◌+◌, ◌<◌, ◌≤◌, List, [], ◌∷◌, ◌++◌, length, map, drop, get_or, All, refl, sym, ap, subst, ◌∙◌, arith, false}
+use Rattle.std.proofs.Common.{◌≡◌, ℕ, zero, suc, ◌+◌, ◌<◌, ◌≤◌, List, [], ◌∷◌, ◌++◌, length, map, drop, get_or, All, refl, sym, ap, subst, ◌∙◌, arith, true}
 use Rattle.std.proofs.lemmas.List.{drop_more, get_or-map}
 use Rattle.std.proofs.lemmas.List.Elements.{All-head, All-tail}
 use Rattle.it_space.specs.declared.answers.Answer.{Answer}
@@ -8,15 +8,19 @@ use Rattle.it_space.specs.Answers.AnswerView.{Yes, No, Undecided, Region, Contai
 use Rattle.it_syntax.specs.Meaning.{RelationView}
 use Rattle.it_question.specs.Questions.{BodyView, QuestionView, VerbView, Prove, Eliminate, Contain}
 use Rattle.it_forms.specs.declared.types.Code.{Code}
+use Rattle.it_question.specs.QuestionLimits.{usual}
 use Rattle.it_question.specs.Files.{FileFaultAt, FileIsOne, FileOrFault}
 use Rattle.it_gen.specs.GeneratedFiles.{GeneratedIsFile, IsProve, generated_file}
+use Rattle.it_canon.specs.QuestionDemands.{problem_of}
+use Rattle.it_prove.specs.Reach.{is_in_reach}
+use Rattle.it_prove.specs.declared.types.Runs.TheVariants.{Defined}
 use Rattle.it_region.specs.declared.types.Candidate.{Candidate}
 use Rattle.it_contain.specs.Proposals.{Plan, plan_after_all}
 use Rattle.it_contain.proofs.PlanLemmas.{after_none, after_more}
 use Rattle.it_answer.specs.declared.types.Budgets.{Budgets}
 use Rattle.it_answer.specs.Replies.{Reply}
 use Rattle.it_answer.specs.Shows.{ShowsBy}
-use Rattle.it_answer.specs.RightAnswers.{OneRightAnswer, IsRightAnswer, IsAnswered}
+use Rattle.it_answer.specs.RightAnswers.{OneRightAnswer, IsRightAnswer, IsAnswered, budgets_under}
 use Rattle.it_cli.specs.Counts.{AreCounted, no_counts, with_answer}
 use Rattle.it_cli.specs.CountSteps.{total}
 use Rattle.it_cli.specs.Laws.{CountsAddUp}
@@ -44,7 +48,8 @@ total_more c (Contained parts proofs) = omega arith
 total_more c (Open tried) = omega arith
 
 pub counting_more : (budgets : Budgets) (plans plans_now plans_next : List Plan) (qs : List QuestionView) (i : ℕ) (r : QuestionView) (counts : Counts) (answer : Answer)
-    → IsCounting budgets plans qs i counts plans_now → i < length qs → r ≡ get_or qs i r → IsAnswered budgets plans_now r answer plans_next
+    → IsCounting budgets plans qs i counts plans_now → i < length qs → r ≡ get_or qs i r
+    → IsAnswered (budgets_under (problem_of r.body) budgets) plans_now r answer plans_next
     → IsCounting budgets plans qs (i + 1) (with_answer counts (answer_view answer)) plans_next
 counting_more budgets plans plans_now plans_next qs i r counts answer c h e a = record {
   found = c.found ++ a.found;
@@ -77,13 +82,16 @@ counting_done budgets plans plans_now qs i counts c h = c.counted counts
 
 -- ---- the counts are determined
 
-pub one_count : OneRightAnswer → (budgets : Budgets) → budgets.effort.quick ≡ false
+pub one_count : OneRightAnswer → (budgets : Budgets) → budgets.effort.runs ≡ Defined
     → (plans : List Plan) (before : List Candidate) (counts : Counts) (qs : List QuestionView) (c d : Counts)
+    → All (λ (q : QuestionView). is_in_reach (problem_of q.body) ≡ true) qs
     → AreCounted budgets plans before counts qs c → AreCounted budgets plans before counts qs d → c ≡ d
-one_count one_answer budgets defined plans before counts [] c d a b = a ∙ sym b
-one_count one_answer budgets defined plans before counts (q ∷ qs) c d (reply, right, rest) (other, is_right, more) =
-    let same : other ≡ reply = one_answer budgets (map (plan_after_all before) plans) q.body other reply defined is_right right in
-    one_count one_answer budgets defined plans (before ++ reply.found) (with_answer counts reply.answer) qs c d rest
+one_count one_answer budgets defined plans before counts [] c d reach a b = a ∙ sym b
+one_count one_answer budgets defined plans before counts (q ∷ qs) c d reach (reply, right, rest) (other, is_right, more) =
+    let own = All-head (λ (q : QuestionView). is_in_reach (problem_of q.body) ≡ true) q qs reach in
+    let same : other ≡ reply = one_answer budgets (map (plan_after_all before) plans) q.body other reply defined own is_right right in
+    one_count one_answer budgets defined plans (before ++ reply.found) (with_answer counts reply.answer) qs c d
+    (All-tail (λ (q : QuestionView). is_in_reach (problem_of q.body) ≡ true) q qs reach) rest
     (subst (λ (x : Reply). AreCounted budgets plans (before ++ x.found) (with_answer counts x.answer) qs d) same more)
 
 -- ---- what they sum to
@@ -127,7 +135,7 @@ answers_add_up budgets plans before counts (q ∷ qs) end all (reply, right, res
 pub counts_add_up : GeneratedIsFile → FileIsOne → CountsAddUp
 counts_add_up generated one_reading budgets plans seed count questions counts few asked counted =
     let file = generated seed count few in
-    let same : file.questions ≡ questions = one_reading (generated_file seed count) file.questions questions file.asked asked in
+    let same : file.questions ≡ questions = one_reading usual (generated_file seed count) file.questions questions file.asked asked in
     let all : All IsProve questions = subst (λ (qs : List QuestionView). All IsProve qs) same file.prove in
     let sum = answers_add_up budgets plans [] no_counts questions counts all counted in
     (sum.0 ∙ (let n : length questions ≡ count = ap length (sym same) ∙ file.counted in omega (arith, n)), sum.1, sum.2, sum.3)
@@ -137,4 +145,4 @@ pub generated_has_no_fault : GeneratedIsFile → FileOrFault → (seed count : �
     → count ≤ 1000 → bytes ≡ generated_file seed count → FileFaultAt bytes line column code → ⊥
 generated_has_no_fault generated apart seed count bytes line column code few is fault =
     let file = generated seed count few in
-    apart (generated_file seed count) file.questions line column code file.asked (subst (λ (b : List ℕ). FileFaultAt b line column code) is fault)
+    apart usual (generated_file seed count) file.questions line column code file.asked (subst (λ (b : List ℕ). FileFaultAt b line column code) is fault)

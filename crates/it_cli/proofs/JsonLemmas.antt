@@ -22,8 +22,8 @@ use Rattle.it_simplex.specs.Answers.{Solves}
 use Rattle.it_prove.specs.Closed.{closed_places, spread_point}
 use Rattle.it_closure.specs.Collapse.{spread_out}
 use Rattle.it_columns.specs.Scaling.{NumbersFit, scale_of, scaled_point}
-use Rattle.it_prove.specs.ProofViews.{Follows, Runs, EndsWith, AreProofsOf}
-use Rattle.it_prove.proofs.ProofLemmas.{scaled_within}
+use Rattle.it_prove.specs.ProofViews.{Follows, RunEnds, EndsWith, AreProofsOf}
+use Rattle.it_prove.proofs.ProofLemmas.{quick_cause, quick_no, quick_yes, scaled_within}
 use Rattle.it_prove.proofs.PointLemmas.{places_rise, point_spread, spread_within}
 use Rattle.it_syntax.specs.declared.types.Sign.{Sign}
 use Rattle.it_syntax.specs.declared.types.Sign.TheVariants.{AtLeast, AtMost, Equal}
@@ -162,7 +162,7 @@ solve_end_up_to coordinates columns target budget e few (inl h) = start_up_to e 
 solve_end_up_to coordinates columns target budget e few (inr h) = ends_told _ _ _ _ _ _ budget _ e few h.1
 
 run_end_up_to : (q : ProblemView) (target : Terms) (budget : Option ℕ) (e : RunEndView (List (ℕ × Rational)) (List Rational))
-    → IfSome budget (λ n. n < 2 ^ 32) → Runs q target budget e → IsUpToStep last_step e
+    → IfSome budget (λ n. n < 2 ^ 32) → RunEnds q target budget e → IsUpToStep last_step e
 run_end_up_to q target budget e few (inl h) = start_up_to e h.1
 run_end_up_to q target budget e few (inr h) = solve_end_up_to _ _ _ budget e few h.1
 
@@ -187,7 +187,7 @@ pairs_below ds few from (t ∷ ts) a all =
 -- a proof of a target has such a shape, whichever run it comes from
 scaled_proof : (p : ProblemView) (effort : Effort) (t : Terms) (w : CertificateView) → EndsWith p t effort (proof_views.Yes w) → IsScaled w
 scaled_proof p effort t w (inl e) = scaled_by_end p t w e.end e.follows
-scaled_proof p effort t w (inr (quick, settled)) = record { scale = settled.2; canonical = settled.1 }
+scaled_proof p effort t w (inr e) = let settled = quick_yes effort.runs p t w e in record { scale = settled.2; canonical = settled.1 }
 
 -- proofs of targets and of obligations have such a shape
 pub proofs_scaled : (p : ProblemView) (effort : Effort) (ts : List Terms) (ws : List CertificateView) → AreProofsOf p effort ts ws → All IsScaled ws
@@ -240,7 +240,7 @@ module _ (q : BodyView) (posed : IsProblemOf q (problem_of q)) where
 
   values_of_no : (effort : Effort) (t : Terms) (values : List ℤ) → EndsWith (problem_of q) t effort (proof_views.No values) → All IsWithin values
   values_of_no effort t values (inl e) = values_by_end (problem_of q) t posed.limits values e.end e.follows
-  values_of_no effort t values (inr (quick, settled)) = settled.1
+  values_of_no effort t values (inr e) = (quick_no effort.runs (problem_of q) t values e).1
 
   values_due : (effort : Effort) (ts : List Terms) (back : Bool) (values : List ℤ) → PointIsDue (problem_of q) effort ts back values → All IsWithin values
   values_due effort [] back values d = absurd d
@@ -262,7 +262,8 @@ module _ (q : BodyView) (posed : IsProblemOf q (problem_of q)) where
       → EndsWith (problem_of q) t effort (proof_views.Undecided c) → IsCauseFor q.names c
   cause_of_target effort few t c (inl e) = cause_by_end q.names (problem_of q) t c e.end
       (run_end_up_to (problem_of q) t effort.pivots e.end few e.run) e.follows
-  cause_of_target effort few t c (inr (quick, settled)) = absurd settled
+  cause_of_target effort few t c (inr e) =
+      subst (IsCauseFor q.names) (sym (quick_cause effort.runs (problem_of q) t c e)) (let l : 0 < 2 ^ 32 = omega arith in l)
 
   cause_due : (effort : Effort) → IfSome effort.pivots (λ n. n < 2 ^ 32) → (ts : List Terms) (c : Cause)
       → CauseIsDue (problem_of q) effort ts c → IsCauseFor q.names c
@@ -286,7 +287,7 @@ end_names_none q target c (Width k) e = subst NamesNone (undecided_same (causes.
 
 target_names_none : (p : ProblemView) (effort : Effort) (t : Terms) (c : Cause) → EndsWith p t effort (proof_views.Undecided c) → NamesNone c
 target_names_none p effort t c (inl e) = end_names_none p t c e.end e.follows
-target_names_none p effort t c (inr (quick, settled)) = absurd settled
+target_names_none p effort t c (inr e) = subst NamesNone (sym (quick_cause effort.runs p t c e)) tt
 
 due_names_none : (p : ProblemView) (effort : Effort) (ts : List Terms) (c : Cause) → CauseIsDue p effort ts c → NamesNone c
 due_names_none p effort [] c d = absurd d

@@ -12,7 +12,7 @@ use Rattle.it_forms.specs.declared.types.Code.{Code}
 use Rattle.it_contain.specs.Proposals.{Plan}
 use Rattle.it_answer.specs.declared.types.Budgets.{Budgets}
 use Rattle.it_cli.specs.Counts.{IsBenchLine}
-use Rattle.it_cli.specs.Right.{budgets_of}
+use Rattle.it_cli.specs.Right.{budgets_of, limits_of_names}
 use Rattle.it_cli.specs.Modes.{Replies, WholeOutput}
 use Rattle.it_cli.specs.Outputs.{IsOutput, bench_mode, check_mode, mode_of, most_bytes}
 use Rattle.it_cli.specs.Refusals.{fault_line}
@@ -287,9 +287,9 @@ headline r s settings most bytes old new ends is reading limit e taken taken_aft
     (has_output r s ends is) reading limit e taken taken_after
 
 pub verdicts_are_written : VerdictsAreWritten
-verdicts_are_written r s bytes old new ends is reading e taken taken_after =
-    let h = headline r s Check 67108864 bytes old new ends is reading refl e taken taken_after in
-    (h.1.replies, h.0, subst (λ (lines : List (List ℕ)). Replies check_mode lines h.1.replies h.0) h.1.asked h.1.written, h.2, h.1.is)
+verdicts_are_written r s names bytes old new ends is reading e taken taken_after =
+    let h = headline r s (Check names) 67108864 bytes old new ends is reading refl e taken taken_after in
+    (h.1.replies, h.0, subst (λ (lines : List (List ℕ)). Replies (check_mode (limits_of_names names)) lines h.1.replies h.0) h.1.asked h.1.written, h.2, h.1.is)
 
 -- the whole output of mode `bench` is its line
 by_one_item : (budgets : Budgets) (plans : List Plan) (seed count : ℕ) (items : List (Unit {0})) (lines : List (List ℕ)) (out : List ℕ)

@@ -27,3 +27,4 @@ pub mod AcceptedOutput
 pub mod TruthLemmas
 pub mod WrittenLemmas
 pub mod OriginLemmas
+pub mod ReachLemmas

@@ -18,7 +18,7 @@ use Rattle.it_space.specs.Answers.{AnswerView, CertificateView, answer_view, cer
 use Rattle.it_space.specs.declared.answers.Mark.{Mark}
 use Rattle.it_space.specs.Answers as views
 use Rattle.it_space.specs.Rows.{Terms, IsOver}
-use Rattle.it_space.specs.Spaces.{size_of}
+use Rattle.it_space.specs.Spaces.{size_of, most_variables}
 use Rattle.it_polymatroid.specs.Certificates.{Form}
 use Rattle.it_polymatroid.specs.Elementals.{elementals}
 use Rattle.it_space.proofs.EveryLemmas.{every_of}
@@ -27,7 +27,6 @@ use Rattle.it_syntax.specs.NamesViews.{NamesView}
 use Rattle.it_question.specs.AsciiTexts.{IsAsciiQuestion}
 use Rattle.it_certificate.specs.Values.{IsWritable}
 use Rattle.it_question.specs.Limits.{IsQuestion, IsRegionOf, IsVerbOver}
-use Rattle.it_question.specs.QuestionLimits.{most_names}
 use Rattle.it_question.specs.OwnLines.{RegionView}
 use Rattle.it_question.specs.Questions.{BodyView, QuestionView, VerbView, Prove, Eliminate, Contain}
 use Rattle.it_demand.specs.Demands.{Demand}
@@ -45,6 +44,7 @@ use Rattle.it_run.specs.Runs.{RunEndView}
 use Rattle.it_rational.specs.Rational.{Rational}
 use Rattle.it_prove.specs.ProofViews.{Yes, No, Undecided, Follows, EndsWith}
 use Rattle.it_prove.specs.declared.types.Effort.{Effort}
+use Rattle.it_prove.proofs.ProofLemmas.{quick_cause}
 use Rattle.it_eliminate.proofs.MemberLemmas.{every_member}
 use Rattle.it_redundant.specs.ReducedElimination.{ProjectedView}
 use Rattle.it_redundant.specs.ReducedElimination as projections
@@ -55,7 +55,7 @@ use Rattle.it_answer.specs.DueEliminations.{IsDueElimination, answer_of_end}
 use Rattle.it_answer.specs.DueRelations.{CauseIsDue, IsDueRelation}
 use Rattle.it_answer.specs.Forms.{CertifyAll, IsAllowedWeight, all_demands}
 use Rattle.it_demand.specs.Targets.{targets}
-use Rattle.it_answer.specs.RightAnswers.{IsDueBy, IsRightAnswer}
+use Rattle.it_answer.specs.RightAnswers.{IsDueBy, IsRightAnswer, budgets_under}
 use Rattle.it_print.specs.Lines.{IsCauseOf, IsPrintable, IsRowOver, answer_line, auxiliary_names, origins_of}
 use Rattle.it_print.specs.ProofLines.{generator_rows, proof_text}
 use Rattle.it_region.specs.AnswerForms.{answer_forms}
@@ -115,7 +115,7 @@ cause_of_run_end p t m cause (Width k) a = subst (IsCauseOf m) (sym (undecided_s
 
 cause_of_target : (p : ProblemView) (effort : Effort) (m : ℕ) (t : Terms) (cause : Cause) → EndsWith p t effort (Undecided cause) → IsCauseOf m cause
 cause_of_target p effort m t cause (inl e) = cause_of_run_end p t m cause e.end e.follows
-cause_of_target p effort m t cause (inr (quick, settled)) = absurd settled
+cause_of_target p effort m t cause (inr e) = subst (IsCauseOf m) (sym (quick_cause effort.runs p t cause e)) tt
 
 cause_of_due : (p : ProblemView) (effort : Effort) (m : ℕ) (ts : List Terms) (cause : Cause) → CauseIsDue p effort ts cause → IsCauseOf m cause
 cause_of_due p effort m [] cause c = absurd c
@@ -125,13 +125,14 @@ cause_of_due p effort m (t ∷ ts) cause (inr e) = cause_of_due p effort m ts ca
 -- ---- an answer to `prove`
 
 -- a question of a file has few names, also with those of its first region
-few_names : (q : BodyView) → IsQuestion q → (length (problem_names q).variables ≤ most_names) × (length (problem_names q).rates ≤ 16)
+few_names : (q : BodyView) → IsQuestion q → (length (problem_names q).variables ≤ most_variables) × (length (problem_names q).rates ≤ 16)
 few_names q k = by_verb q.verb k.verb
   where
-    by_verb : (verb : VerbView) → IsVerbOver q.names verb → (length (names_under q.names verb).variables ≤ most_names) × (length (names_under q.names verb).rates ≤ 16)
+    by_verb : (verb : VerbView) → IsVerbOver q.names verb → (length (names_under q.names verb).variables ≤ most_variables)
+        × (length (names_under q.names verb).rates ≤ 16)
     by_verb (Prove r) over = (k.few, k.few_rates)
     by_verb (Eliminate rates) over = (k.few, k.few_rates)
-    by_verb (Contain a b tries) over = (over.0.few_variables, subst (λ (rs : List (List ℕ)). length rs ≤ 16) (sym over.0.rates) k.few_rates)
+    by_verb (Contain a b tries) over = (omega (arith, over.0.few_variables), subst (λ (rs : List (List ℕ)). length rs ≤ 16) (sym over.0.rates) k.few_rates)
 
 printable_proof : (effort : Effort) (q : BodyView) (r : RelationView) (m : ℕ) (answer : Answer) → IsQuestion q
     → m ≡ length (question_demands q) → ShowsBy q (Prove r) (answer_view answer)
@@ -141,7 +142,7 @@ printable_proof effort q r m (answers.Yes proofs) k few shown due = certificates
 printable_proof effort q r m (answers.No is_back point) k few shown due =
     let size : length point ≡ size_of (space_of (problem_names q)) = point_size q (targets (variable_count q) r) is_back point shown in
     let names = few_names q k in
-    (omega (arith, size, pow_pos (variable_count q)), omega (arith, size, pow_mono {i = variable_count q} {j = most_names} names.0, names.1))
+    (omega (arith, size, pow_pos (variable_count q)), omega (arith, size, pow_mono {i = variable_count q} {j = most_variables} names.0, names.1))
 printable_proof effort q r m (answers.Undecided cause) k few shown due = cause_of_due (problem_of q) effort (length (problem_names q).rates)
     (map (terms_in q) (targets (variable_count q) r)) cause due
 printable_proof effort q r m (answers.Region rows) k few shown due = absurd shown
@@ -210,10 +211,13 @@ pub right_is_printable : (budgets : Budgets) (plans : List Plan) (q : BodyView) 
     → IsRightAnswer budgets plans q (record { answer = answer_view answer; found = found }) → IsPrintable q m answer
 right_is_printable budgets plans q m answer found k few right = by_verb q.verb refl right.shows right.due
   where
+    own : Budgets
+    own = budgets_under (problem_of q) budgets
+
     by_verb : (verb : VerbView) → q.verb ≡ verb → ShowsBy q verb (answer_view answer)
-        → IsDueBy budgets plans q verb (record { answer = answer_view answer; found = found }) → IsPrintable q m answer
-    by_verb (Prove r) is shown due = printable_proof budgets.effort q r m answer k few shown due.0
-    by_verb (Eliminate rates) is shown due = printable_region budgets q rates m answer (ap (names_under q.names) is)
+        → IsDueBy own plans q verb (record { answer = answer_view answer; found = found }) → IsPrintable q m answer
+    by_verb (Prove r) is shown due = printable_proof own.effort q r m answer k few shown due.0
+    by_verb (Eliminate rates) is shown due = printable_region own q rates m answer (ap (names_under q.names) is)
         (subst (IsVerbOver q.names) is k.verb).within shown due.0
     by_verb (Contain a b tries) is shown due = printable_containment q a b tries m answer is k few shown
 

@@ -19,7 +19,8 @@ use Rattle.it_syntax.specs.NamesViews.{NamesView, index_of, IsNew}
 use Rattle.it_syntax.specs.Spans.{letter_of, letters_until, last_letter}
 use Rattle.it_syntax.specs.Spelling.{StartsWith, IsText}
 use Rattle.it_syntax.proofs.NameLemmas.{nowhere_all, distinct_insert, differs_both_ways}
-use Rattle.it_question.specs.Files.{IsFile}
+use Rattle.it_question.specs.declared.sizes.FileLimits.{FileLimits}
+use Rattle.it_question.specs.Files.{IsFileWithin}
 use Rattle.it_question.specs.Lines.{LineView, AreLines, split_lines, letters_of_lines}
 use Rattle.it_question.specs.NewNames.{NameSortView, Variable, Rate, with_name, no_names, is_taken, new_flag}
 use Rattle.it_question.specs.LineTexts.{text_of_lines}
@@ -34,7 +35,7 @@ use Rattle.it_forms.specs.Forms.{Keyword, Punctuation, Give, Then}
 use Rattle.it_forms.specs.Words.{limit_flag}
 use Rattle.it_forms.proofs.FormParts.{Fact, OfEach, Always, always_weaker, loop_keeps}
 use Rattle.it_question.specs.QuestionForms.{count, new_name, more_new, new_names, names_line, own_lines, verb, question, more_questions, file}
-use Rattle.it_question.specs.QuestionLimits.{most_lines, most_names, most_questions}
+use Rattle.it_question.specs.QuestionLimits.{most_lines, most_questions, names_within}
 use Rattle.it_question.specs.Questions.{BodyView, QuestionView}
 use Rattle.it_question.proofs.QuestionOutlines.{file_has}
 use Rattle.it_question.proofs.WholeFileLemmas.{said}
@@ -158,35 +159,39 @@ names_line_keeps sort most keyword p v s = (
   λ all. s (every_front IsSound p [] all),
 )
 
-question_keeps : Always question (λ p q. IfSound p q.names)
+question_keeps : (limits : FileLimits) → Always (question limits) (λ p q. IfSound p q.names)
 unfolding Always question
-question_keeps =
-    always_weaker (new_names Variable most_names no_names) (λ p v. IfSound p v) _ (λ p v h.
+question_keeps limits =
+    always_weaker (new_names Variable (names_within limits) no_names) (λ p v. IfSound p v) _ (λ p v h.
     always_weaker (names_line Rate most_rates (codes "rates") v) (λ q w. IfSound (p ++ q) w) _ (λ q w k.
     always_any (own_lines most_lines most_lines w) _ (λ r own.
-    always_any (verb own w) _ (λ t aim all. k (every_front IsSound (p ++ q) (r ++ (t ++ []))
+    always_any (verb limits own w) _ (λ t aim all. k (every_front IsSound (p ++ q) (r ++ (t ++ []))
     (subst (Every IsSound) (sym (append_assoc p q (r ++ (t ++ [])))) all)))))
     (names_line_keeps Rate most_rates (codes "rates") p v h))
-    (new_names_keep Variable most_names [] no_names (λ all. no_names_good))
+    (new_names_keep Variable (names_within limits) [] no_names (λ all. no_names_good))
 
 -- the names of questions
 abbrev IfSoundAll : Fact (List BodyView)
 IfSoundAll p qs = Every IsSound p → Every (λ q. AreGood q.names) qs
 
-more_questions_keep : (p : List Letter) (qs : List BodyView) → IfSoundAll p qs → Always (more_questions qs) (λ q rs. IfSoundAll (p ++ q) rs)
+more_questions_keep : (limits : FileLimits) (p : List Letter) (qs : List BodyView) → IfSoundAll p qs
+    → Always (more_questions limits qs) (λ q rs. IfSoundAll (p ++ q) rs)
 unfolding Always more_questions
-more_questions_keep p qs s = loop_keeps (Keyword (codes "vars") ∷ []) (λ qs l. (limit_flag (most_questions - length qs), tt {0})) (λ qs u. Then question (λ q. Give (qs ++ q ∷ []))) IfSoundAll turn p qs s
+more_questions_keep limits p qs s = loop_keeps (Keyword (codes "vars") ∷ []) (λ qs l. (limit_flag (most_questions - length qs), tt {0}))
+    (λ qs u. Then (question limits) (λ q. Give (qs ++ q ∷ []))) IfSoundAll turn p qs s
   where
-    turn : (p : List Letter) (qs : List BodyView) → IfSoundAll p qs → OfEach (record { kinds = Keyword (codes "vars") ∷ []; says = λ l. (limit_flag (most_questions - length qs), tt {0}) }) (λ p0 b. Always (Then question (λ q. Give (qs ++ q ∷ []))) (λ q rs. IfSoundAll (p ++ (p0 ++ q)) rs))
-    turn p qs s l e m = always_weaker question (λ q b. IfSound q b.names) _ (λ q b h all.
+    turn : (p : List Letter) (qs : List BodyView) → IfSoundAll p qs
+        → OfEach (record { kinds = Keyword (codes "vars") ∷ []; says = λ l. (limit_flag (most_questions - length qs), tt {0}) })
+        (λ p0 b. Always (Then (question limits) (λ q. Give (qs ++ q ∷ []))) (λ q rs. IfSoundAll (p ++ (p0 ++ q)) rs))
+    turn p qs s l e m = always_weaker (question limits) (λ q b. IfSound q b.names) _ (λ q b h all.
         let parts = every_back IsSound p ((l ∷ []) ++ (q ++ [])) all in
         every-append (λ b. AreGood b.names) qs (b ∷ []) (s (every_front IsSound p ((l ∷ []) ++ (q ++ [])) all))
-        (h (every_front IsSound q [] parts.1), tt)) question_keeps
+        (h (every_front IsSound q [] parts.1), tt)) (question_keeps limits)
 
-file_keeps : Always file IfSoundAll
+file_keeps : (limits : FileLimits) → Always (file limits) IfSoundAll
 unfolding Always file
-file_keeps = always_weaker (more_questions []) IfSoundAll _ (λ p qs h l e m all. h (every_front IsSound p ((l ∷ []) ++ []) all))
-    (more_questions_keep [] [] (λ all. tt))
+file_keeps limits = always_weaker (more_questions limits []) IfSoundAll _ (λ p qs h l e m all. h (every_front IsSound p ((l ∷ []) ++ []) all))
+    (more_questions_keep limits [] [] (λ all. tt))
 
 first_good : (q : QuestionView) (lines : List LineView) (bodies : List BodyView) → Every (λ b. AreGood b.names) bodies
     → with_texts lines bodies ≡ q ∷ [] → AreGood q.body.names
@@ -240,11 +245,11 @@ no_number (c ∷ cs) h =
     ∙ ap (λ o. option_and_then count_of_integer (option_map pos o)) (magnitude_none c cs n.0)
 
 -- a rate of the question that a text asks
-pub rates_found : (q : QuestionView) (r : ℕ) → IsFile q.text (q ∷ []) → r < length q.body.names.rates
+pub rates_found : (limits : FileLimits) (q : QuestionView) (r : ℕ) → IsFileWithin limits q.text (q ∷ []) → r < length q.body.names.rates
     → IsFoundIn q.body.names r × (step_of (get_or q.body.names.rates r []) ≡ None)
-rates_found q r asked h =
+rates_found limits q r asked h =
     let ls = letters_of_lines asked.lines in
-    let all = always_said file _ file_has IfSoundAll file_keeps ls asked.tree.0 (said file with_texts q.text (q ∷ []) asked)
+    let all = always_said (file limits) _ (file_has limits) IfSoundAll (file_keeps limits) ls asked.tree.0 (said (file limits) with_texts q.text (q ∷ []) asked)
     (lines_sound 1 (split_lines q.text) asked.lines asked.cut) in
     let g = first_good q asked.lines asked.tree.0 all asked.says in
     (found_at q.body.names.rates r g.distinct h, no_number (get_or q.body.names.rates r []) (every_at IsLettered q.body.names.rates r g.lettered h))

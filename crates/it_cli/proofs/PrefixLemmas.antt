@@ -9,7 +9,7 @@ use Rattle.it_cli.specs.Counts.{IsBenchLine}
 use Rattle.it_cli.specs.Laws.{CountsArePrefix, VerdictsArePrefix}
 use Rattle.it_cli.specs.Modes.{FirstOutput, Mode, OutputInPart, WholeOutput}
 use Rattle.it_cli.specs.Outputs.{bench_mode, check_mode}
-use Rattle.it_cli.specs.Right.{budgets_of}
+use Rattle.it_cli.specs.Right.{budgets_of, limits_of_names}
 use Rattle.it_cli.specs.declared.status.Status.{Status}
 use Rattle.it_cli.specs.declared.status.Status.TheVariants.{Done}
 use Rattle.it_cli.proofs.ReplyLemmas.{RepliesFrom}
@@ -82,10 +82,10 @@ module _ (m : Mode) (each : (s : List m.Reply) (x : m.Item) → (reply : m.Reply
       )
 
 pub verdicts_are_prefix : EachLineIsJudged → VerdictsArePrefix
-verdicts_are_prefix each plans bytes out (inl first) = first_is_prefix check_mode
-    (λ s line. let judged = (each 1 line).2 in (judged.verdict, judged.is)) bytes out first
-verdicts_are_prefix each plans bytes out (inr part) = part_is_prefix check_mode
-    (λ s line. let judged = (each 1 line).2 in (judged.verdict, judged.is)) bytes out part
+verdicts_are_prefix each plans names bytes out (inl first) = first_is_prefix (check_mode (limits_of_names names))
+    (λ s line. let judged = (each (limits_of_names names) 1 line).2 in (judged.verdict, judged.is)) bytes out first
+verdicts_are_prefix each plans names bytes out (inr part) = part_is_prefix (check_mode (limits_of_names names))
+    (λ s line. let judged = (each (limits_of_names names) 1 line).2 in (judged.verdict, judged.is)) bytes out part
 
 -- ---- the line of counts
 

@@ -16,7 +16,7 @@ use Rattle.it_space.specs.Cancelling.{times_up, times_down, cancelled_row, Cance
 use Rattle.it_space.specs.Divisors.{lowest_terms}
 use Rattle.it_problems.specs.Problems.{ProblemView}
 use Rattle.it_space.specs.Rows.{Terms, Ascends, IsCanonical, IsOver, coefficient}
-use Rattle.it_space.specs.Spaces.{size_of}
+use Rattle.it_space.specs.Spaces.{size_of, most_variables}
 use Rattle.it_space.proofs.CanonicalRows.{other_is, Rises, none_under, first_is}
 use Rattle.it_space.proofs.Contents.{content_pos, divided_all}
 use Rattle.it_space.proofs.MixLemmas.{factors, cancelled_gone}
@@ -24,7 +24,6 @@ use Rattle.it_space.proofs.TermLemmas.{rises-cancelled_row, coefficient-cancelle
 use Rattle.it_polymatroid.specs.Certificates.{Form}
 use Rattle.it_question.specs.Questions.{BodyView}
 use Rattle.it_question.specs.Limits.{IsQuestion}
-use Rattle.it_question.specs.QuestionLimits.{most_names}
 use Rattle.it_demand.specs.SystemForms.{AreRowsOf, system_forms}
 use Rattle.it_demand.specs.QuestionSpaces.{space_of}
 use Rattle.it_question.specs.ProblemLines.{problem_names}
@@ -173,7 +172,7 @@ rows_fit size (r ∷ rows) few up canonical =
     (rows_fit size rows few (All-tail (IsOver size) r.1 (region_rows rows) up) canonical.1)
 
 few_coordinates : (q : BodyView) → IsQuestion q → size_of (space_of q.names) < 2 ^ 32
-few_coordinates q k = omega (arith, pow_mono {i = length q.names.variables} {j = most_names} k.few, k.few_rates)
+few_coordinates q k = omega (arith, pow_mono {i = length q.names.variables} {j = most_variables} k.few, k.few_rates)
 
 pub right_region_fits : (budgets : Budgets) (q : BodyView) (rates : List ℕ) (rows : List (Mark × Terms)) → IsQuestion q → HasSystemRows q
     → IsExactRegion q rates rows → IsDueElimination budgets q rates (Region rows)

@@ -1,6 +1,7 @@
 -- From the lines about the question that a sharing file makes to what is written for the file.
 use Rattle.std.proofs.Common.{◌≡◌, ℕ, ◌+◌, ◌≤◌, ◌++◌, true, false, List, codes, sym, ap, ap₂, subst, ◌∙◌, []}
 use Rattle.it_prove.specs.declared.types.Effort.{Effort}
+use Rattle.it_question.specs.declared.sizes.FileLimits.{FileLimits}
 use Rattle.it_question.specs.Questions.{QuestionView}
 use Rattle.it_copy.specs.Extensions.{IsProof}
 use Rattle.it_print.specs.Lines.{answer_line}
@@ -25,7 +26,7 @@ names_of_made : (x : SharingView) (q : QuestionView) → q ≡ made_question x �
 unfolding made_question
 names_of_made x q made = ap (λ (y : QuestionView). y.body.names) made
 
-module _ (effort : Effort) (bytes : List ℕ) (x : SharingView) (minimal maximal : ℕ) (q : QuestionView)
+module _ (limits : FileLimits) (effort : Effort) (bytes : List ℕ) (x : SharingView) (minimal maximal : ℕ) (q : QuestionView)
     (is_minimal : minimal ≡ minimal_count x) (is_maximal : maximal ≡ maximal_count x) (few : minimal + maximal ≤ 64)
     (made : q ≡ made_question x) where
   few_sets : minimal_count x + maximal_count x ≤ 64
@@ -35,7 +36,7 @@ module _ (effort : Effort) (bytes : List ℕ) (x : SharingView) (minimal maximal
   headed line text is = is ∙ ap₂ (λ m n. sharing_heading m n ++ line) is_minimal is_maximal
 
   pub factored_text : (line text : List ℕ) → x.best ≡ true → IsFactorText effort 1 q.body line
-      → text ≡ sharing_heading minimal maximal ++ line → IsTextOf (sharing_mode false effort) [] 1 (said_by bytes x) text
+      → text ≡ sharing_heading minimal maximal ++ line → IsTextOf (sharing_mode limits false effort) [] 1 (said_by bytes x) text
   factored_text line text asked t is = record {
     reply = Factored t.reply;
     right = (few_sets, asked, subst (λ (y : QuestionView). IsRightReply effort y.body t.reply) made t.right);
@@ -44,7 +45,7 @@ module _ (effort : Effort) (bytes : List ℕ) (x : SharingView) (minimal maximal
   }
 
   pub answered_text : (line text : List ℕ) → x.best ≡ false → IsProofText effort 1 q.body line
-      → text ≡ sharing_heading minimal maximal ++ line → IsTextOf (sharing_mode false effort) [] 1 (said_by bytes x) text
+      → text ≡ sharing_heading minimal maximal ++ line → IsTextOf (sharing_mode limits false effort) [] 1 (said_by bytes x) text
   answered_text line text asked t is = record {
     reply = Answered t.answer;
     right = (few_sets, asked, subst (λ (y : QuestionView). IsRightProof effort y.body t.answer) made t.right);
@@ -54,7 +55,7 @@ module _ (effort : Effort) (bytes : List ℕ) (x : SharingView) (minimal maximal
 
   -- the lines of a report
   pub answered_report : (text : List ℕ) → x.best ≡ false → IsReportOf effort (OfSharing bytes) q.body text
-      → IsTextOf (sharing_mode true effort) [] 1 (said_by bytes x) text
+      → IsTextOf (sharing_mode limits true effort) [] 1 (said_by bytes x) text
   answered_report text asked t = record {
     reply = Answered t.answer;
     right = (few_sets, asked, subst (λ (y : QuestionView). IsRightProof effort y.body t.answer) made t.right);
@@ -62,7 +63,7 @@ module _ (effort : Effort) (bytes : List ℕ) (x : SharingView) (minimal maximal
   }
 
   pub factored_report : (text : List ℕ) → x.best ≡ true → IsFactorReportOf effort (OfSharing bytes) q.body text
-      → IsTextOf (sharing_mode true effort) [] 1 (said_by bytes x) text
+      → IsTextOf (sharing_mode limits true effort) [] 1 (said_by bytes x) text
   factored_report text asked t = record {
     reply = Factored t.reply;
     right

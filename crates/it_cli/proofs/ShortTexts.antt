@@ -3,8 +3,9 @@ use Rattle.std.proofs.Common.{◌≡◌, inl, inr, ℕ, zero, suc, ◌+◌, ◌�
 use Rattle.std.proofs.lemmas.List.{length-map}
 use Rattle.std.proofs.lemmas.List.Elements.{All-nil, All-cons}
 use Rattle.it_syntax.specs.declared.types.Misspelling.{Misspelling}
+use Rattle.it_question.specs.declared.sizes.FileLimits.{FileLimits}
 use Rattle.it_question.proofs.LetterLemmas.{length_with_ends, split_length}
-use Rattle.it_question.specs.Files.{IsFile}
+use Rattle.it_question.specs.Files.{IsFileWithin}
 use Rattle.it_question.specs.Lines.{LineView, AreLines, split_lines, without_return, before_comment, without_tab, plain_text}
 use Rattle.it_question.specs.LineTexts.{without_leading, unless_blank, without_trailing, text_of_lines}
 use Rattle.it_question.specs.Texts.{question_line_count, with_texts}
@@ -92,19 +93,22 @@ taken_given (suc i) (l ∷ lines) = let k = taken_given i lines in omega (arith,
 abbrev IsShortBy : ℕ → QuestionView → Type 0
 IsShortBy most q = length q.text ≤ most
 
-all_short : (most : ℕ) (lines : List LineView) (qs : List BodyView) → AreAt lines qs → given_all lines ≤ most → All (IsShortBy most) (with_texts lines qs)
-all_short most lines [] at h = All-nil (IsShortBy most)
-all_short most lines (x ∷ xs) at h =
+all_short : (limits : FileLimits) (most : ℕ) (lines : List LineView) (qs : List BodyView) → AreAt limits lines qs → given_all lines ≤ most
+    → All (IsShortBy most) (with_texts lines qs)
+all_short limits most lines [] at h = All-nil (IsShortBy most)
+all_short limits most lines (x ∷ xs) at h =
     let i = question_line_count x in
     let q : QuestionView = record { body = x; text = text_of_lines (texts_of (take i lines)) } in
     let sum = taken_given i lines in
     let text = whole_text (take i lines) at.0.whole in
     let short : IsShortBy most q = omega (arith, sum, text, h) in
-    All-cons (IsShortBy most) q (with_texts (drop i lines) xs) short (all_short most (drop i lines) xs at.1 (omega (arith, sum, h)))
+    All-cons (IsShortBy most) q (with_texts (drop i lines) xs) short (all_short limits most (drop i lines) xs at.1 (omega (arith, sum, h)))
 
-pub texts_are_short : (bytes : List ℕ) (qs : List QuestionView) → IsFile bytes qs → All (λ q. length q.text ≤ length bytes + 1) qs
-texts_are_short bytes qs asked =
+pub texts_are_short : (limits : FileLimits) (bytes : List ℕ) (qs : List QuestionView) → IsFileWithin limits bytes qs
+    → All (λ q. length q.text ≤ length bytes + 1) qs
+texts_are_short limits bytes qs asked =
     let a = lines_short 1 (split_lines bytes) asked.lines asked.cut in
     let b = split_length bytes in
-    let at = questions_at asked.lines asked.tree.0 (lines_sound 1 (split_lines bytes) asked.lines asked.cut) (said file with_texts bytes qs asked) in
-    subst (All (IsShortBy (length bytes + 1))) asked.says (all_short (length bytes + 1) asked.lines asked.tree.0 at (omega (arith, a, b)))
+    let at = questions_at limits asked.lines asked.tree.0 (lines_sound 1 (split_lines bytes) asked.lines asked.cut)
+    (said (file limits) with_texts bytes qs asked) in
+    subst (All (IsShortBy (length bytes + 1))) asked.says (all_short limits (length bytes + 1) asked.lines asked.tree.0 at (omega (arith, a, b)))

@@ -6,6 +6,7 @@ use Rattle.it_space.specs.Answers.AnswerView.{Yes, No, Undecided, Region, Contai
 use Rattle.it_space.specs.Rows.{point_of}
 use Rattle.it_space.proofs.OptionLemmas.{none_is_not_some, some_same}
 use Rattle.it_syntax.specs.Meaning.{RelationView}
+use Rattle.it_question.specs.declared.sizes.FileLimits.{FileLimits}
 use Rattle.it_question.specs.Limits.{IsQuestion}
 use Rattle.it_question.specs.Questions.{BodyView, VerbView, Prove, Eliminate, Contain}
 use Rattle.it_copy.specs.CopyLines.{CopyView}
@@ -32,25 +33,25 @@ use Rattle.it_cli.proofs.CopyFactors.{asked_is_proof, same_with_copies}
 -- ---- of a question with copies
 
 module _ (shown_is_true : answers.WhatIsShownIsTrue) (by_copies : YesByCopies) where
-  true_with_copies : (q e : BodyView) (cs : List CopyView) (verb : VerbView) (a : AnswerView) → IsQuestion q → q.verb ≡ verb
-      → IsExtension q cs e → IsTrueAnswer e a → IsTrueWithCopies q e verb a
-  true_with_copies q e cs (Prove r) (Yes ws) limits verb extension t =
+  true_with_copies : (limits : FileLimits) (q e : BodyView) (cs : List CopyView) (verb : VerbView) (a : AnswerView) → IsQuestion q → q.verb ≡ verb
+      → IsExtension limits q cs e → IsTrueAnswer e a → IsTrueWithCopies q e verb a
+  true_with_copies limits q e cs (Prove r) (Yes ws) within verb extension t =
       let same : e.verb ≡ Prove r = subst (λ (x : BodyView). x.verb ≡ Prove r) (sym extension.is) verb in
-      by_copies q e cs r limits verb extension (λ image polymatroid lines. own_lines e r e.verb same
+      by_copies limits q e cs r within verb extension (λ image polymatroid lines. own_lines e r e.verb same
       (subst (λ (v : VerbView). IsTrueBy e v (Yes ws)) same t) image (polymatroid, lines))
-  true_with_copies q e cs (Prove r) (No is_back values) limits verb extension t = t
-  true_with_copies q e cs (Prove r) (Undecided cause) limits verb extension t = t
-  true_with_copies q e cs (Prove r) (Region rows) limits verb extension t = t
-  true_with_copies q e cs (Prove r) (Contained parts ws) limits verb extension t = t
-  true_with_copies q e cs (Prove r) (Open tried) limits verb extension t = t
-  true_with_copies q e cs (Eliminate rates) a limits verb extension t = absurd (subst IsProof verb extension.made.proof)
-  true_with_copies q e cs (Contain first second tries) a limits verb extension t = absurd (subst IsProof verb extension.made.proof)
+  true_with_copies limits q e cs (Prove r) (No is_back values) within verb extension t = t
+  true_with_copies limits q e cs (Prove r) (Undecided cause) within verb extension t = t
+  true_with_copies limits q e cs (Prove r) (Region rows) within verb extension t = t
+  true_with_copies limits q e cs (Prove r) (Contained parts ws) within verb extension t = t
+  true_with_copies limits q e cs (Prove r) (Open tried) within verb extension t = t
+  true_with_copies limits q e cs (Eliminate rates) a within verb extension t = absurd (subst IsProof verb extension.made.proof)
+  true_with_copies limits q e cs (Contain first second tries) a within verb extension t = absurd (subst IsProof verb extension.made.proof)
 
-  pub right_copy_is_true : (effort : Effort) (x : CopyQuestion) (reply : CopyReply) → IsQuestion x.question.body
-      → IsRightCopy effort x reply → IsTrueCopy x reply
-  right_copy_is_true effort x (Misfit fault) limits right = right
-  right_copy_is_true effort x (Extended e a) limits right =
-      (right.0, true_with_copies x.question.body e x.copies x.question.body.verb a limits refl right.0 (shown_is_true e a right.1.shows))
+  pub right_copy_is_true : (limits : FileLimits) (effort : Effort) (x : CopyQuestion) (reply : CopyReply) → IsQuestion x.question.body
+      → IsRightCopy limits effort x reply → IsTrueCopy limits x reply
+  right_copy_is_true limits effort x (Misfit fault) within right = right
+  right_copy_is_true limits effort x (Extended e a) within right =
+      (right.0, true_with_copies limits x.question.body e x.copies x.question.body.verb a within refl right.0 (shown_is_true e a right.1.shows))
 
 -- ---- of a question in mode `best`
 
@@ -60,24 +61,28 @@ module _ (shown_is_true : factors.WhatIsShownIsTrue) where
   right_reply_is_true effort q Other right = right
 
   -- with copies, by what is true of the question with them
-  true_reply_with : (q e : BodyView) (c : CopyView) (cs : List CopyView) (reply : ReplyView) → IsQuestion q → IsExtension q (c ∷ cs) e
+  true_reply_with : (limits : FileLimits) (q e : BodyView) (c : CopyView) (cs : List CopyView) (reply : ReplyView) → IsQuestion q
+      → IsExtension limits q (c ∷ cs) e
       → IsTrueReply e reply → IsTrueReplyWith q (c ∷ cs) e reply
-  true_reply_with q e c cs (Found best) limits extension t =
+  true_reply_with limits q e c cs (Found best) within extension t =
       let verb : e.verb ≡ q.verb = ap (λ (x : BodyView). x.verb) extension.is in
       let asked : asked_by q.verb ≡ Some t.0 = ap asked_by (sym verb) ∙ t.1 in
       let proof = asked_is_proof q.verb t.0 asked in
-      (t.0, asked, true_of_same (HoldsFor e t.0) (HoldsWithCopies q e t.0) best (same_with_copies q e t.0 limits proof (verb ∙ proof)) t.2)
-  true_reply_with q e c cs Other limits extension t = ap asked_by (sym (ap (λ (x : BodyView). x.verb) extension.is)) ∙ t
+      (t.0, asked, true_of_same (HoldsFor e t.0) (HoldsWithCopies q e t.0) best (same_with_copies q e t.0 within proof (verb ∙ proof)) t.2)
+  true_reply_with limits q e c cs Other within extension t = ap asked_by (sym (ap (λ (x : BodyView). x.verb) extension.is)) ∙ t
 
-  true_reply : (effort : Effort) (q e : BodyView) (cs : List CopyView) (reply : ReplyView) → IsQuestion q → IsAskedWith q cs e
+  true_reply : (limits : FileLimits) (effort : Effort) (q e : BodyView) (cs : List CopyView) (reply : ReplyView) → IsQuestion q → IsAskedWith limits q cs e
       → IsRightReply effort e reply → IsTrueReplyWith q cs e reply
-  true_reply effort q e [] reply limits same right = right_reply_is_true effort q reply (subst (λ (x : BodyView). IsRightReply effort x reply) same right)
-  true_reply effort q e (c ∷ cs) reply limits extension right = true_reply_with q e c cs reply limits extension (right_reply_is_true effort e reply right)
+  true_reply limits effort q e [] reply within same right = right_reply_is_true effort q reply
+      (subst (λ (x : BodyView). IsRightReply effort x reply) same right)
+  true_reply limits effort q e (c ∷ cs) reply within extension right = true_reply_with limits q e c cs reply within extension
+      (right_reply_is_true effort e reply right)
 
-  pub right_best_is_true : (effort : Effort) (x : CopyQuestion) (reply : BestReply) → IsQuestion x.question.body
-      → IsRightBestReply effort x reply → IsTrueBestReply x reply
-  right_best_is_true effort x (Misfit fault) limits right = right
-  right_best_is_true effort x (Extended e reply) limits right = (right.0, true_reply effort x.question.body e x.copies reply limits right.0 right.1)
+  pub right_best_is_true : (limits : FileLimits) (effort : Effort) (x : CopyQuestion) (reply : BestReply) → IsQuestion x.question.body
+      → IsRightBestReply limits effort x reply → IsTrueBestReply limits x reply
+  right_best_is_true limits effort x (Misfit fault) within right = right
+  right_best_is_true limits effort x (Extended e reply) within right =
+      (right.0, true_reply limits effort x.question.body e x.copies reply within right.0 right.1)
 
 -- ---- of a sharing file
 

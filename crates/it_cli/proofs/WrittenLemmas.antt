@@ -3,6 +3,7 @@ use Rattle.std.proofs.Common.{◌≡◌, ℕ, ◌+◌, inl, List, [], ◌∷◌,
 use Rattle.std.proofs.lemmas.List.Elements.{All-nil, All-cons, All-head, All-tail, All-map}
 use Rattle.it_settings.specs.declared.types.Settings.{Settings}
 use Rattle.it_settings.specs.declared.types.Settings.TheVariants.{Answer, Copy, Best, Outer, Sharing}
+use Rattle.it_question.specs.declared.sizes.FileLimits.{FileLimits}
 use Rattle.it_question.specs.Limits.{IsQuestion}
 use Rattle.it_question.specs.Questions.{QuestionView}
 use Rattle.it_contain.specs.Proposals.{Plan}
@@ -23,7 +24,7 @@ use Rattle.it_cli.specs.BestReplies.{best_lines}
 use Rattle.it_cli.specs.Copies.{AsksWithCopies, CopyQuestion, copy_lines, with_copies}
 use Rattle.it_cli.specs.Modes.{Mode, WholeOutput}
 use Rattle.it_cli.specs.Outputs.{IsOutput, answer_mode, best_mode, copy_mode, most_bytes, outer_mode, sharing_mode}
-use Rattle.it_cli.specs.Right.{budgets_of, effort_of, limits_of}
+use Rattle.it_cli.specs.Right.{budgets_of, effort_of, limits_of, limits_of_names}
 use Rattle.it_cli.specs.ToldOrigins.{AreToldOrigins, ToldReply, told_lines}
 use Rattle.it_cli.specs.SharingReplies.{AsksOfSharing, SharingFile, SharingReply, said_by, sharing_lines}
 use Rattle.it_cli.specs.Truth.{IsTrueBestReply, IsTrueCopy, IsTrueSharing}
@@ -71,16 +72,17 @@ abbrev Any : {X : Type 0} → X → Type 0
 Any x = Unit {0}
 
 pub answers_show : AnswersShow
-answers_show format run pivots rows tries = writes_such (Answer format run pivots rows tries) 1048576 (ShownAnswers format) refl (λ plans bytes out o.
-    lines_for (answer_mode (budgets_of run pivots rows tries) plans format) (λ told. told) (told_lines format) (λ k q told. refl) Any
+answers_show format run pivots rows tries names = writes_such (Answer format run pivots rows tries names) 1048576
+    (ShownAnswers (limits_of_names names) format) refl (λ plans bytes out o.
+    lines_for (answer_mode (limits_of_names names) (budgets_of run pivots rows tries) plans format) (λ told. told) (told_lines format) (λ k q told. refl) Any
     (λ (q : QuestionView) (told : ToldReply). Shows q.body told.reply.answer
     × AreToldOrigins format q.body told.reply.answer told.origins)
     (λ earlier q told any right. (right.reply.shows, right.origins)) (λ bytes qs asked i d l. tt) bytes out Done o)
 
 pub answers_are_true : answers.WhatIsShownIsTrue → AnswersAreTrue
-answers_are_true shown_is_true format run pivots rows tries = writes_such (Answer format run pivots rows tries) 1048576
-    (TrueAnswers format) refl (λ plans bytes out o.
-    lines_for (answer_mode (budgets_of run pivots rows tries) plans format) (λ told. told) (told_lines format) (λ k q told. refl) Any
+answers_are_true shown_is_true format run pivots rows tries names = writes_such (Answer format run pivots rows tries names) 1048576
+    (TrueAnswers (limits_of_names names) format) refl (λ plans bytes out o.
+    lines_for (answer_mode (limits_of_names names) (budgets_of run pivots rows tries) plans format) (λ told. told) (told_lines format) (λ k q told. refl) Any
     (λ (q : QuestionView) (told : ToldReply). IsTrueAnswer q.body told.reply.answer)
     (λ earlier q told any right. shown_is_true q.body told.reply.answer right.reply.shows) (λ bytes qs asked i d l. tt) bytes out Done o)
 
@@ -88,46 +90,55 @@ answers_are_true shown_is_true format run pivots rows tries = writes_such (Answe
 abbrev IsWithinLimits : CopyQuestion → Type 0
 IsWithinLimits x = IsQuestion x.question.body
 
-copied_within : CopiedQuestionsAreWithin → (bytes : List ℕ) (items : List CopyQuestion) → AsksWithCopies bytes items → All IsWithinLimits items
-copied_within are_within bytes items asked =
+copied_within : CopiedQuestionsAreWithin → (limits : FileLimits) (bytes : List ℕ) (items : List CopyQuestion) → AsksWithCopies limits bytes items
+    → All IsWithinLimits items
+copied_within are_within limits bytes items asked =
     subst (All IsWithinLimits) (sym asked.are) (All-map IsWithinLimits (with_copies asked.copies) asked.questions
-    (are_within bytes asked.copies asked.questions asked.read))
+    (are_within limits bytes asked.copies asked.questions asked.read))
 
 pub copies_are_true : answers.WhatIsShownIsTrue → YesByCopies → CopiedQuestionsAreWithin → CopiesAreTrue
-copies_are_true shown_is_true by_copies are_within report run pivots = writes_such (Copy report run pivots) 1048576 (TrueCopies report) refl
+copies_are_true shown_is_true by_copies are_within report run pivots names = writes_such (Copy report run pivots names) 1048576
+    (TrueCopies (limits_of_names names) report) refl
     (λ plans bytes out o.
-    lines_for (copy_mode report (effort_of run pivots)) (λ reply. reply) (copy_lines report) (λ k x reply. refl) IsWithinLimits IsTrueCopy
-    (λ earlier. right_copy_is_true shown_is_true by_copies (effort_of run pivots)) (copied_within are_within) bytes out Done o)
+    lines_for (copy_mode (limits_of_names names) report (effort_of run pivots)) (λ reply. reply) (copy_lines report) (λ k x reply. refl) IsWithinLimits
+    (IsTrueCopy (limits_of_names names))
+    (λ earlier. right_copy_is_true shown_is_true by_copies (limits_of_names names) (effort_of run pivots))
+    (copied_within are_within (limits_of_names names)) bytes out Done o)
 
 pub factors_are_true : factors.WhatIsShownIsTrue → CopiedQuestionsAreWithin → FactorsAreTrue
-factors_are_true shown_is_true are_within report run pivots = writes_such (Best report run pivots) 1048576 (TrueFactors report) refl (λ plans bytes out o.
-    lines_for (best_mode report (effort_of run pivots)) (λ reply. reply) (best_lines report)
-    (λ k x reply. refl) IsWithinLimits IsTrueBestReply (λ earlier. right_best_is_true shown_is_true (effort_of run pivots))
-    (copied_within are_within) bytes out Done o)
+factors_are_true shown_is_true are_within report run pivots names = writes_such (Best report run pivots names) 1048576
+    (TrueFactors (limits_of_names names) report) refl (λ plans bytes out o.
+    lines_for (best_mode (limits_of_names names) report (effort_of run pivots)) (λ reply. reply) (best_lines report)
+    (λ k x reply. refl) IsWithinLimits (IsTrueBestReply (limits_of_names names))
+    (λ earlier. right_best_is_true shown_is_true (limits_of_names names) (effort_of run pivots))
+    (copied_within are_within (limits_of_names names)) bytes out Done o)
 
 -- what a reply to the question shows is true
 abbrev IsTrueWhereShown : QuestionView → Type 0
 IsTrueWhereShown q = (reply : BoundsView) → right_bounds.ShowsReply q.body reply → true_bounds.IsTrueReply q.body reply
 
 pub bounds_are_true : right_bounds.WhatIsShownIsTrue → BoundsAreTrue
-bounds_are_true shown_is_true report run pivots rows tries = writes_such (Outer report run pivots rows tries) 1048576
-    (TrueBounds report (limits_of run pivots rows tries)) refl (λ plans bytes out o.
-    lines_for (outer_mode report (limits_of run pivots rows tries)) (λ told. told)
+bounds_are_true shown_is_true report run pivots rows tries names = writes_such (Outer report run pivots rows tries names) 1048576
+    (TrueBounds (limits_of_names names) report (limits_of run pivots rows tries)) refl (λ plans bytes out o.
+    lines_for (outer_mode (limits_of_names names) report (limits_of run pivots rows tries)) (λ told. told)
     (bounds.told_lines report (limits_of run pivots rows tries)) (λ k q told. refl)
     IsTrueWhereShown (λ (q : QuestionView) (told : bounds.ToldReply). true_bounds.IsTrueReply q.body told.reply)
-    (λ earlier q told within right. within told.reply right.reply.shows) shown_is_true bytes out Done o)
+    (λ earlier q told within right. within told.reply right.reply.shows) (shown_is_true (limits_of_names names)) bytes out Done o)
 
 -- what the file says is within the limits
 abbrev IsWithinSharing : SharingFile → Type 0
 IsWithinSharing x = IsSharing x.says × IsBoundWhereBest x.says
 
-sharing_within : SharingIsWithin → (bytes : List ℕ) (items : List SharingFile) → AsksOfSharing bytes items → All IsWithinSharing items
-sharing_within is_within bytes items asked = subst (All IsWithinSharing) (sym asked.is)
-    (All-cons IsWithinSharing (said_by bytes asked.file) [] (is_within bytes asked.file asked.read) (All-nil IsWithinSharing))
+sharing_within : SharingIsWithin → (limits : FileLimits) (bytes : List ℕ) (items : List SharingFile) → AsksOfSharing limits bytes items
+    → All IsWithinSharing items
+sharing_within is_within limits bytes items asked = subst (All IsWithinSharing) (sym asked.is)
+    (All-cons IsWithinSharing (said_by bytes asked.file) [] (is_within limits bytes asked.file asked.read) (All-nil IsWithinSharing))
 
 pub sharing_is_true : answers.WhatIsShownIsTrue → factors.WhatIsShownIsTrue → MadeQuestionIsOfPerfectSharing → SharingIsWithin → SharingIsTrue
-sharing_is_true shown_is_true shown_factors is_perfect is_within report run pivots = writes_such (Sharing report run pivots) 1048576
-    (TrueSharing report) refl (λ plans bytes out o.
-    lines_for (sharing_mode report (effort_of run pivots)) (λ reply. reply) (λ k. sharing_lines report) (λ k x reply. refl) IsWithinSharing
+sharing_is_true shown_is_true shown_factors is_perfect is_within report run pivots names = writes_such (Sharing report run pivots names) 1048576
+    (TrueSharing (limits_of_names names) report) refl (λ plans bytes out o.
+    lines_for (sharing_mode (limits_of_names names) report (effort_of run pivots)) (λ reply. reply) (λ k. sharing_lines report)
+    (λ k x reply. refl) IsWithinSharing
     (λ (x : SharingFile) (reply : SharingReply). IsTrueSharing x.says reply)
-    (λ earlier x. right_sharing_is_true shown_is_true shown_factors is_perfect (effort_of run pivots) x.says) (sharing_within is_within) bytes out Done o)
+    (λ earlier x. right_sharing_is_true shown_is_true shown_factors is_perfect (effort_of run pivots) x.says)
+    (sharing_within is_within (limits_of_names names)) bytes out Done o)

@@ -3,6 +3,7 @@
 use Rattle.std.specs.Prelude.{◌≡◌, ℕ, List, [], ◌∷◌, ◌++◌, Bool, true, false, codes}
 use Rattle.serde_json.specs.Data.{Members}
 use Rattle.it_prove.specs.declared.types.Effort.{Effort}
+use Rattle.it_question.specs.declared.sizes.FileLimits.{FileLimits}
 use Rattle.it_question.specs.Questions.{BodyView}
 use Rattle.it_canon.specs.QuestionDemands.{question_origins}
 use Rattle.it_copy.specs.declared.types.CopyFault.{CopyFault}
@@ -22,18 +23,18 @@ abbrev pub BestReply : Type 0
 BestReply = ReplyWith ReplyView
 
 -- the question that is asked: with these copies, if there are any
-abbrev pub IsAskedWith : BodyView → List CopyView → BodyView → Type 0
-IsAskedWith q [] e = e ≡ q
-IsAskedWith q (c ∷ cs) e = IsExtension q (c ∷ cs) e
+abbrev pub IsAskedWith : FileLimits → BodyView → List CopyView → BodyView → Type 0
+IsAskedWith limits q [] e = e ≡ q
+IsAskedWith limits q (c ∷ cs) e = IsExtension limits q (c ∷ cs) e
 
 -- there are copies that the question can't have, for this reason, which isn't want of memory
-abbrev pub IsToldMisfit : CopyQuestion → CopyFault → Type 0
-IsToldMisfit x fault = (x.copies ≡ [] → ⊥) × (fault ≡ Memory → ⊥) × IsMisfit x.question.body x.copies fault
+abbrev pub IsToldMisfit : FileLimits → CopyQuestion → CopyFault → Type 0
+IsToldMisfit limits x fault = (x.copies ≡ [] → ⊥) × (fault ≡ Memory → ⊥) × IsMisfit limits x.question.body x.copies fault
 
 -- a right reply
-abbrev pub IsRightBestReply : Effort → CopyQuestion → BestReply → Type 0
-IsRightBestReply effort x (Misfit fault) = IsToldMisfit x fault
-IsRightBestReply effort x (Extended e reply) = IsAskedWith x.question.body x.copies e × IsRightReply effort e reply
+abbrev pub IsRightBestReply : FileLimits → Effort → CopyQuestion → BestReply → Type 0
+IsRightBestReply limits effort x (Misfit fault) = IsToldMisfit limits x fault
+IsRightBestReply limits effort x (Extended e reply) = IsAskedWith limits x.question.body x.copies e × IsRightReply effort e reply
 
 -- ---- its lines
 

@@ -2,6 +2,7 @@
 use Rattle.std.specs.Prelude.{◌≡◌, ℕ, List, [], ◌++◌, map, flat_map, Bool, true, false, codes}
 use Rattle.it_prove.specs.declared.types.Effort.{Effort}
 use Rattle.it_space.specs.Answers.{AnswerView}
+use Rattle.it_question.specs.declared.sizes.FileLimits.{FileLimits}
 use Rattle.it_question.specs.Questions.{BodyView, QuestionView}
 use Rattle.it_copy.specs.declared.types.CopyFault.{CopyFault}
 use Rattle.it_copy.specs.declared.types.CopyFault.TheVariants.{Memory}
@@ -24,10 +25,10 @@ abbrev pub with_copies : List CopyView → QuestionView → CopyQuestion
 with_copies copies q = record { copies = copies; question = q }
 
 -- the bytes are a file whose head asks for copies in each of these questions
-pub record AsksWithCopies (bytes : List ℕ) (items : List CopyQuestion) : Type 0 where
+pub record AsksWithCopies (limits : FileLimits) (bytes : List ℕ) (items : List CopyQuestion) : Type 0 where
   pub copies : List CopyView
   pub questions : List QuestionView
-  pub read : IsCopyFile bytes copies questions
+  pub read : IsCopyFile limits bytes copies questions
   pub are : items ≡ map (with_copies copies) questions
 
 -- why the question can't have the copies, or the question that is asked, with them, and what is told of it
@@ -44,9 +45,9 @@ abbrev pub IsRightProof : Effort → BodyView → AnswerView → Type 0
 IsRightProof effort q answer = IsRightAnswer (record { effort = effort; rows = 1; tries = 1 }) [] q (record { answer = answer; found = [] })
 
 -- a right reply; `Memory` is no reason
-abbrev pub IsRightCopy : Effort → CopyQuestion → CopyReply → Type 0
-IsRightCopy effort x (Misfit fault) = (fault ≡ Memory → ⊥) × IsMisfit x.question.body x.copies fault
-IsRightCopy effort x (Extended e answer) = IsExtension x.question.body x.copies e × IsRightProof effort e answer
+abbrev pub IsRightCopy : FileLimits → Effort → CopyQuestion → CopyReply → Type 0
+IsRightCopy limits effort x (Misfit fault) = (fault ≡ Memory → ⊥) × IsMisfit limits x.question.body x.copies fault
+IsRightCopy limits effort x (Extended e answer) = IsExtension limits x.question.body x.copies e × IsRightProof effort e answer
 
 -- ---- its lines
 

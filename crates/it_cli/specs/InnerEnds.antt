@@ -5,6 +5,7 @@ use Rattle.it_outside.specs.Causes.{next_count}
 use Rattle.it_outside.specs.Traffic.{Gains, TookPrefix}
 use Rattle.it_forms.specs.declared.types.Code.{Code}
 use Rattle.it_prove.specs.declared.types.Effort.{Effort}
+use Rattle.it_question.specs.declared.sizes.FileLimits.{FileLimits}
 use Rattle.it_question.specs.Questions.{BodyView, QuestionView}
 use Rattle.it_canon.specs.QuestionDemands.{terms_in, question_origins}
 use Rattle.it_copy.specs.declared.types.CopyLine.{CopyLine}
@@ -32,7 +33,7 @@ use Rattle.it_cli.specs.Ends.{Ends, call_of}
 use Rattle.it_cli.specs.Modes.{FirstOutput, Mode, OutputInPart, WholeOutput}
 use Rattle.it_cli.specs.Outputs.{done_mode}
 use Rattle.it_cli.specs.Refusals.{fault_line}
-use Rattle.it_cli.specs.declared.heads.Request.{Request}
+use Rattle.it_cli.specs.declared.requests.Request.{Request}
 use Rattle.it_cli.specs.declared.heads.Wanted.{Wanted}
 use Rattle.it_cli.specs.declared.heads.Wanted.TheVariants.{Answers, Factors}
 use Rattle.it_cli.specs.declared.status.Status.{Status}
@@ -150,9 +151,9 @@ ToldFor Answers = AnswerView
 ToldFor Factors = ReplyView
 
 -- a right reply
-abbrev pub IsRightFor : (wanted : Wanted) → Effort → CopyQuestion → ReplyWith (ToldFor wanted) → Type 0
-IsRightFor Answers = IsRightCopy
-IsRightFor Factors = IsRightBestReply
+abbrev pub IsRightFor : FileLimits → (wanted : Wanted) → Effort → CopyQuestion → ReplyWith (ToldFor wanted) → Type 0
+IsRightFor limits Answers = IsRightCopy limits
+IsRightFor limits Factors = IsRightBestReply limits
 
 -- its lines, or the line of a report
 abbrev pub lines_for : (wanted : Wanted) → Bool → ℕ → CopyQuestion → ReplyWith (ToldFor wanted) → List ℕ
@@ -160,12 +161,13 @@ lines_for Answers = copy_lines
 lines_for Factors = best_lines
 
 -- mode `copy` or `best`
-abbrev pub head_mode : Wanted → Bool → Effort → Mode
-head_mode wanted report effort = done_mode AsksWithCopies CopyFileFaultAt (λ (earlier : List (ReplyWith (ToldFor wanted))). IsRightFor wanted effort) (lines_for wanted report)
+abbrev pub head_mode : FileLimits → Wanted → Bool → Effort → Mode
+head_mode limits wanted report effort = done_mode (AsksWithCopies limits) (CopyFileFaultAt limits)
+    (λ (earlier : List (ReplyWith (ToldFor wanted))). IsRightFor limits wanted effort) (lines_for wanted report)
 
--- the mode of a request
-abbrev pub request_mode : Request → Mode
-request_mode request = head_mode request.wanted request.report request.effort
+-- the mode of a request for answers or factors
+abbrev pub request_mode : Wanted → Request → Mode
+request_mode wanted request = head_mode request.limits wanted request.report request.effort
 
 -- ---- the same of a sink, by its meaning and its states before and after
 

@@ -1,5 +1,5 @@
 -- What follows from how a call ends and from what a right answer is.
-use Rattle.std.specs.Prelude.{◌≡◌, ◌≢◌, ℕ, ◌+◌, ◌≤◌, ◌<◌, List, [], ◌++◌, length, ◌⊎◌, Option, Some, None}
+use Rattle.std.specs.Prelude.{◌≡◌, ◌≢◌, ℕ, ◌+◌, ◌≤◌, ◌<◌, List, [], ◌++◌, length, All, ◌⊎◌, Option, Some, None, true}
 use Rattle.std.specs.List.{list_any}
 use Rattle.it_outside.specs.Causes.{next_count}
 use Rattle.it_settings.specs.declared.types.Format.TheVariants.{Derived}
@@ -13,12 +13,21 @@ use Rattle.it_space.specs.declared.answers.Cause.TheVariants.{Pivots}
 use Rattle.it_forms.specs.declared.types.Code.{Code}
 use Rattle.it_question.specs.Questions.{BodyView, QuestionView}
 use Rattle.it_question.specs.Files.{IsFile}
+use Rattle.it_question.specs.QuestionLimits.{most_lines, usual}
+use Rattle.it_canon.specs.QuestionDemands.{problem_of}
+use Rattle.it_copy.specs.CopyLines.{CopyView}
+use Rattle.it_copy.specs.Extensions.{IsExtension}
+use Rattle.it_copy.specs.Files.{IsCopyFile}
+use Rattle.it_sharing.specs.SharingFiles.{IsSharingFile}
+use Rattle.it_sharing.specs.Sharings.{SharingView, made_question, maximal_count, minimal_count}
+use Rattle.it_prove.specs.ProofViews.{IsUnbound}
+use Rattle.it_prove.specs.Reach.{is_in_reach}
 use Rattle.it_region.specs.declared.types.Candidate.{Candidate}
 use Rattle.it_contain.specs.Proposals.{Plan}
 use Rattle.it_answer.specs.declared.types.Budgets.{Budgets}
 use Rattle.it_answer.specs.RightAnswers.{IsRightAnswer}
 use Rattle.it_report.specs.LineVerdicts.{LineVerdict, is_invalid}
-use Rattle.it_cli.specs.Right.{budgets_of}
+use Rattle.it_cli.specs.Right.{budgets_of, limits_of_names}
 use Rattle.it_gen.specs.GeneratedFiles.{generated_file}
 use Rattle.it_cli.specs.Counts.{AreCounted, IsBenchLine, no_counts}
 use Rattle.it_cli.specs.declared.counts.Counts.{Counts}
@@ -41,9 +50,11 @@ Headline = (r : Call) (s : Status) (settings : Settings) (most : ℕ) (bytes old
 
 -- In mode `check` it gained the verdict on each line, and the status says whether one is invalid.
 abbrev pub VerdictsAreWritten : Type 0
-VerdictsAreWritten = (r : Call) (s : Status) (bytes old new : List ℕ) → Ends r s → (s ≡ Done) ⊎ (s ≡ Invalid) → settings_of r.words ≡ Some Check
+VerdictsAreWritten = (r : Call) (s : Status) (names : Option ℕ) (bytes old new : List ℕ) → Ends r s → (s ≡ Done) ⊎ (s ≡ Invalid)
+    → settings_of r.words ≡ Some (Check names)
     → r.left ≡ Some bytes → r.taken ≡ Some old → r.taken_after ≡ Some new
-    → (verdicts : List LineVerdict) × (out : List ℕ) × Verdicts bytes verdicts out × (new ≡ old ++ out) × (s ≡ verdict_status (list_any is_invalid verdicts))
+    → (verdicts : List LineVerdict) × (out : List ℕ) × Verdicts (limits_of_names names) bytes verdicts out × (new ≡ old ++ out)
+    × (s ≡ verdict_status (list_any is_invalid verdicts))
 
 -- In mode `bench` it gained the line of counts, and the source is as it was.
 abbrev pub CountsAreWritten : Type 0
@@ -101,21 +112,32 @@ CountsAddUp = (budgets : Budgets) (plans : List Plan) (seed count : ℕ) (questi
     → IsFile (generated_file seed count) questions → AreCounted budgets plans [] no_counts questions counts
     → (counts.yes + counts.no + counts.undecided ≡ count) × (counts.regions ≡ 0) × (counts.contained ≡ 0) × (counts.left_open ≡ 0)
 
--- targets are decided by the defined run alone, and nothing is told that a search proposes
+-- targets are decided by the defined run alone, nothing is told that a search proposes, and files have the usual limits, so that the run
+-- is in reach
 abbrev pub AreByBland : Settings → Type 0
-AreByBland (Answer format run pivots rows tries) = (run ≡ Bland) × (format ≢ Derived)
-AreByBland Check = Unit {0}
+AreByBland (Answer format run pivots rows tries names) = (run ≡ Bland) × (format ≢ Derived) × (names ≡ None)
+AreByBland (Check names) = Unit {0}
 AreByBland (Bench seed count run pivots rows tries) = run ≡ Bland
-AreByBland (Copy report run pivots) = run ≡ Bland
-AreByBland (Best report run pivots) = run ≡ Bland
-AreByBland (Outer report run pivots rows tries) = run ≡ Bland
-AreByBland (Sharing report run pivots) = run ≡ Bland
+AreByBland (Copy report run pivots names) = (run ≡ Bland) × (names ≡ None)
+AreByBland (Best report run pivots names) = (run ≡ Bland) × (names ≡ None)
+AreByBland (Outer report run pivots rows tries names) = (run ≡ Bland) × (names ≡ None)
+AreByBland (Sharing report run pivots names) = (run ≡ Bland) × (names ≡ None)
 
 -- in each mode bytes ask for one list of items, or have one first fault, and not both
 abbrev pub ModesHaveOneReading : Type 0
 ModesHaveOneReading = (plans : List Plan) (settings : Settings) → HasOneReading (mode_of plans settings)
 
--- where targets are decided by the defined run alone, each mode is determined: an item has one right reply after others
+-- the defined run about each question of a usual file with a head is in reach, and so is that about the question with the copies
+abbrev pub CopiesAreInReach : Type 0
+CopiesAreInReach = (bytes : List ℕ) (copies : List CopyView) (qs : List QuestionView) → IsCopyFile usual bytes copies qs
+    → All (λ q. (is_in_reach (problem_of q.body) ≡ true) × ((e : BodyView) → IsExtension usual q.body copies e → is_in_reach (problem_of e) ≡ true)) qs
+
+-- the defined run about the question that is made of a usual sharing file is in reach
+abbrev pub SharingIsInReach : Type 0
+SharingIsInReach = (bytes : List ℕ) (x : SharingView) → IsSharingFile usual bytes x → minimal_count x + maximal_count x ≤ most_lines
+    → is_in_reach (problem_of (made_question x).body) ≡ true
+
+-- where targets of usual files are decided by the defined run alone, each mode is determined: an item has one right reply after others
 abbrev pub ModesAreDetermined : Type 0
 ModesAreDetermined = (plans : List Plan) (settings : Settings) → AreByBland settings → IsDetermined (mode_of plans settings)
 
@@ -124,16 +146,18 @@ abbrev pub OneOutput : Type 0
 OneOutput = (plans : List Plan) (settings : Settings) (bytes out other : List ℕ) (s t : Status) → AreByBland settings → IsOutput plans settings bytes out s → IsOutput plans settings bytes other t
     → (out ≡ other) × (s ≡ t)
 
--- without a budget of steps `undecided pivots` is never right
+-- where the defined run is made without a budget of steps, and is in reach, `undecided pivots` is never right
 abbrev pub NoLineIsOutOfSteps : Type 0
-NoLineIsOutOfSteps = (budgets : Budgets) (plans : List Plan) (q : BodyView) (steps : ℕ) (found : List Candidate) → budgets.effort.pivots ≡ None
-    → IsRightAnswer budgets plans q (record { answer = Undecided (Pivots steps); found = found }) → ⊥
+NoLineIsOutOfSteps = (budgets : Budgets) (plans : List Plan) (q : BodyView) (steps : ℕ) (found : List Candidate) → IsUnbound budgets.effort
+    → is_in_reach (problem_of q) ≡ true → IsRightAnswer budgets plans q (record { answer = Undecided (Pivots steps); found = found }) → ⊥
 
 -- ---- what is written in part
 
 -- what is written of the verdicts on a report, whichever way they are cut off, is a prefix of a whole output
 abbrev pub VerdictsArePrefix : Type 0
-VerdictsArePrefix = (plans : List Plan) (bytes out : List ℕ) → IsFirstOutput plans Check bytes out ⊎ IsOutputInPart plans Check bytes out → IsPrefixOfOutput plans Check bytes out
+VerdictsArePrefix = (plans : List Plan) (names : Option ℕ) (bytes out : List ℕ) → IsFirstOutput plans (Check names) bytes out
+    ⊎ IsOutputInPart plans (Check names) bytes out
+    → IsPrefixOfOutput plans (Check names) bytes out
 
 -- what is written of the line of counts where a write fails is a prefix of a whole output; where allocation fails, nothing or a
 -- whole output

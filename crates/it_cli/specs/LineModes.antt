@@ -1,5 +1,6 @@
 -- No public clause of the programs cites this module: what each mode that goes line by line through a report writes of a line.
 use Rattle.std.specs.Prelude.{◌≡◌, ℕ, List, Bool}
+use Rattle.it_question.specs.declared.sizes.FileLimits.{FileLimits}
 use Rattle.it_report.specs.Judging.{IsVerdict}
 use Rattle.it_report.specs.LineVerdicts.{LineVerdict, is_invalid, verdict_line}
 use Rattle.it_cli.specs.Modes.{Mode}
@@ -23,6 +24,6 @@ pub record IsReplied (m : LineMode) (k : ℕ) (line text : List ℕ) (invalid : 
   pub text_is : text ≡ m.text k reply
   pub invalid_is : invalid ≡ m.is_invalid reply
 
--- the verdicts of mode `check`
-abbrev pub verdicts : LineMode
-verdicts = record { Reply = LineVerdict; IsRight = IsVerdict; text = verdict_line; is_invalid = is_invalid }
+-- the verdicts of mode `check`, within these limits
+abbrev pub verdicts : FileLimits → LineMode
+verdicts limits = record { Reply = LineVerdict; IsRight = IsVerdict limits; text = verdict_line; is_invalid = is_invalid }

@@ -1,5 +1,5 @@
 -- What a mode is, and what it makes of an input.
-use Rattle.std.specs.Prelude.{◌≡◌, ℕ, ◌+◌, List, [], ◌∷◌, ◌++◌, length}
+use Rattle.std.specs.Prelude.{◌≡◌, ℕ, ◌+◌, List, [], ◌∷◌, ◌++◌, length, All}
 use Rattle.it_outside.specs.Groups.{Groups}
 use Rattle.it_outside.specs.Traffic.{IsPrefix}
 use Rattle.it_forms.specs.declared.types.Code.{Code}
@@ -54,7 +54,11 @@ pub record HasOneReading (m : Mode) : Type 0 where
   pub one_fault : (bytes : List ℕ) (line column row place : ℕ) (c d : Code) → m.FaultAt bytes line column c → m.FaultAt bytes row place d → (line ≡ row) × (column ≡ place) × (c ≡ d)
   pub apart : (bytes : List ℕ) (xs : List m.Item) (line column : ℕ) (c : Code) → m.Asks bytes xs → m.FaultAt bytes line column c → ⊥
 
--- the mode has one reading of bytes, and an item has one right reply after others
+-- an item has one right reply after others
+abbrev pub HasOneReply : (m : Mode) → m.Item → Type 0
+HasOneReply m x = (earlier : List m.Reply) (a b : m.Reply) → m.IsRight earlier x a → m.IsRight earlier x b → a ≡ b
+
+-- the mode has one reading of bytes, and each item that these ask for has one right reply after others
 pub record IsDetermined (m : Mode) : Type 0 where
   pub reading : HasOneReading m
-  pub one_reply : (earlier : List m.Reply) (x : m.Item) (a b : m.Reply) → m.IsRight earlier x a → m.IsRight earlier x b → a ≡ b
+  pub one_reply : (bytes : List ℕ) (xs : List m.Item) → m.Asks bytes xs → All (HasOneReply m) xs

@@ -7,6 +7,7 @@ use Rattle.it_print.specs.Lines.{answer_line}
 use Rattle.it_factor.specs.Lines.{reply_line}
 use Rattle.it_factor.specs.Replies.{ReplyView}
 use Rattle.it_factor.specs.RightReplies.{IsRightReply}
+use Rattle.it_question.specs.declared.sizes.FileLimits.{FileLimits}
 use Rattle.it_question.specs.QuestionLimits.{most_lines}
 use Rattle.it_sharing.specs.SharingFiles.{IsSharingFile}
 use Rattle.it_sharing.specs.Sharings.{SharingView, made_question, maximal_count, minimal_count}
@@ -25,9 +26,9 @@ abbrev pub said_by : List ℕ → SharingView → SharingFile
 said_by bytes x = record { bytes = bytes; says = x }
 
 -- the bytes are a sharing file, which asks for one thing
-pub record AsksOfSharing (bytes : List ℕ) (items : List SharingFile) : Type 0 where
+pub record AsksOfSharing (limits : FileLimits) (bytes : List ℕ) (items : List SharingFile) : Type 0 where
   pub file : SharingView
-  pub read : IsSharingFile bytes file
+  pub read : IsSharingFile limits bytes file
   pub is : items ≡ said_by bytes file ∷ []
 
 -- that the minimal and the maximal sets are too many, or an answer to the question that is made, or what is found of its factors

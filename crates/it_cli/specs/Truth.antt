@@ -4,6 +4,7 @@ use Rattle.std.specs.Prelude.{ℕ, ◌+◌, ◌<◌, ℤ, pos, ◌≤ℤ◌, ◌
 use Rattle.it_space.specs.Answers.{AnswerView}
 use Rattle.it_space.specs.Answers.AnswerView.{Yes}
 use Rattle.it_syntax.specs.Meaning.{RelationView, Holds}
+use Rattle.it_question.specs.declared.sizes.FileLimits.{FileLimits}
 use Rattle.it_question.specs.QuestionLimits.{most_lines}
 use Rattle.it_question.specs.Questions.{BodyView, VerbView, Prove}
 use Rattle.it_copy.specs.declared.types.CopyFault.TheVariants.{Memory}
@@ -29,9 +30,10 @@ IsTrueWithCopies q e (Prove r) (Yes ws) = (p : ℕ → ℤ) → HasCopies q e p 
 IsTrueWithCopies q e verb answer = IsTrueAnswer e answer
 
 -- the reason is one why the question can't have the copies; or this is the question with them, and the answer is true
-abbrev pub IsTrueCopy : CopyQuestion → CopyReply → Type 0
-IsTrueCopy x (Misfit fault) = (fault ≡ Memory → ⊥) × IsMisfit x.question.body x.copies fault
-IsTrueCopy x (Extended e answer) = IsExtension x.question.body x.copies e × IsTrueWithCopies x.question.body e x.question.body.verb answer
+abbrev pub IsTrueCopy : FileLimits → CopyQuestion → CopyReply → Type 0
+IsTrueCopy limits x (Misfit fault) = (fault ≡ Memory → ⊥) × IsMisfit limits x.question.body x.copies fault
+IsTrueCopy limits x (Extended e answer) = IsExtension limits x.question.body x.copies e
+    × IsTrueWithCopies x.question.body e x.question.body.verb answer
 
 -- ---- of a question in mode `best`
 
@@ -48,9 +50,10 @@ IsTrueReplyWith q (c ∷ cs) e (Found best) = (r : RelationView) × (asked_by q.
 IsTrueReplyWith q (c ∷ cs) e Other = asked_by q.verb ≡ None
 
 -- the reason is one why the question can't have the copies; or this is the question that is asked, and what is told is true
-abbrev pub IsTrueBestReply : CopyQuestion → BestReply → Type 0
-IsTrueBestReply x (Misfit fault) = IsToldMisfit x fault
-IsTrueBestReply x (Extended e reply) = IsAskedWith x.question.body x.copies e × IsTrueReplyWith x.question.body x.copies e reply
+abbrev pub IsTrueBestReply : FileLimits → CopyQuestion → BestReply → Type 0
+IsTrueBestReply limits x (Misfit fault) = IsToldMisfit limits x fault
+IsTrueBestReply limits x (Extended e reply) = IsAskedWith limits x.question.body x.copies e
+    × IsTrueReplyWith x.question.body x.copies e reply
 
 -- ---- of a sharing file
 

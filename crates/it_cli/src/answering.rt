@@ -18,9 +18,10 @@ ghost use Rattle.it_question.specs.QuestionLimits.{most_file_bytes};
 
 use crate::json_lines::{derived_line, json_line};
 use crate::refusals::fault_line;
+use crate::requests::AnswerRequest;
 use crate::status::Status;
 use crate::telling::tell;
-use it_answer::{AnsweredProblem, Budgets, answer, target_rows};
+use it_answer::{AnsweredProblem, answer, target_rows};
 use it_contain::Proposer;
 use it_outside::{Sink, write_all};
 use it_print::{answer_line, proof_text};
@@ -33,17 +34,16 @@ use std::alloc::{AllocError, Global};
 /// Answers a question file.
 pub fn answer_file<K: Sink>(
     alloc: Global,
-    format: Format,
-    budgets: Budgets,
+    request: AnswerRequest,
     bytes: &[u8],
     boxes: &mut Vec<Box<dyn Proposer>>,
     sink: &mut K,
 ) -> Status
     requires { length bytes.now ≤ most_file_bytes }
-    ensures { EndsForBytes K.taken K.faults (answer_mode budgets (map plan boxes.old.items) format) sink.old sink.new bytes.now result }
+    ensures { EndsForBytes K.taken K.faults (answer_mode request.limits request.budgets (map plan boxes.old.items) request.format) sink.old sink.new bytes.now result }
 {
-    match questions(alloc, bytes) {
-        Ok(questions) => answer_all(alloc, format, budgets, questions.as_slice(), boxes, sink),
+    match questions(alloc, bytes, request.limits) {
+        Ok(questions) => answer_all(alloc, request, questions.as_slice(), boxes, sink),
         Err(FileFault::Fault { line, column, code }) => tell_fault(alloc, line, column, code, sink),
         Err(FileFault::Memory) => Status::Memory,
     }
@@ -52,17 +52,16 @@ pub fn answer_file<K: Sink>(
 /// Writes each answer as soon as it is there.
 fn answer_all<K: Sink>(
     alloc: Global,
-    format: Format,
-    budgets: Budgets,
+    request: AnswerRequest,
     questions: &[Question],
     boxes: &mut Vec<Box<dyn Proposer>>,
     sink: &mut K,
 ) -> Status
     requires ascii { All IsAsciiQuestion questions.now }
-    ensures { EndsForItems K.taken K.faults (answer_mode budgets (map plan boxes.old.items) format) sink.old sink.new questions.now result }
+    ensures { EndsForItems K.taken K.faults (answer_mode request.limits request.budgets (map plan boxes.old.items) request.format) sink.old sink.new questions.now result }
 {
     for (i, question) in questions.iter().enumerate() {
-        let Ok(text) = answer_one(alloc, format, budgets, i + 1, question, boxes) else {
+        let Ok(text) = answer_one(alloc, request, i + 1, question, boxes) else {
             return Status::Memory;
         };
         let Ok(()) = write_all(sink, text.as_slice()) else {
@@ -75,18 +74,17 @@ fn answer_all<K: Sink>(
 /// The lines of the answer to question `k`, counted from 1.
 fn answer_one(
     alloc: Global,
-    format: Format,
-    budgets: Budgets,
+    request: AnswerRequest,
     k: usize,
     question: &Question,
     boxes: &mut Vec<Box<dyn Proposer>>,
 ) -> Result<Vec<u8>, AllocError>
     requires ascii { IsAsciiQuestion question.now }
-    ensures { IfOk result (λ t. IsAnswerText budgets (map plan boxes.old.items) format k question.now (map plan boxes.new.items) t.items) }
+    ensures { IfOk result (λ t. IsAnswerText request.budgets (map plan boxes.old.items) request.format k question.now (map plan boxes.new.items) t.items) }
 {
     question.facts();
-    let answered = answer(alloc, question, budgets, boxes)?;
-    lines(alloc, format, k, question, &answered)
+    let answered = answer(alloc, question, request.budgets, boxes)?;
+    lines(alloc, request.format, k, question, &answered)
 }
 
 /// The lines of an answer in `format`.

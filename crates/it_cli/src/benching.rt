@@ -15,7 +15,7 @@ use it_contain::Proposer;
 use it_gen::{generated_is_file, questions_of};
 use it_outside::Sink;
 use it_question::types::{FileFault, Question};
-use it_question::{file_is_one, questions};
+use it_question::{FileLimits, file_is_one, questions};
 use std::alloc::{AllocError, Global};
 
 /// Answers the questions of a generated file, and writes the line of their counts.
@@ -67,7 +67,7 @@ fn generated_questions(alloc: Global, seed: u32, count: u32) -> Result<Vec<Quest
     let bytes = questions_of(alloc, seed, count)?;
     generated_is_file();
     file_is_one();
-    match questions(alloc, bytes.as_slice()) {
+    match questions(alloc, bytes.as_slice(), FileLimits::USUAL) {
         Ok(questions) => Ok(questions),
         Err(FileFault::Memory) => Err(AllocError),
         Err(FileFault::Fault { .. }) => unreachable!(),

@@ -9,11 +9,13 @@ ghost use Rattle.it_cli.specs.Outputs.{copy_mode};
 use crate::answering::text_lines;
 use crate::misfits::{misfit_line, misfit_report};
 use crate::reporting::{head_text, proof_report};
+use crate::requests::Request;
 use it_answer::{Budgets, answer};
 use it_certificate::SourceText;
 use it_copy::extend;
 use it_copy::types::CopyLine;
 use it_prove::Effort;
+use it_question::FileLimits;
 use it_question::types::Question;
 use std::alloc::{AllocError, Global};
 
@@ -21,26 +23,26 @@ use std::alloc::{AllocError, Global};
 /// of a report instead.
 pub fn answer_text(
     alloc: Global,
-    report: bool,
-    effort: Effort,
+    request: Request,
     copies: &[CopyLine],
     k: usize,
     question: &Question,
 ) -> Result<Vec<u8>, AllocError>
     requires names { AreNamed copies.now }
     requires few { length copies.now ≤ 4 }
-    ensures { IfOk result (λ text. IsTextOf (copy_mode report effort) [] k (with_copies (map copy_view copies.now) question.now) text.items) }
+    ensures { IfOk result (λ text. IsTextOf (copy_mode request.limits request.report request.effort) [] k (with_copies (map copy_view copies.now) question.now) text.items) }
 {
-    if report {
-        reply_report(alloc, effort, copies, k, question)
+    if request.report {
+        reply_report(alloc, request.limits, request.effort, copies, k, question)
     } else {
-        reply_lines(alloc, effort, copies, k, question)
+        reply_lines(alloc, request.limits, request.effort, copies, k, question)
     }
 }
 
 /// The lines of question `k` as text.
 fn reply_lines(
     alloc: Global,
+    limits: FileLimits,
     effort: Effort,
     copies: &[CopyLine],
     k: usize,
@@ -48,9 +50,9 @@ fn reply_lines(
 ) -> Result<Vec<u8>, AllocError>
     requires names { AreNamed copies.now }
     requires few { length copies.now ≤ 4 }
-    ensures { IfOk result (λ text. IsTextOf (copy_mode false effort) [] k (with_copies (map copy_view copies.now) question.now) text.items) }
+    ensures { IfOk result (λ text. IsTextOf (copy_mode limits false effort) [] k (with_copies (map copy_view copies.now) question.now) text.items) }
 {
-    match extend(alloc, question, copies) {
+    match extend(alloc, question, copies, limits) {
         Ok(extended) => proof_lines(alloc, effort, k, &extended),
         Err(fault) => misfit_line(alloc, k, fault),
     }
@@ -59,6 +61,7 @@ fn reply_lines(
 /// The line of a report on question `k`.
 fn reply_report(
     alloc: Global,
+    limits: FileLimits,
     effort: Effort,
     copies: &[CopyLine],
     k: usize,
@@ -66,7 +69,7 @@ fn reply_report(
 ) -> Result<Vec<u8>, AllocError>
     requires names { AreNamed copies.now }
     requires few { length copies.now ≤ 4 }
-    ensures { IfOk result (λ text. IsTextOf (copy_mode true effort) [] k (with_copies (map copy_view copies.now) question.now) text.items) }
+    ensures { IfOk result (λ text. IsTextOf (copy_mode limits true effort) [] k (with_copies (map copy_view copies.now) question.now) text.items) }
 {
     let head = head_text(alloc, copies)?;
     let text = question.text(alloc)?;
@@ -74,7 +77,7 @@ fn reply_report(
         head: head.as_slice(),
         question: text.as_slice(),
     };
-    match extend(alloc, question, copies) {
+    match extend(alloc, question, copies, limits) {
         Ok(extended) => proof_report(alloc, effort, source, &extended),
         Err(fault) => misfit_report(alloc, source, fault),
     }

@@ -1,10 +1,10 @@
 //! Theorems on how a call ends and on what it writes, each as the contract of a function.
-ghost use Rattle.it_answer.specs.RightAnswers.{AYesAscends, NoStepIsZero, OneRightAnswer};
+ghost use Rattle.it_answer.specs.RightAnswers.{AYesAscends, FileIsInReach, NoStepIsZero, OneRightAnswer};
 ghost use Rattle.it_cli.specs.Accepted.{OutputIsAccepted, ReportsAreAccepted};
-ghost use Rattle.it_cli.specs.Laws.{BenchReadsNothing, CountsAddUp, CountsArePrefix, CountsAreWritten, FaultIsDue, Headline, IsComplete, LongIsDue, ModesAreDetermined, ModesHaveOneReading, NoLineIsOutOfSteps, OneOutput, SureEnds, UsageIsDue, VerdictsArePrefix, VerdictsAreWritten};
+ghost use Rattle.it_cli.specs.Laws.{BenchReadsNothing, CopiesAreInReach, CountsAddUp, CountsArePrefix, CountsAreWritten, FaultIsDue, Headline, IsComplete, LongIsDue, ModesAreDetermined, ModesHaveOneReading, NoLineIsOutOfSteps, OneOutput, SharingIsInReach, SureEnds, UsageIsDue, VerdictsArePrefix, VerdictsAreWritten};
 ghost use Rattle.it_cli.specs.Written.{AnswersAreTrue, AnswersShow, BoundsAreTrue, CopiesAreTrue, FactorsAreTrue, SharingIsTrue};
 
-use it_answer::{answers_are_determined, shown_answers_are_true};
+use it_answer::{answers_are_determined, files_are_in_reach, shown_answers_are_true};
 use it_bounds::shown_bounds_are_true;
 use it_certificate::{answers_read_back, origins_read_back};
 use it_copy::{copied_questions_are_within, copies_are_determined, heads_are_one, yes_by_copies};
@@ -57,7 +57,17 @@ pub fn modes_have_one_reading()
     sharing_is_one();
 }
 
-/// Where targets are decided by the defined run alone, an item has one right reply.
+/// The defined run about each question that a mode answers without `--names` is in reach: one of a file, with copies or without, and one
+/// that is made of a sharing file.
+pub fn questions_are_in_reach()
+    ensures file { FileIsInReach }
+    ensures copies { CopiesAreInReach }
+    ensures sharing { SharingIsInReach }
+{
+    files_are_in_reach();
+}
+
+/// Where targets of usual files are decided by the defined run alone, each item that an input asks for has one right reply.
 pub fn modes_are_determined()
     ensures { ModesAreDetermined }
 {
@@ -69,6 +79,7 @@ pub fn modes_are_determined()
     copies_are_determined();
     replies_are_determined();
     it_bounds::replies_are_determined();
+    questions_are_in_reach();
 }
 
 /// What modes `check` and `bench` have written of an output in part is a prefix of a whole output.
@@ -137,8 +148,8 @@ pub fn sharing_is_true()
     sharing_is_within();
 }
 
-/// Where targets are decided by the defined run alone, a question has one right answer for given budgets and boxes, and so an input has
-/// one output. However they are decided, certificates list their generators in ascending order.
+/// Where targets are decided by the defined run alone, a question about which it is in reach has one right answer for given budgets and
+/// boxes, and so an input with the usual limits has one output. However they are decided, certificates list their generators in ascending order.
 pub fn output_is_determined()
     ensures answer { OneRightAnswer }
     ensures ascends { AYesAscends }
@@ -156,7 +167,7 @@ pub fn counts_add_up()
     file_is_one();
 }
 
-/// With `--pivots none` no answer is `undecided pivots`.
+/// With `--pivots none` no answer to a question about which the defined run is in reach is `undecided pivots`.
 pub fn never_out_of_steps()
     ensures { NoLineIsOutOfSteps }
 {

@@ -12,12 +12,14 @@ use crate::answering::tell_fault;
 use crate::copying::proof_lines;
 use crate::factoring::factor_line;
 use crate::reporting::{factor_report, proof_report};
+use crate::requests::Request;
 use crate::status::Status;
 use crate::telling::tell;
 use it_certificate::{SourceText, misfit_json};
 use it_outside::Sink;
 use it_print::write_number;
 use it_prove::Effort;
+use it_question::FileLimits;
 use it_question::types::FileFault;
 use it_sharing::types::{Made, MadeFault, Sharing};
 use it_sharing::{made, sharing};
@@ -29,16 +31,15 @@ const MANY: &[u8] = b"misfit many\n";
 /// Answers what a sharing file asks.
 pub fn answer_sharing<K: Sink>(
     alloc: Global,
-    report: bool,
-    effort: Effort,
+    request: Request,
     bytes: &[u8],
     sink: &mut K,
 ) -> Status
     requires { length bytes.now ≤ most_file_bytes }
-    ensures { EndsForBytes K.taken K.faults (sharing_mode report effort) sink.old sink.new bytes.now result }
+    ensures { EndsForBytes K.taken K.faults (sharing_mode request.limits request.report request.effort) sink.old sink.new bytes.now result }
 {
-    match sharing(alloc, bytes) {
-        Ok(sharing) => reply(alloc, report, effort, bytes, &sharing, sink),
+    match sharing(alloc, bytes, request.limits) {
+        Ok(sharing) => reply(alloc, request, bytes, &sharing, sink),
         Err(FileFault::Fault { line, column, code }) => tell_fault(alloc, line, column, code, sink),
         Err(FileFault::Memory) => Status::Memory,
     }
@@ -47,15 +48,14 @@ pub fn answer_sharing<K: Sink>(
 /// Writes the lines for what a sharing file asks.
 fn reply<K: Sink>(
     alloc: Global,
-    report: bool,
-    effort: Effort,
+    request: Request,
     bytes: &[u8],
     sharing: &Sharing,
     sink: &mut K,
 ) -> Status
-    ensures { EndsForItems K.taken K.faults (sharing_mode report effort) sink.old sink.new (said_by bytes.now sharing.now ∷ []) result }
+    ensures { EndsForItems K.taken K.faults (sharing_mode request.limits request.report request.effort) sink.old sink.new (said_by bytes.now sharing.now ∷ []) result }
 {
-    match text(alloc, report, effort, bytes, sharing) {
+    match text(alloc, request, bytes, sharing) {
         Ok(text) => tell(sink, text.as_slice(), Status::Done),
         Err(_) => Status::Memory,
     }
@@ -64,31 +64,31 @@ fn reply<K: Sink>(
 /// The lines of the right reply to what a sharing file asks; with `report` the line of a report instead.
 fn text(
     alloc: Global,
-    report: bool,
-    effort: Effort,
+    request: Request,
     bytes: &[u8],
     sharing: &Sharing,
 ) -> Result<Vec<u8>, AllocError>
-    ensures { IfOk result (λ text. IsTextOf (sharing_mode report effort) [] 1 (said_by bytes.now sharing.now) text.items) }
+    ensures { IfOk result (λ text. IsTextOf (sharing_mode request.limits request.report request.effort) [] 1 (said_by bytes.now sharing.now) text.items) }
 {
-    if report {
-        report_line(alloc, effort, bytes, sharing)
+    if request.report {
+        report_line(alloc, request.limits, request.effort, bytes, sharing)
     } else {
-        lines(alloc, effort, bytes, sharing)
+        lines(alloc, request.limits, request.effort, bytes, sharing)
     }
 }
 
 /// The lines of the right reply to what a sharing file asks.
 fn lines(
     alloc: Global,
+    limits: FileLimits,
     effort: Effort,
     bytes: &[u8],
     sharing: &Sharing,
 ) -> Result<Vec<u8>, AllocError>
-    ensures { IfOk result (λ text. IsTextOf (sharing_mode false effort) [] 1 (said_by bytes.now sharing.now) text.items) }
+    ensures { IfOk result (λ text. IsTextOf (sharing_mode limits false effort) [] 1 (said_by bytes.now sharing.now) text.items) }
 {
     match made(alloc, sharing) {
-        Ok(made) => made_lines(alloc, effort, bytes, sharing, &made),
+        Ok(made) => made_lines(alloc, limits, effort, bytes, sharing, &made),
         Err(MadeFault::Many) => many_line(alloc),
         Err(MadeFault::Memory) => Err(AllocError),
     }
@@ -97,14 +97,15 @@ fn lines(
 /// The line of a report on the right reply to what a sharing file asks.
 fn report_line(
     alloc: Global,
+    limits: FileLimits,
     effort: Effort,
     bytes: &[u8],
     sharing: &Sharing,
 ) -> Result<Vec<u8>, AllocError>
-    ensures { IfOk result (λ text. IsTextOf (sharing_mode true effort) [] 1 (said_by bytes.now sharing.now) text.items) }
+    ensures { IfOk result (λ text. IsTextOf (sharing_mode limits true effort) [] 1 (said_by bytes.now sharing.now) text.items) }
 {
     match made(alloc, sharing) {
-        Ok(made) => made_report(alloc, effort, bytes, sharing, &made),
+        Ok(made) => made_report(alloc, limits, effort, bytes, sharing, &made),
         Err(MadeFault::Many) => many_report(alloc, bytes),
         Err(MadeFault::Memory) => Err(AllocError),
     }
@@ -122,6 +123,7 @@ fn many_report(alloc: Global, bytes: &[u8]) -> Result<Vec<u8>, AllocError>
 /// The line of a report on the right reply to the question that a sharing file makes.
 fn made_report(
     alloc: Global,
+    limits: FileLimits,
     effort: Effort,
     bytes: &[u8],
     sharing: &Sharing,
@@ -132,7 +134,7 @@ fn made_report(
     requires minimal { made.now.minimal ≡ minimal_count sharing.now }
     requires maximal { made.now.maximal ≡ maximal_count sharing.now }
     requires few { made.now.minimal + made.now.maximal ≤ most_lines }
-    ensures { IfOk result (λ text. IsTextOf (sharing_mode true effort) [] 1 (said_by bytes.now sharing.now) text.items) }
+    ensures { IfOk result (λ text. IsTextOf (sharing_mode limits true effort) [] 1 (said_by bytes.now sharing.now) text.items) }
 {
     if sharing.asks_best() {
         let text = factor_report(alloc, effort, SourceText::Sharing(bytes), &made.question)?;
@@ -155,6 +157,7 @@ fn many_line(alloc: Global) -> Result<Vec<u8>, AllocError>
 /// The lines of the right reply to the question that a sharing file makes.
 fn made_lines(
     alloc: Global,
+    limits: FileLimits,
     effort: Effort,
     bytes: &[u8],
     sharing: &Sharing,
@@ -165,7 +168,7 @@ fn made_lines(
     requires minimal { made.now.minimal ≡ minimal_count sharing.now }
     requires maximal { made.now.maximal ≡ maximal_count sharing.now }
     requires few { made.now.minimal + made.now.maximal ≤ most_lines }
-    ensures { IfOk result (λ text. IsTextOf (sharing_mode false effort) [] 1 (said_by bytes.now sharing.now) text.items) }
+    ensures { IfOk result (λ text. IsTextOf (sharing_mode limits false effort) [] 1 (said_by bytes.now sharing.now) text.items) }
 {
     if sharing.asks_best() {
         let line = factor_line(alloc, effort, 1, &made.question)?;

@@ -5,7 +5,7 @@ ghost use Rattle.it_settings.specs.Settings.{AreInRange};
 ghost use Rattle.it_cli.specs.Ends.{Ends, call_of};
 ghost use Rattle.it_cli.specs.InnerEnds.{EndsForBytes, EndsForSettings};
 ghost use Rattle.it_cli.specs.Outputs.{mode_of, most_bytes};
-ghost use Rattle.it_cli.specs.Right.{budgets_of, effort_of, limits_of};
+ghost use Rattle.it_cli.specs.Right.{budgets_of, effort_of, limits_of, limits_of_names};
 
 use crate::answering::answer_file;
 use crate::benching::bench;
@@ -13,6 +13,7 @@ use crate::bounding::find_bounds;
 use crate::checking::check_report;
 use crate::heads::{Wanted, reply_to_file};
 use crate::refusals::LONG;
+use crate::requests::{AnswerRequest, Request};
 use crate::sharing::answer_sharing;
 use crate::status::Status;
 use crate::telling::tell;
@@ -20,7 +21,8 @@ use it_answer::Budgets;
 use it_contain::Proposer;
 use it_outer::Limits;
 use it_outside::{InFault, Sink, Source, read_all};
-use it_prove::Effort;
+use it_prove::{Effort, Runs};
+use it_question::FileLimits;
 use it_settings::settings;
 use it_settings::types::{Run, Settings, WordsFault};
 use std::alloc::Global;
@@ -112,7 +114,7 @@ fn limit(settings: Settings) -> Option<usize>
 {
     match settings {
         Settings::Answer { .. } => Some(MOST_FILE_BYTES),
-        Settings::Check => Some(MOST_REPORT_BYTES),
+        Settings::Check { .. } => Some(MOST_REPORT_BYTES),
         Settings::Bench { .. } => None,
         Settings::Copy { .. } => Some(MOST_FILE_BYTES),
         Settings::Best { .. } => Some(MOST_FILE_BYTES),
@@ -127,11 +129,11 @@ fn effort_of(run: Run, pivots: Option<u32>) -> Effort
 {
     match run {
         Run::Bland => Effort {
-            quick: false,
+            runs: Runs::Defined,
             pivots,
         },
         Run::Quick => Effort {
-            quick: true,
+            runs: Runs::QuickFirst,
             pivots,
         },
     }
@@ -160,6 +162,16 @@ fn limits_of(run: Run, pivots: Option<u32>, rows: u32, tries: u32) -> Limits
     }
 }
 
+/// The limits of files whose questions may name so many variables, where their number is given.
+fn limits_of_names(names: Option<u8>) -> FileLimits
+    ensures { result ≡ limits_of_names names }
+{
+    match names {
+        Some(variables) => FileLimits::wide(variables),
+        None => FileLimits::USUAL,
+    }
+}
+
 /// Runs the mode of `settings` on the bytes of a whole input, or on none.
 fn reply<K: Sink>(
     alloc: Global,
@@ -179,11 +191,18 @@ fn reply<K: Sink>(
             pivots,
             rows,
             tries,
+            names,
         } => {
+            let limits = limits_of_names(names);
             let budgets = budgets_of(run, pivots, rows, tries);
-            answer_file(alloc, format, budgets, bytes, boxes, sink)
+            let request = AnswerRequest {
+                limits,
+                format,
+                budgets,
+            };
+            answer_file(alloc, request, bytes, boxes, sink)
         }
-        Settings::Check => check_report(alloc, bytes, sink),
+        Settings::Check { names } => check_report(alloc, limits_of_names(names), bytes, sink),
         Settings::Bench {
             seed,
             count,
@@ -199,17 +218,31 @@ fn reply<K: Sink>(
             report,
             run,
             pivots,
+            names,
         } => {
+            let limits = limits_of_names(names);
             let effort = effort_of(run, pivots);
-            reply_to_file(alloc, Wanted::Answers, report, effort, bytes, sink)
+            let request = Request {
+                limits,
+                report,
+                effort,
+            };
+            reply_to_file(alloc, Wanted::Answers, request, bytes, sink)
         }
         Settings::Best {
             report,
             run,
             pivots,
+            names,
         } => {
+            let limits = limits_of_names(names);
             let effort = effort_of(run, pivots);
-            reply_to_file(alloc, Wanted::Factors, report, effort, bytes, sink)
+            let request = Request {
+                limits,
+                report,
+                effort,
+            };
+            reply_to_file(alloc, Wanted::Factors, request, bytes, sink)
         }
         Settings::Outer {
             report,
@@ -217,14 +250,26 @@ fn reply<K: Sink>(
             pivots,
             rows,
             tries,
+            names,
         } => {
+            let file = limits_of_names(names);
             let limits = limits_of(run, pivots, rows, tries);
-            find_bounds(alloc, report, limits, bytes, sink)
+            find_bounds(alloc, file, report, limits, bytes, sink)
         }
         Settings::Sharing {
             report,
             run,
             pivots,
-        } => answer_sharing(alloc, report, effort_of(run, pivots), bytes, sink),
+            names,
+        } => {
+            let limits = limits_of_names(names);
+            let effort = effort_of(run, pivots);
+            let request = Request {
+                limits,
+                report,
+                effort,
+            };
+            answer_sharing(alloc, request, bytes, sink)
+        }
     }
 }

@@ -1,4 +1,4 @@
--- The size of the table with which the run about a problem begins.
+-- The size of the table with which the run about a problem begins, and the sizes of problems whose runs are in reach.
 use Rattle.std.specs.Prelude.{ℕ, ◌+◌, ◌*◌, List, [], ◌∷◌, length}
 use Rattle.it_problems.specs.declared.problems.Kind.{Kind}
 use Rattle.it_problems.specs.declared.problems.Kind.TheVariants.{Inequality, Equation}
@@ -29,3 +29,11 @@ table_columns q = length (elementals q.space.variables) + constraint_columns q.c
 -- the number of entries of the table: rows times columns
 unfoldable pub table_size : ProblemView → ℕ
 table_size q = table_rows q * table_columns q
+
+-- the most variables of a problem about which the defined run is in reach
+abbrev pub most_variables_in_reach : ℕ
+most_variables_in_reach = 10
+
+-- the most entries of a table that is in reach
+abbrev pub most_entries : ℕ
+most_entries = 4000000

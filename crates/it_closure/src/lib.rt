@@ -13,4 +13,4 @@ pub use laws::{
     closure_is_least, closures_keep, collapse_keeps, coordinates_serve, reads_exactly,
     spread_out_holds,
 };
-pub use sizes::{column_count, size};
+pub use sizes::{MOST_ENTRIES, MOST_VARIABLES_IN_REACH, column_count, size};

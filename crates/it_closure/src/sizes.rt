@@ -8,6 +8,12 @@ use it_elemental::count;
 use it_problems::{Constraint, Kind, Problem};
 use std::alloc::{AllocError, Global};
 
+/// With at most this many variables the defined run about a problem is in reach, if its table isn't too large.
+pub const MOST_VARIABLES_IN_REACH: u8 = 10;
+
+/// The most entries of a table that is in reach.
+pub const MOST_ENTRIES: u64 = 4000000;
+
 /// The number of entries, rows times columns, of the table with which the run about `problem` begins. Each closed set other than the
 /// closure of the empty set and each rate has a row. Each elemental inequality has a column, each inequality among the constraints one
 /// and each equation two, and each row an artificial one.

@@ -13,11 +13,12 @@ use Rattle.it_question.specs.Bodies.{body_view}
 use Rattle.it_question.specs.Limits.{IsQuestion}
 use Rattle.it_question.specs.Lines.{LineView, AreLinesOf, letters_of_lines}
 use Rattle.it_question.specs.QuestionForms.{file}
+use Rattle.it_question.specs.declared.sizes.FileLimits.{FileLimits}
 use Rattle.it_question.specs.Questions.{BodyView, QuestionView}
 use Rattle.it_question.specs.Texts.{with_texts}
 use Rattle.it_question.proofs.FileLemmas.{file_ends}
 use Rattle.it_question.proofs.FileReadings.{body_again, from_map}
-use Rattle.it_question.proofs.LimitLemmas.{IsRead, file_limited}
+use Rattle.it_question.proofs.LimitLemmas.{IsRead, file_limited, within_any}
 use Rattle.it_question.proofs.Puts.{puts_at, lines_then, line_puts}
 use Rattle.it_question.proofs.QuestionLines.{Grows, turns_grow}
 use Rattle.it_question.proofs.WholeFileLemmas.{EndsFile, form_is_one, form_has_one, read_says, whole_fault_is_one, whole_or_fault}
@@ -41,45 +42,47 @@ unfolding more_copies Spells
 copies_lines cs all m k s =
     turns_grow (λ (cs : List CopyView). record { kinds = Keyword (codes "copy") ∷ []; says = λ l. (limit_flag (most_copies - length cs), tt {0}) }) (λ cs u. Spells (Then (to_end copy) (λ c. Give (cs ++ c ∷ [])))) length (λ cs. refl) (λ cs u c m k t. (0, puts_at (line_puts copy copy_has_no_end t.0 m t.1 t.2) t.3.1, sym (ap length t.3.0) ∙ omega (arith, length-append cs (t.0 ∷ [])))) s.0 cs all m k s.1
 
-pub copy_file_ends : EndsFile copy_file
+pub copy_file_ends : (limits : FileLimits) → EndsFile (copy_file limits)
 unfolding copy_file Spells
-copy_file_ends y m s =
+copy_file_ends limits y m s =
     let head = copies_lines [] s.0 m s.1 s.2 in
-    let questions = file_ends s.3.0 s.1 (subst (Spells file s.3.0 s.1) s.3.3.1 s.3.2) in
+    let questions = file_ends limits s.3.0 s.1 (subst (Spells (file limits) s.3.0 s.1) s.3.3.1 s.3.2) in
     (head.lines + questions.0, lines_then head.lines questions.0 head.puts questions.1)
 
 -- ---- one reading or one first fault
 
 pub copy_file_is_one : CopyFileIsOne
-copy_file_is_one bytes copies others qs rs s t =
-    let same = form_is_one copy_file _ copy_file_has copies_with_questions bytes (copies, qs) (others, rs) s t in
+copy_file_is_one limits bytes copies others qs rs s t =
+    let same = form_is_one (copy_file limits) _ (copy_file_has limits) copies_with_questions bytes (copies, qs) (others, rs) s t in
     (ap (λ (y : List CopyView × List QuestionView). y.0) same, ap (λ (y : List CopyView × List QuestionView). y.1) same)
 
 pub copy_fault_is_one : CopyFaultIsOne
-copy_fault_is_one = whole_fault_is_one (spelling copy_file)
+copy_fault_is_one limits = whole_fault_is_one (spelling (copy_file limits))
 
 pub copy_file_or_fault : CopyFileOrFault
-copy_file_or_fault bytes copies qs = whole_or_fault (spelling copy_file) (λ lines x. copies_with_questions lines x.0) bytes (copies, qs)
+copy_file_or_fault limits bytes copies qs = whole_or_fault (spelling (copy_file limits)) (λ lines x. copies_with_questions lines x.0) bytes (copies, qs)
 
 pub copy_file_has_one : CopyFileHasOne
-copy_file_has_one bytes = elim (form_has_one copy_file _ copy_file_has copy_file_ends copies_with_questions bytes) [
+copy_file_has_one limits bytes = elim (form_has_one (copy_file limits) _ (copy_file_has limits) (copy_file_ends limits) copies_with_questions bytes) [
   | inl h ↦ inl (h.0.0, h.0.1, h.1)
   | inr h ↦ inr h
 ]
 
 -- a file whose letters were read
-pub copy_file_read : (bytes : List ℕ) (lines : List LineView) (copies : List CopyView) (ys : List BodyView) (r : List Letter)
-    (qs : List QuestionView) → AreLinesOf bytes lines → read copy_file (letters_of_lines lines) ≡ Ok ((copies, ys), r)
-    → qs ≡ with_texts (drop (length copies) lines) ys → IsCopyFile bytes copies qs
-copy_file_read bytes lines copies ys r qs cut e are = subst (IsCopyFile bytes copies) (sym are)
-    (read_says copy_file _ copy_file_has copy_file_ends copies_with_questions bytes lines (copies, ys) r cut e)
+pub copy_file_read : (limits : FileLimits) (bytes : List ℕ) (lines : List LineView) (copies : List CopyView) (ys : List BodyView) (r : List Letter)
+    (qs : List QuestionView) → AreLinesOf bytes lines → read (copy_file limits) (letters_of_lines lines) ≡ Ok ((copies, ys), r)
+    → qs ≡ with_texts (drop (length copies) lines) ys → IsCopyFile limits bytes copies qs
+copy_file_read limits bytes lines copies ys r qs cut e are = subst (IsCopyFile limits bytes copies) (sym are)
+    (read_says (copy_file limits) _ (copy_file_has limits) (copy_file_ends limits) copies_with_questions bytes lines (copies, ys) r cut e)
 
 -- ---- the limits of questions
 
 -- questions that are read keep the limits
-pub bodies_keep_limits : (bodies : List Body) (ls r : List Letter) → read file ls ≡ Ok (map body_view bodies, r) → All (λ b. IsQuestion (body_view b)) bodies
-bodies_keep_limits bodies ls r e = from_map IsQuestion body_view bodies
-    (All-weaker IsRead IsQuestion (λ q h. h.limits) (map body_view bodies) (file_limited ls r (map body_view bodies) e))
+pub bodies_keep_limits : (limits : FileLimits) (bodies : List Body) (ls r : List Letter) → read (file limits) ls ≡ Ok (map body_view bodies, r)
+    → All (λ b. IsQuestion (body_view b)) bodies
+bodies_keep_limits limits bodies ls r e = from_map IsQuestion body_view bodies
+    (All-weaker (IsRead limits) IsQuestion (λ q h. within_any limits q h.limits) (map body_view bodies)
+    (file_limited limits ls r (map body_view bodies) e))
 
 -- with their texts too
 pub texts_keep_limits : (lines : List LineView) (ys : List BodyView) → All IsQuestion ys → All (λ (q : QuestionView). IsQuestion q.body) (with_texts lines ys)

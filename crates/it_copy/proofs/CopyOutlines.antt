@@ -5,6 +5,7 @@ use Rattle.it_forms.specs.declared.types.Symbol.TheVariants.{Comma}
 use Rattle.it_forms.specs.Letters.{Word}
 use Rattle.it_copy.specs.CopyForms.{member, more_members, over, copy, more_copies, copy_file}
 use Rattle.it_syntax.proofs.LineOutlines.{a_name}
+use Rattle.it_question.specs.declared.sizes.FileLimits.{FileLimits}
 use Rattle.it_question.proofs.QuestionOutlines.{word_has, file_has}
 use Rattle.it_copy.specs.CopyLines.{CopyView}
 use Rattle.it_forms.specs.Forms.{Keyword, Punctuation, WordBut, Zero, FileEnd}
@@ -30,6 +31,6 @@ unfolding more_copies
 copies_has cs = has_while _ _ _ _ _ (λ cs u. has_then _ _ _ _ (has_then _ _ _ _ copy_has
     (λ c. has_then _ _ _ _ end_has (λ u. has_give _) refl) refl) (λ c. has_give _) refl) refl
 
-pub copy_file_has : Has copy_file (one_of (Keyword (codes "copy") ∷ Keyword (codes "vars") ∷ FileEnd ∷ []))
+pub copy_file_has : (limits : FileLimits) → Has (copy_file limits) (one_of (Keyword (codes "copy") ∷ Keyword (codes "vars") ∷ FileEnd ∷ []))
 unfolding copy_file
-copy_file_has = has_then _ _ _ _ (copies_has []) (λ copies. has_then _ _ _ _ file_has (λ questions. has_give _) refl) refl
+copy_file_has limits = has_then _ _ _ _ (copies_has []) (λ copies. has_then _ _ _ _ (file_has limits) (λ questions. has_give _) refl) refl

@@ -21,7 +21,7 @@ use Rattle.it_question.specs.declared.types.FileFault.{FileFault}
 use Rattle.it_question.specs.declared.types.FileFault.TheVariants.{Memory, Fault}
 use Rattle.it_question.specs.Lines.{LineView, AreLines, AreLinesOf, in_front, split_lines, letters_of_lines}
 use Rattle.it_question.specs.QuestionForms.{question, more_questions, file}
-use Rattle.it_question.specs.QuestionLimits.{most_questions}
+use Rattle.it_question.specs.QuestionLimits.{most_questions, usual}
 use Rattle.it_question.specs.Questions.{BodyView}
 use Rattle.it_question.specs.Stops.{IsStopAt}
 use Rattle.it_question.specs.WholeFiles.{place_of}
@@ -171,12 +171,13 @@ both_false true b e = absurd cc
 both_false false b e = (refl, e)
 
 -- no question file begins with another letter
-no_file : (ls : List Letter) → begins_questions ls ≡ false → read file ls ≡ Err (own_code ls, ls)
+no_file : (ls : List Letter) → begins_questions ls ≡ false → read (file usual) ls ≡ Err (own_code ls, ls)
 unfolding read file more_questions
 no_file [] e = refl
 no_file (l ∷ ls) e =
     let other = both_false _ _ e in
-    let question : read (more_questions []) (l ∷ ls) ≡ Ok ([], l ∷ ls) = word_ends (codes "vars") (λ qs. limit_flag (most_questions - length qs)) (λ qs. question) (λ qs q. qs ++ q ∷ []) [] (l ∷ ls) _ refl (ap (λ (b : Bool). cond b (Some ((None, tt), ls)) None) other.0) in
+    let question : read (more_questions usual []) (l ∷ ls) ≡ Ok ([], l ∷ ls) = word_ends (codes "vars") (λ qs. limit_flag (most_questions - length qs))
+    (λ qs. question usual) (λ qs q. qs ++ q ∷ []) [] (l ∷ ls) _ refl (ap (λ (b : Bool). cond b (Some ((None, tt), ls)) None) other.0) in
     let end : read file_end (l ∷ ls) ≡ Err (own_code (l ∷ ls), l ∷ ls) = other_is (just (FileEnd ∷ []) tt) l other.1
     (λ a rest. Ok (a, rest)) ls (no_rule (l ∷ ls)) in
     ap (λ (t : Reads (List BodyView)). t >>= λ x. read (Then file_end (λ u. Give x.0)) x.1) question
@@ -187,7 +188,7 @@ pub stops_at_copies : (stop : Stop) (rest ls : List Letter) → StopsAs stop res
 unfolding read copy_file
 stops_at_copies stops.Memory rest ls e = record { stops = tt; none = tt }
 stops_at_copies (stops.Fault c) rest ls e = record {
-  stops = ap (λ (t : Reads (List CopyView)). t >>= λ x. read (Then file (λ questions. Give (x.0, questions))) x.1) e;
+  stops = ap (λ (t : Reads (List CopyView)). t >>= λ x. read (Then (file usual) (λ questions. Give (x.0, questions))) x.1) e;
   none = λ cs r h begins. let both : Ok (cs, r) ≡ Err (c, rest) = sym h ∙ e in absurd cc;
 }
 
@@ -196,7 +197,7 @@ pub stops_after_copies : (cs : List CopyView) (rest ls : List Letter) → read (
     → begins_questions rest ≡ false → StopsInHead (stops.Fault (own_code rest)) rest ls
 unfolding read copy_file
 stops_after_copies cs rest ls e other = record {
-  stops = ap (λ (t : Reads (List CopyView)). t >>= λ x. read (Then file (λ questions. Give (x.0, questions))) x.1) e
+  stops = ap (λ (t : Reads (List CopyView)). t >>= λ x. read (Then (file usual) (λ questions. Give (x.0, questions))) x.1) e
       ∙ ap (λ (t : Reads (List BodyView)). t >>= λ x. read (Give (cs, x.0)) x.1) (no_file rest other);
   none = λ ds r h begins. let both : Ok (ds, r) ≡ Ok (cs, rest) = sym h ∙ e in let pairs : (ds, r) ≡ (cs, rest) = cc in let same : r
       ≡ rest = ap (λ (p : List CopyView × List Letter). p.1) pairs in let never : true
@@ -210,6 +211,6 @@ head_fault bytes lines stops.Memory r fault cut h at = subst (IsFirstHeadFault b
 head_fault bytes lines (stops.Fault c) r Memory cut h at = absurd at
 head_fault bytes lines (stops.Fault c) r (Fault line column code) cut h at = (
   no_head bytes lines cut h.none,
-  first_form_fault copy_file _ copy_file_has copy_file_ends bytes lines (stops.Fault c) r
+  first_form_fault (copy_file usual) _ (copy_file_has usual) (copy_file_ends usual) bytes lines (stops.Fault c) r
       (Fault line column code) cut h.stops at,
 )

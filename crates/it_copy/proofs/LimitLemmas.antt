@@ -15,13 +15,15 @@ use Rattle.it_syntax.specs.Givens.{GivenView, IsGivenOf, IsRelationOf}
 use Rattle.it_closure.specs.Closures.{is_inside}
 use Rattle.it_question.specs.Questions.{BodyView, VerbView, Prove, Eliminate, Contain}
 use Rattle.it_question.specs.Limits.{IsQuestion, IsVerbOver}
-use Rattle.it_question.specs.QuestionLimits.{most_lines, most_names}
+use Rattle.it_question.specs.QuestionLimits.{most_lines, names_within}
+use Rattle.it_space.specs.Spaces.{most_variables}
+use Rattle.it_question.specs.declared.sizes.FileLimits.{FileLimits}
 use Rattle.it_number.specs.Gcd.{gcd, gcd_within, lcm}
 use Rattle.it_demand.proofs.LimitLemmas.{wider_given, wider_relation}
 use Rattle.it_copy.specs.CopyLines.{CopyView}
 use Rattle.it_copy.specs.Equations.{apart_equation, copy_equations, inside_equation, term_of}
-use Rattle.it_copy.specs.Extensions.{CanBeMade, IsProof, equations_of, extended, first_unplaced, placed, with_copies, with_copy}
-use Rattle.it_copy.proofs.PlaceLemmas.{first_has_place, place_told}
+use Rattle.it_copy.specs.Extensions.{CanBeMade, IsProof, equations_of, extended, first_unplaced, named_parts, placed, with_copies, with_copy}
+use Rattle.it_copy.proofs.PlaceLemmas.{first_has_place, place_named, place_told, place_within}
 
 -- ---- the equations of one copy
 
@@ -80,18 +82,20 @@ module _ (n a over : ℕ) (old : a < n) (inside : over < 2 ^ n) where
 -- what copies add to names that have room for them
 pub record AreAdded (v all : NamesView) (equations : List GivenView) : Type 0 where
   pub more : length v.variables ≤ length all.variables
-  pub few : length all.variables ≤ most_names
+  pub few : length all.variables ≤ most_variables
   pub rates : all.rates ≡ v.rates
   pub givens : All (IsGivenOf (length all.variables)) equations
 
-copies_are_added : (k : ℕ) (v : NamesView) (cs : List CopyView) → length v.variables ≤ most_names → first_unplaced k v cs ≡ None
+copies_are_added : (limits : FileLimits) (k : ℕ) (v : NamesView) (cs : List CopyView) → length v.variables ≤ most_variables
+    → first_unplaced limits k v cs ≡ None
     → AreAdded v (with_copies v cs) (equations_of v cs)
-copies_are_added k v [] few e = record { more = omega arith; few = few; rates = refl; givens = All-nil (IsGivenOf (length v.variables)) }
-copies_are_added k v (c ∷ cs) few e =
-    let x = first_has_place k v c cs (placed v c) refl e in
-    let p = place_told v c x.0 x.1 x.2 in
+copies_are_added limits k v [] few e = record { more = omega arith; few = few; rates = refl; givens = All-nil (IsGivenOf (length v.variables)) }
+copies_are_added limits k v (c ∷ cs) few e =
+    let x = first_has_place limits k v c cs (placed limits v c) refl e in
+    let named = place_named limits v c x.0 x.1 x.2 in
+    let p = place_told limits v c x.0 x.1 x.2 in
     let counted : length (with_copy v c).variables ≡ length v.variables + 1 = length-append v.variables (c.fresh ∷ []) in
-    let later = copies_are_added (k + 1) (with_copy v c) cs (omega (arith, counted, p.room)) x.3 in
+    let later = copies_are_added limits (k + 1) (with_copy v c) cs (omega (arith, counted, p.room)) x.3 in
     let all = with_copies (with_copy v c) cs in
     let own : All (IsGivenOf (length all.variables)) (copy_equations (length v.variables) x.0 x.1) =
     All-weaker (IsGivenOf (length v.variables + 1)) (IsGivenOf (length all.variables))
@@ -102,10 +106,19 @@ copies_are_added k v (c ∷ cs) few e =
       few = later.few;
       rates = later.rates;
       givens = All-append (IsGivenOf (length all.variables)) (option_map_or (λ (x : ℕ × ℕ). copy_equations (length v.variables) x.0 x.1)
-          (placed v c) []) (equations_of (with_copy v c) cs)
+          (named_parts v c) []) (equations_of (with_copy v c) cs)
           (subst (λ (o : Option (ℕ × ℕ)). All (IsGivenOf (length all.variables))
-          (option_map_or (λ (x : ℕ × ℕ). copy_equations (length v.variables) x.0 x.1) o [])) (sym x.2) own) later.givens;
+          (option_map_or (λ (x : ℕ × ℕ). copy_equations (length v.variables) x.0 x.1) o [])) (sym named) own) later.givens;
     }
+
+-- copies that a file allows, in a question that it allows, leave as many names as it allows
+pub copies_are_few : (limits : FileLimits) (k : ℕ) (v : NamesView) (cs : List CopyView) → length v.variables ≤ names_within limits
+    → first_unplaced limits k v cs ≡ None → length (with_copies v cs).variables ≤ names_within limits
+copies_are_few limits k v [] few e = few
+copies_are_few limits k v (c ∷ cs) few e =
+    let x = first_has_place limits k v c cs (placed limits v c) refl e in
+    let counted : length (with_copy v c).variables ≡ length v.variables + 1 = length-append v.variables (c.fresh ∷ []) in
+    copies_are_few limits (k + 1) (with_copy v c) cs (omega (arith, counted, place_within limits v c x.0 x.1 x.2)) x.3
 
 -- ---- the question with copies
 
@@ -117,10 +130,10 @@ proof_over q cs added (Prove r) proof h =
 proof_over q cs added (Eliminate rates) proof h = absurd proof
 proof_over q cs added (Contain first second tries) proof h = absurd proof
 
-pub extended_is_question : (q : BodyView) (cs : List CopyView) → IsQuestion q → CanBeMade q cs
+pub extended_is_question : (limits : FileLimits) (q : BodyView) (cs : List CopyView) → IsQuestion q → CanBeMade limits q cs
     → length (extended q cs).lines.givens ≤ most_lines → IsQuestion (extended q cs)
-extended_is_question q cs k made few =
-    let added = copies_are_added 1 q.names cs k.few made.placed in
+extended_is_question limits q cs k made few =
+    let added = copies_are_added limits 1 q.names cs k.few made.placed in
     let n = length q.names.variables in
     let m = length (with_copies q.names cs).variables in record {
       some = omega (arith, k.some, added.more);

@@ -15,9 +15,9 @@ negated common rates n m p image a = record {
 
 -- a relation says the same of the declared variables with copies and without them
 pub yes_by_copies : YesByCopies
-yes_by_copies q e cs r limits verb extension holds p h =
+yes_by_copies limits q e cs r within verb extension holds p h =
     let n = length q.names.variables in
     let m = length e.names.variables in
-    let relation : IsRelationOf n (length q.names.rates) r = subst (IsVerbOver q.names) verb limits.verb in
+    let relation : IsRelationOf n (length q.names.rates) r = subst (IsVerbOver q.names) verb within.verb in
     holds_same n (length q.names.rates) m n h.image p (negated n (length q.names.rates) n m p h.image h.agree) r relation
     (holds h.image h.polymatroid h.lines_hold)

@@ -5,6 +5,7 @@ use Rattle.it_forms.specs.declared.types.Symbol.TheVariants.{Comma}
 use Rattle.it_syntax.specs.MeasureWords.{is_measure}
 use Rattle.it_question.specs.NewNames.{new_flag}
 use Rattle.it_question.specs.QuestionForms.{file}
+use Rattle.it_question.specs.declared.sizes.FileLimits.{FileLimits}
 use Rattle.it_question.specs.Questions.{BodyView}
 use Rattle.it_copy.specs.CopyLines.{CopyView, most_copies, most_members}
 use Rattle.it_forms.specs.Forms.{Form, Give, Take, If}
@@ -40,9 +41,9 @@ copy = do
 unfoldable pub more_copies : List CopyView → Form (List CopyView)
 more_copies cs = each_flagged (codes "copy") (λ cs. limit_flag (most_copies - length cs)) (λ cs. to_end copy) (λ cs c. cs ++ c ∷ []) cs
 
--- a head, and the question file after it
-unfoldable pub copy_file : Form (List CopyView × List BodyView)
-copy_file = do
+-- a head, and the question file after it, with these limits
+unfoldable pub copy_file : FileLimits → Form (List CopyView × List BodyView)
+copy_file limits = do
   copies ← more_copies []
-  questions ← file
+  questions ← file limits
   Give (copies, questions)

@@ -7,8 +7,9 @@ use Rattle.it_syntax.specs.NamesViews.{NamesView, index_of}
 use Rattle.it_syntax.specs.Givens.{GivenView}
 use Rattle.it_question.specs.NewNames.{Variable, is_taken, with_name}
 use Rattle.it_question.specs.Questions.{VerbView, Prove, Eliminate, Contain, BodyView}
-use Rattle.it_question.specs.QuestionLimits.{most_lines, most_names}
-use Rattle.it_question.specs.TableSizes.{HasSmallTable}
+use Rattle.it_question.specs.declared.sizes.FileLimits.{FileLimits}
+use Rattle.it_question.specs.QuestionLimits.{most_lines, names_within}
+use Rattle.it_question.specs.TableSizes.{HasTableWithin}
 use Rattle.it_copy.specs.declared.types.CopyFault.{CopyFault}
 use Rattle.it_copy.specs.declared.types.CopyFault.TheVariants as faults
 use Rattle.it_copy.specs.CopyLines.{CopyView}
@@ -28,9 +29,9 @@ unfoldable pub named_parts : NamesView → CopyView → Option (ℕ × ℕ)
 named_parts v c = option_and_then (λ a. option_and_then (unless_member a) (set_with v.variables 0 c.over)) (index_of v.variables c.old)
 
 -- The variable that a copy is of and the set that it is over, by their numbers; none where the copy can't be made: its name is taken, a
--- name isn't that of a variable, the variable is in the set, or there are as many variables as are allowed.
-unfoldable pub placed : NamesView → CopyView → Option (ℕ × ℕ)
-placed v c = if is_taken v c.fresh || nat_le most_names (length v.variables) then None else named_parts v c
+-- name isn't that of a variable, the variable is in the set, or there are as many variables as a file with these limits allows.
+unfoldable pub placed : FileLimits → NamesView → CopyView → Option (ℕ × ℕ)
+placed limits v c = if is_taken v c.fresh || nat_le (names_within limits) (length v.variables) then None else named_parts v c
 
 -- the names with that of a copy as the next variable
 abbrev pub with_copy : NamesView → CopyView → NamesView
@@ -47,12 +48,12 @@ equations_at v place = copy_equations (length v.variables) place.0 place.1
 -- the equations of copies, in order, which are the next variables after v
 abbrev pub equations_of : NamesView → List CopyView → List GivenView
 equations_of v [] = []
-equations_of v (c ∷ cs) = option_map_or (λ (x : ℕ × ℕ). equations_at v x) (placed v c) [] ++ equations_of (with_copy v c) cs
+equations_of v (c ∷ cs) = option_map_or (λ (x : ℕ × ℕ). equations_at v x) (named_parts v c) [] ++ equations_of (with_copy v c) cs
 
 -- the number of the first copy that can't be made, where the first one of the list is number k
-abbrev pub first_unplaced : ℕ → NamesView → List CopyView → Option ℕ
-first_unplaced k v [] = None
-first_unplaced k v (c ∷ cs) = if is_some (placed v c) then first_unplaced (k + 1) (with_copy v c) cs else Some k
+abbrev pub first_unplaced : FileLimits → ℕ → NamesView → List CopyView → Option ℕ
+first_unplaced limits k v [] = None
+first_unplaced limits k v (c ∷ cs) = if is_some (placed limits v c) then first_unplaced limits (k + 1) (with_copy v c) cs else Some k
 
 -- the question with the copies after its variables, and their equations after its givens
 abbrev pub extended : BodyView → List CopyView → BodyView
@@ -69,21 +70,22 @@ IsProof (Eliminate rates) = ⊥
 IsProof (Contain first second tries) = ⊥
 
 -- the question asks for a proof, and each copy can be made
-pub record CanBeMade (q : BodyView) (cs : List CopyView) : Type 0 where
+pub record CanBeMade (limits : FileLimits) (q : BodyView) (cs : List CopyView) : Type 0 where
   pub proof : IsProof q.verb
-  pub placed : first_unplaced 1 q.names cs ≡ None
+  pub placed : first_unplaced limits 1 q.names cs ≡ None
 
--- e is the question q with these copies, and is within the limits
-pub record IsExtension (q : BodyView) (cs : List CopyView) (e : BodyView) : Type 0 where
-  pub made : CanBeMade q cs
+-- e is the question q with these copies, and is within the limits of a file
+pub record IsExtension (limits : FileLimits) (q : BodyView) (cs : List CopyView) (e : BodyView) : Type 0 where
+  pub made : CanBeMade limits q cs
   pub few : length e.lines.givens ≤ most_lines
-  pub small : HasSmallTable e
+  pub small : HasTableWithin limits e
   pub is : e ≡ extended q cs
 
--- the reason why a question can't have copies: the first of these, in their order; or memory ran out
-abbrev pub IsMisfit : BodyView → List CopyView → CopyFault → Type 0
-IsMisfit q cs faults.Memory = Unit {0}
-IsMisfit q cs faults.Verb = IsProof q.verb → ⊥
-IsMisfit q cs (faults.Copy k) = IsProof q.verb × (first_unplaced 1 q.names cs ≡ Some k)
-IsMisfit q cs faults.Many = CanBeMade q cs × (most_lines < length (extended q cs).lines.givens)
-IsMisfit q cs faults.Large = CanBeMade q cs × (length (extended q cs).lines.givens ≤ most_lines) × (HasSmallTable (extended q cs) → ⊥)
+-- the reason why a question of a file with these limits can't have copies: the first of these, in their order; or memory ran out
+abbrev pub IsMisfit : FileLimits → BodyView → List CopyView → CopyFault → Type 0
+IsMisfit limits q cs faults.Memory = Unit {0}
+IsMisfit limits q cs faults.Verb = IsProof q.verb → ⊥
+IsMisfit limits q cs (faults.Copy k) = IsProof q.verb × (first_unplaced limits 1 q.names cs ≡ Some k)
+IsMisfit limits q cs faults.Many = CanBeMade limits q cs × (most_lines < length (extended q cs).lines.givens)
+IsMisfit limits q cs faults.Large = CanBeMade limits q cs × (length (extended q cs).lines.givens ≤ most_lines)
+    × (HasTableWithin limits (extended q cs) → ⊥)

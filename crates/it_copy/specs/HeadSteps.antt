@@ -5,6 +5,7 @@ use Rattle.it_forms.specs.Letters.{Letter}
 use Rattle.it_syntax.specs.declared.rest.Stop.{Stop}
 use Rattle.it_syntax.specs.Gives.{StopsAs}
 use Rattle.it_question.specs.Stops.{IfFault}
+use Rattle.it_question.specs.QuestionLimits.{usual}
 use Rattle.it_copy.specs.CopyForms.{more_copies, copy_file}
 use Rattle.it_copy.specs.CopyLines.{CopyView}
 use Rattle.it_copy.specs.Heads.{begins_questions}
@@ -15,5 +16,5 @@ ReadsNoHead ls = (cs : List CopyView) (r : List Letter) → read (more_copies []
 
 -- the reading of the whole file stops by the same fault, and the letters begin with no head
 pub record StopsInHead (stop : Stop) (rest ls : List Letter) : Type 0 where
-  pub stops : StopsAs stop rest (read copy_file ls)
+  pub stops : StopsAs stop rest (read (copy_file usual) ls)
   pub none : IfFault stop (ReadsNoHead ls)

@@ -6,6 +6,7 @@ use Rattle.it_forms.specs.Letters.{Letter, without_flags}
 use Rattle.it_question.specs.declared.types.FileFault.{FileFault}
 use Rattle.it_question.specs.declared.types.FileFault.TheVariants.{Memory, Fault}
 use Rattle.it_question.specs.Lines.{LineView, AreLinesOf, split_lines, letters_of_lines}
+use Rattle.it_question.specs.QuestionLimits.{usual}
 use Rattle.it_copy.specs.CopyForms.{more_copies}
 use Rattle.it_copy.specs.CopyLines.{CopyView}
 use Rattle.it_copy.specs.Files.{CopyFileFaultAt}
@@ -39,7 +40,7 @@ HasNoHead bytes = (copies : List CopyView) (from skipped : ℕ) → IsHead bytes
 
 -- the first fault of the head is `code`, at this place: it is the file's first fault, and the bytes have no head
 abbrev pub HeadFaultAt : List ℕ → ℕ → ℕ → Code → Type 0
-HeadFaultAt bytes line column code = HasNoHead bytes × CopyFileFaultAt bytes line column code
+HeadFaultAt bytes line column code = HasNoHead bytes × CopyFileFaultAt usual bytes line column code
 
 -- of an error: memory ran out, or it is the first fault
 abbrev pub IsFirstHeadFault : List ℕ → FileFault → Type 0

@@ -1,14 +1,14 @@
 //! Questions with copies of variables added.
 ghost use Rattle.std.specs.Prelude.{◌≡◌, ◌≤◌, ◌<◌, ◌^◌, ◌++◌, None, [], false, IfOk, IfErr, OnOk, bit_or, length, map, nat_le, nat_lt};
-ghost use Rattle.it_closure.specs.Sizes.{table_size};
+ghost use Rattle.it_closure.specs.Sizes.{most_entries, table_size};
 ghost use Rattle.it_syntax.specs.Givens.{given_view};
 ghost use Rattle.it_syntax.specs.Meaning.{relation_view};
 ghost use Rattle.it_question.specs.Bodies.{body_view};
 ghost use Rattle.it_question.specs.Limits.{IsQuestion};
 ghost use Rattle.it_question.specs.NewNames.{Variable, is_taken, with_name};
-ghost use Rattle.it_question.specs.TableSizes.{most_entries};
+ghost use Rattle.it_space.specs.Spaces.{most_variables};
 ghost use Rattle.it_question.specs.Questions.{Prove};
-ghost use Rattle.it_question.specs.QuestionLimits.{most_lines, most_names};
+ghost use Rattle.it_question.specs.QuestionLimits.{most_lines, names_within};
 ghost use Rattle.it_copy.specs.CopyLines.{AreNamed, copy_view};
 ghost use Rattle.it_copy.specs.Extensions.{IsExtension, IsMisfit, equations_of, extended, first_unplaced, named_parts, placed, set_with, unless_member, with_copies, equations_at};
 ghost use Rattle.it_copy.specs.ExtensionSteps.{IsLarge, IsLargeBy, IsPastLimits, IsUnplaced};
@@ -16,9 +16,10 @@ ghost use Rattle.it_copy.specs.ExtensionSteps.{IsLarge, IsLargeBy, IsPastLimits,
 use crate::equations::add_equations;
 use crate::types::{CopyFault, CopyLine};
 use it_canon::problem;
-use it_closure::size;
+use it_closure::{MOST_ENTRIES, size};
 use it_problems::Problem;
-use it_question::readers::{Body, MOST_ENTRIES, MOST_LINES, MOST_NAMES};
+use it_question::FileLimits;
+use it_question::readers::{Body, MOST_LINES};
 use it_question::types::{OwnLines, Question, Verb};
 use it_space::VarSet;
 use it_syntax::types::{Given, Relation};
@@ -33,11 +34,11 @@ fn is_taken(names: &Names, name: &[u8]) -> bool
     names.variable(name).is_some() || names.rate(name).is_some()
 }
 
-/// Whether there are as many variables as are allowed.
-fn is_full(names: &Names) -> bool
-    ensures { result ≡ nat_le most_names (length names.now.variables) }
+/// Whether there are as many variables as a file with these limits allows.
+fn is_full(names: &Names, limits: FileLimits) -> bool
+    ensures { result ≡ nat_le (names_within limits) (length names.now.variables) }
 {
-    MOST_NAMES <= usize::from(names.space().variables)
+    limits.most_names() <= usize::from(names.space().variables)
 }
 
 /// `set` with the variable `i`.
@@ -84,10 +85,10 @@ fn named_parts(names: &Names, line: &CopyLine) -> Option<(u8, VarSet)>
 
 /// The variable and the set of `named_parts`; None where the copy can't be made.
 #[tactic(auto, unfolding(crate::specs::Extensions::placed))]
-fn placed(names: &Names, line: &CopyLine) -> Option<(u8, VarSet)>
-    ensures { result ≡ placed names.now (copy_view line.now) }
+fn placed(names: &Names, line: &CopyLine, limits: FileLimits) -> Option<(u8, VarSet)>
+    ensures { result ≡ placed limits names.now (copy_view line.now) }
 {
-    if is_taken(names, line.fresh.as_slice()) || is_full(names) {
+    if is_taken(names, line.fresh.as_slice()) || is_full(names, limits) {
         None
     } else {
         named_parts(names, line)
@@ -105,7 +106,7 @@ fn add_copy(
     requires new { is_taken names.old fresh.now ≡ false }
     requires some { 1 ≤ length fresh.now }
     requires short { length fresh.now ≤ 16 }
-    requires room { length names.old.variables < most_names }
+    requires room { length names.old.variables < most_variables }
     requires old { place.0 < 16 }
     requires inside { place.1 < 2 ^ length names.old.variables }
     ensures names { OnOk result (names.new ≡ with_name Variable names.old fresh.now) }
@@ -122,16 +123,17 @@ fn add_copies(
     names: &mut Names,
     givens: &mut Vec<Given>,
     lines: &[CopyLine],
+    limits: FileLimits,
 ) -> Result<(), CopyFault>
     requires names { AreNamed lines.now }
     requires few { length lines.now ≤ 4 }
     ensures names { OnOk result (names.new ≡ with_copies names.old (map copy_view lines.now)) }
     ensures givens { OnOk result (map given_view givens.new.items ≡ map given_view givens.old.items ++ equations_of names.old (map copy_view lines.now)) }
-    ensures placed { OnOk result (first_unplaced 1 names.old (map copy_view lines.now) ≡ None) }
-    ensures first { IfErr result (IsUnplaced names.old (map copy_view lines.now)) }
+    ensures placed { OnOk result (first_unplaced limits 1 names.old (map copy_view lines.now) ≡ None) }
+    ensures first { IfErr result (IsUnplaced limits names.old (map copy_view lines.now)) }
 {
     for (i, line) in lines.iter().enumerate() {
-        let Some(place) = placed(names, line) else {
+        let Some(place) = placed(names, line, limits) else {
             return Err(CopyFault::Copy { line: i as u16 + 1 });
         };
         match add_copy(alloc, names, givens, line.fresh.as_slice(), place) {
@@ -150,21 +152,28 @@ fn is_large(alloc: Global, problem: &Problem) -> Result<bool, AllocError>
     Ok(MOST_ENTRIES < size)
 }
 
-/// Whether the table of a question is too large.
-fn has_large_table(alloc: Global, question: &Question) -> Result<bool, AllocError>
-    ensures { IfOk result (λ large. IsLargeBy question.now.body large) }
+/// Whether the table of a question is too large for a file with these limits.
+fn has_large_table(
+    alloc: Global,
+    question: &Question,
+    limits: FileLimits,
+) -> Result<bool, AllocError>
+    ensures { IfOk result (λ large. IsLargeBy limits question.now.body large) }
 {
+    if limits.large_tables {
+        return Ok(false);
+    }
     let problem = problem(alloc, question)?;
     let large = is_large(alloc, &problem)?;
     Ok(large)
 }
 
-/// The error `Large` if the table of the question is too large.
-fn judge_size(alloc: Global, question: &Question) -> Result<(), CopyFault>
-    ensures small { OnOk result (IsLargeBy question.now.body false) }
-    ensures large { IfErr result (IsLarge question.now.body) }
+/// The error `Large` if the table of the question is too large for a file with these limits.
+fn judge_size(alloc: Global, question: &Question, limits: FileLimits) -> Result<(), CopyFault>
+    ensures small { OnOk result (IsLargeBy limits question.now.body false) }
+    ensures large { IfErr result (IsLarge limits question.now.body) }
 {
-    let large = has_large_table(alloc, question)?;
+    let large = has_large_table(alloc, question, limits)?;
     if large { Err(CopyFault::Large) } else { Ok(()) }
 }
 
@@ -175,18 +184,19 @@ fn copied(
     question: &Question,
     relation: &Relation,
     lines: &[CopyLine],
+    limits: FileLimits,
 ) -> Result<Body, CopyFault>
     requires verb { question.now.body.verb ≡ Prove (relation_view relation.now) }
     requires names { AreNamed lines.now }
     requires few { length lines.now ≤ 4 }
     ensures body { IfOk result (λ e. body_view e ≡ extended question.now.body (map copy_view lines.now)) }
-    ensures placed { IfOk result (λ e. first_unplaced 1 question.now.body.names (map copy_view lines.now) ≡ None) }
-    ensures first { IfErr result (IsUnplaced question.now.body.names (map copy_view lines.now)) }
+    ensures placed { IfOk result (λ e. first_unplaced limits 1 question.now.body.names (map copy_view lines.now) ≡ None) }
+    ensures first { IfErr result (IsUnplaced limits question.now.body.names (map copy_view lines.now)) }
 {
     let own = question.lines();
     let mut names = question.names().copy()?;
     let mut givens = copies::givens(alloc, own.givens())?;
-    match add_copies(alloc, &mut names, &mut givens, lines) {
+    match add_copies(alloc, &mut names, &mut givens, lines, limits) {
         Ok(()) => {}
         Err(fault) => return Err(fault),
     }
@@ -200,36 +210,42 @@ fn copied(
 }
 
 /// The question of `body`, without a text; the error `Many` if it has too many constraints, else `Large` if its table is too large.
-fn within_limits(alloc: Global, body: Body) -> Result<Question, CopyFault>
+fn within_limits(alloc: Global, body: Body, limits: FileLimits) -> Result<Question, CopyFault>
     requires { length (body_view body).lines.givens ≤ most_lines → IsQuestion (body_view body) }
     ensures whole { IfOk result (λ q. q ≡ record { body = body_view body; text = [] }) }
     ensures few { IfOk result (λ q. length q.body.lines.givens ≤ most_lines) }
-    ensures small { IfOk result (λ q. IsLargeBy q.body false) }
-    ensures past { IfErr result (IsPastLimits (body_view body)) }
+    ensures small { IfOk result (λ q. IsLargeBy limits q.body false) }
+    ensures past { IfErr result (IsPastLimits limits (body_view body)) }
 {
     if body.lines.givens().len() > MOST_LINES {
         return Err(CopyFault::Many);
     }
     let question = body.with_source(Vec::new(alloc));
-    match judge_size(alloc, &question) {
+    match judge_size(alloc, &question, limits) {
         Ok(()) => Ok(question),
         Err(fault) => Err(fault),
     }
 }
 
-/// A question about a relation with copies of variables added, each with its equations as further constraints.
-pub fn extend(alloc: Global, question: &Question, lines: &[CopyLine]) -> Result<Question, CopyFault>
+/// A question about a relation with copies of variables added, each with its equations as further constraints, within the limits of
+/// a file.
+pub fn extend(
+    alloc: Global,
+    question: &Question,
+    lines: &[CopyLine],
+    limits: FileLimits,
+) -> Result<Question, CopyFault>
     requires names { AreNamed lines.now }
     requires few { length lines.now ≤ 4 }
-    ensures extension { IfOk result (λ e. IsExtension question.now.body (map copy_view lines.now) e.body) }
+    ensures extension { IfOk result (λ e. IsExtension limits question.now.body (map copy_view lines.now) e.body) }
     ensures limits { IfOk result (λ e. IsQuestion e.body) }
     ensures text { IfOk result (λ e. e.text ≡ []) }
-    ensures misfit { IfErr result (IsMisfit question.now.body (map copy_view lines.now)) }
+    ensures misfit { IfErr result (IsMisfit limits question.now.body (map copy_view lines.now)) }
 {
     question.facts();
     match question.verb() {
-        Verb::Prove(relation) => match copied(alloc, question, relation, lines) {
-            Ok(body) => match within_limits(alloc, body) {
+        Verb::Prove(relation) => match copied(alloc, question, relation, lines, limits) {
+            Ok(body) => match within_limits(alloc, body, limits) {
                 Ok(extended) => Ok(extended),
                 Err(fault) => Err(fault),
             },

@@ -12,7 +12,7 @@ use Rattle.it_polymatroid.specs.Elementals.{elementals}
 use Rattle.it_syntax.specs.Meaning.{RelationView}
 use Rattle.it_syntax.specs.NamesViews.{NamesView}
 use Rattle.it_question.specs.Limits.{IsQuestion}
-use Rattle.it_question.specs.QuestionLimits.{most_names}
+use Rattle.it_space.specs.Spaces.{most_variables}
 use Rattle.it_question.specs.Questions.{BodyView, Prove}
 use Rattle.it_question.specs.ProblemLines.{problem_names, names_under}
 use Rattle.it_demand.specs.Demands.{Demand}
@@ -30,7 +30,7 @@ use Rattle.it_factor.specs.declared.types.Reply.{Reply}
 use Rattle.it_factor.specs.declared.types.Reply.TheVariants as replies
 use Rattle.it_factor.specs.Lines.{AreValuesOf, IsBestPrintable, IsPrintable, IsThere}
 use Rattle.it_factor.specs.Replies.{reply_view}
-use Rattle.it_factor.specs.RightReplies.{IsRightReply, ShowsFactor, question_ground}
+use Rattle.it_factor.specs.RightReplies.{IsDueReply, ShowsFactor, question_ground}
 
 length-demands : (n : ℕ) (ds : List Demand) → length (all_demands n ds) ≡ length (elementals n) + length ds
 unfolding all_demands
@@ -46,11 +46,11 @@ module _ (q : BodyView) (m : ℕ) (count : m ≡ length (question_demands q)) wh
       (λ (x : ℕ × ℤ). x.0 < length (elementals (variable_count q)) + m)
       (λ x a. omega (arith, a.0, length-demands (variable_count q) (question_demands q), count)) w.weights.items c.allowed
 
-  values_of_names : (values : List ℤ) → length (problem_names q).variables ≤ most_names → length (problem_names q).rates ≤ 16
+  values_of_names : (values : List ℤ) → length (problem_names q).variables ≤ most_variables → length (problem_names q).rates ≤ 16
       → IsPoint (question_ground q) values → AreValuesOf (problem_names q) values
   values_of_names values few few_rates i = (
     omega (arith, i.complete, pow_pos (variable_count q)),
-    omega (arith, i.complete, pow_mono {i = variable_count q} {j = most_names} few, few_rates),
+    omega (arith, i.complete, pow_mono {i = variable_count q} {j = most_variables} few, few_rates),
   )
 
   best_printable : (r s : RelationView) (best : Best) → IsQuestion q → q.verb ≡ Prove s → ShowsFactor q r (best_view best)
@@ -60,7 +60,7 @@ module _ (q : BodyView) (m : ℕ) (count : m ≡ length (question_demands q)) wh
       names_are : problem_names q ≡ q.names
       names_are = ap (names_under q.names) verb
 
-      few : length (problem_names q).variables ≤ most_names
+      few : length (problem_names q).variables ≤ most_variables
       few = omega (arith, ap (λ (v : NamesView). length v.variables) names_are, k.few)
 
       few_rates : length (problem_names q).rates ≤ 16
@@ -74,6 +74,6 @@ module _ (q : BodyView) (m : ℕ) (count : m ≡ length (question_demands q)) wh
 
   -- what is printed of a reply is there
   pub reply_printable : (effort : Effort) (r : RelationView) (reply : Reply) → IsQuestion q → q.verb ≡ Prove r
-      → IsRightReply effort q (reply_view reply) → IsPrintable q m reply
+      → IsDueReply effort q (reply_view reply) → IsPrintable q m reply
   reply_printable effort r (replies.Found best) k verb right = best_printable right.0 r best k verb right.2.shows
   reply_printable effort r replies.Other k verb right = tt

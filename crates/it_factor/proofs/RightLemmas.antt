@@ -20,6 +20,7 @@ use Rattle.it_demand.specs.Canonical.{IsRowOf}
 use Rattle.it_demand.specs.QuestionSpaces.{space_of}
 use Rattle.it_canon.specs.TrueLines.{AreTrueAt, variable_count}
 use Rattle.it_canon.specs.QuestionDemands.{IsProblemOf, question_demands, terms_in}
+use Rattle.it_prove.specs.Reach.{effort_under}
 use Rattle.it_canon.specs.Sides.{left_form, right_form}
 use Rattle.it_canon.proofs.ProblemLemmas.{question_met}
 use Rattle.it_answer.specs.Forms.{Certifies, CertifiesForm, all_demands}
@@ -29,7 +30,7 @@ use Rattle.it_ratio.specs.BestViews.{BestView, Least, Never, Unbounded, Undecide
 use Rattle.it_best.specs.Factors.{IsRightBest, IsFactor, IsPoint, ground_of}
 use Rattle.it_best.proofs.CertificateLemmas.{linear-factor, linear-neg}
 use Rattle.it_factor.specs.Replies.{ReplyView, Found, Other}
-use Rattle.it_factor.specs.RightReplies.{FindsFactor, IsRightFactor, IsRightReply, question_ground}
+use Rattle.it_factor.specs.RightReplies.{FindsFactor, IsDueReply, IsRightFactor, IsRightReply, question_ground}
 use Rattle.it_factor.specs.RowReplies.{IsFoundByRows, IsReplyByRows}
 use Rattle.it_ratio.specs.Truth.{asked_by, at_least}
 use Rattle.it_demand.specs.RowsOfForms.{terms_of_form}
@@ -117,7 +118,7 @@ module _ (q : BodyView) (p : ProblemView) (posed : IsProblemOf q p) where
       }
 
   right_by_asked : (effort : Effort) (asked : Option RelationView) (reply : ReplyView) → asked_by q.verb ≡ asked
-      → IsReplyByRows p effort asked reply → IsRightReply effort q reply
+      → IsReplyByRows p effort asked reply → IsDueReply effort q reply
   right_by_asked effort (Some r) (Found best) is f = (r, is, right_factor effort r best f)
   right_by_asked effort (Some r) Other is f = absurd f
   right_by_asked effort None (Found best) is f = absurd f
@@ -125,9 +126,15 @@ module _ (q : BodyView) (p : ProblemView) (posed : IsProblemOf q p) where
 
   -- the reply by rows is right
   pub right_reply : (effort : Effort) (r : RelationView) (reply : ReplyView) → q.verb ≡ Prove r
-      → IsReplyByRows p effort (at_least r.sign r) reply → IsRightReply effort q reply
+      → IsReplyByRows p effort (at_least r.sign r) reply → IsDueReply effort q reply
   right_reply effort r reply verb f = right_by_asked effort (at_least r.sign r) reply (ap asked_by verb) f
 
 -- a question that asks for no factor has the other reply
-pub other_is_right : (effort : Effort) (q : BodyView) (verb : VerbView) → q.verb ≡ verb → asked_by verb ≡ None → IsRightReply effort q Other
+pub other_is_right : (effort : Effort) (q : BodyView) (verb : VerbView) → q.verb ≡ verb → asked_by verb ≡ None → IsDueReply effort q Other
 other_is_right effort q verb is none = ap asked_by is ∙ none
+
+-- a reply that is due with the effort under the code's problem is right
+pub right_under : (effort own : Effort) (q : BodyView) (p : ProblemView) → IsProblemOf q p → own ≡ effort_under p effort → (reply : ReplyView)
+    → IsDueReply own q reply → IsRightReply effort q reply
+right_under effort own q p posed is reply x =
+    subst (λ (e : Effort). IsDueReply e q reply) (is ∙ ap (λ (r : ProblemView). effort_under r effort) (one_problem q p posed)) x

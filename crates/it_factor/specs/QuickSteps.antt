@@ -12,7 +12,8 @@ use Rattle.it_factor.specs.declared.quick.Reason.TheVariants as reasons
 use Rattle.it_factor.specs.declared.quick.Step.{Step}
 use Rattle.it_factor.specs.declared.quick.Step.TheVariants as steps
 use Rattle.it_factor.specs.declared.quick.Trial.{Trial}
-use Rattle.it_factor.specs.RightReplies.{IsKnown}
+use Rattle.it_prove.specs.declared.types.Runs.{Runs}
+use Rattle.it_factor.specs.RightReplies.{IsKnown, QuickFinds}
 
 -- the answer of a trial whose number x has the certificate w
 abbrev pub answer_by : Rational → Reason → CertificateView → BestView
@@ -45,6 +46,10 @@ module _ (q : ProblemView) (left right : Terms) where
   -- an answer is right, and by it all factors are known
   abbrev pub IsQuickBest : BestView → Type 0
   IsQuickBest best = IsRightBest (ground_of q) (value left) (value right) best × IsKnown best
+
+  -- an answer is right, and comes without the defined runs
+  abbrev pub IsQuickEnd : Runs → BestView → Type 0
+  IsQuickEnd runs best = IsRightBest (ground_of q) (value left) (value right) best × QuickFinds runs best
 
   -- the outcome of a run is right
   abbrev pub IsStep : Step → Type 0

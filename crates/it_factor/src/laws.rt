@@ -8,8 +8,8 @@ pub fn shown_factors_are_true()
     ensures { WhatIsShownIsTrue }
 {}
 
-/// Where no quick run comes first, a question has one right reply. With any effort, no reply is undecided for lack of steps where there
-/// is no budget of them.
+/// Where the defined runs alone are asked for and are in reach, a question has one right reply. Where they are made without a budget of
+/// steps, no reply is undecided for lack of steps.
 pub fn replies_are_determined()
     ensures one { OneRightReply }
     ensures steps { NeverOutOfSteps }

@@ -1,5 +1,5 @@
 //! The replies to questions.
-ghost use Rattle.std.specs.Prelude.{◌≡◌, length, true, IfOk};
+ghost use Rattle.std.specs.Prelude.{◌≡◌, length, IfOk};
 ghost use Rattle.std.specs.Option.{IfSome};
 ghost use Rattle.it_syntax.specs.Givens.{IsRelationOf};
 ghost use Rattle.it_syntax.specs.Meaning.{relation_view};
@@ -10,9 +10,9 @@ ghost use Rattle.it_canon.specs.QuestionDemands.{IsProblemOf, question_demands, 
 ghost use Rattle.it_ratio.specs.BestViews.{best_view};
 ghost use Rattle.it_best.specs.PhaseSteps.{AreSides};
 ghost use Rattle.it_factor.specs.Lines.{IsPrintable};
-ghost use Rattle.it_factor.specs.QuickSteps.{IsQuickBest};
+ghost use Rattle.it_factor.specs.QuickSteps.{IsQuickEnd};
 ghost use Rattle.it_factor.specs.Replies.{reply_view};
-ghost use Rattle.it_factor.specs.RightReplies.{IsRightReply};
+ghost use Rattle.it_factor.specs.RightReplies.{IsDueReply, IsRightReply};
 ghost use Rattle.it_factor.specs.RowReplies.{IsFoundByRows, IsRelationReply};
 
 use crate::quick::quick_factor;
@@ -20,15 +20,16 @@ use crate::types::{RepliedProblem, Reply};
 use it_best::best;
 use it_canon::{problem, sides};
 use it_problems::Problem;
-use it_prove::{Effort, budget_of};
+use it_prove::{Effort, Runs, budget_of};
 use it_question::types::{Question, Verb};
-use it_ratio::types::Best;
+use it_ratio::types::{Best, BestCause};
 use it_space::Row;
 use it_syntax::types::{Relation, Sign};
 use std::alloc::{AllocError, Global};
 
 /// The right reply to a question, and the question's problem: to `prove E >= F` what is found of its factors, and `Other` to each
-/// other verb or sign. The effort's steps are the most of each of the three runs; without them each goes on to its end.
+/// other verb or sign. The effort's steps are the most of each of the three runs; without them each goes on to its end. Where these
+/// runs about the question's problem are out of reach, quick runs are made alone.
 pub fn reply(
     alloc: Global,
     question: &Question,
@@ -40,7 +41,8 @@ pub fn reply(
     ensures printable { IfOk result (λ a. IsPrintable question.now.body (length a.problem.constraints) a.reply) }
 {
     let problem = problem(alloc, question)?;
-    let reply = reply_under(alloc, question, &problem, effort)?;
+    let own = effort.under(alloc, &problem)?;
+    let reply = reply_under(alloc, question, &problem, own)?;
     Ok(RepliedProblem { problem, reply })
 }
 
@@ -52,7 +54,7 @@ fn reply_under(
     effort: Effort,
 ) -> Result<Reply, AllocError>
     requires problem { IsProblemOf question.now.body problem.now }
-    ensures right { IfOk result (λ r. IsRightReply effort question.now.body (reply_view r)) }
+    ensures right { IfOk result (λ r. IsDueReply effort question.now.body (reply_view r)) }
     ensures printable { IfOk result (IsPrintable question.now.body (length problem.now.constraints)) }
 {
     question.facts();
@@ -94,7 +96,7 @@ fn factors(
     ensures { IfOk result (λ b. IsFoundByRows problem.now effort (relation_view relation.now) (best_view b)) }
 {
     let (left, right) = sides(alloc, relation, problem.space())?;
-    match found_first(alloc, problem, &left, &right, effort)? {
+    match quick_end(alloc, problem, &left, &right, effort.runs)? {
         Some(found) => Ok(found),
         None => {
             let found = best(alloc, problem, &left, &right, budget_of(effort.pivots))?;
@@ -103,20 +105,24 @@ fn factors(
     }
 }
 
-/// What quick runs find of the factors, where they come first.
-fn found_first(
+/// What is found without the defined runs, if `runs` has that: what quick runs find of the factors, and where they are made alone, else
+/// that these stay undecided.
+fn quick_end(
     alloc: Global,
     problem: &Problem,
     left: &Row,
     right: &Row,
-    effort: Effort,
+    runs: Runs,
 ) -> Result<Option<Best>, AllocError>
     requires { AreSides problem.now left.now right.now }
-    ensures { IfOk result (λ o. IfSome o (λ b. (effort.quick ≡ true) × IsQuickBest problem.now left.now right.now (best_view b))) }
+    ensures { IfOk result (λ o. IfSome o (λ b. IsQuickEnd problem.now left.now right.now runs (best_view b))) }
 {
-    if effort.quick {
-        quick_factor(alloc, problem, left, right)
-    } else {
-        Ok(None)
+    match runs {
+        Runs::Defined => Ok(None),
+        Runs::QuickFirst => quick_factor(alloc, problem, left, right),
+        Runs::QuickAlone => match quick_factor(alloc, problem, left, right)? {
+            Some(found) => Ok(Some(found)),
+            None => Ok(Some(Best::Undecided(BestCause::Pivots { steps: 0, part: 1 }))),
+        },
     }
 }

@@ -27,7 +27,7 @@ use Rattle.it_syntax.specs.NamesViews.{NamesView}
 use Rattle.it_question.specs.Files.{IsFile}
 use Rattle.it_question.specs.NewNames.{Variable, no_names, with_name, is_taken, new_flag}
 use Rattle.it_question.specs.QuestionForms.{new_name, more_new, new_names, names_line, own_lines, more_own_lines, verb, question, more_questions, file}
-use Rattle.it_question.specs.QuestionLimits.{most_lines, most_names, most_questions}
+use Rattle.it_question.specs.QuestionLimits.{most_lines, most_names, most_questions, usual}
 use Rattle.it_question.specs.OwnLines.{no_lines}
 use Rattle.it_question.specs.Questions.{BodyView, Prove}
 use Rattle.it_gen.proofs.SpelledForms.{IsLetter, IsWritten, letter_written, then_written, none_written, one_written}
@@ -145,13 +145,13 @@ names_say : (k : FlaggedLetters) → Spells (new_names Variable most_names no_na
 unfolding Spells new_names more_new declared new_written letter_written then_written one_written none_written
 names_say k = let d = declared.says ((End, None) ∷ k) in (d.0, d.1, d.2, (four_variables, (End, None) ∷ k, d.3, (tt, k, end_says k, (refl, refl))))
 
-question_says : (x : ℕ) (k : FlaggedLetters) → Spells question (body x) (question_letters x k) k
+question_says : (x : ℕ) (k : FlaggedLetters) → Spells (question usual) (body x) (question_letters x k) k
 unfolding Spells question body question_letters names_line more_own_lines verb
 question_says x k =
     let r = (relation_written x).prefix ((End, None) ∷ k) in
     let p = (Word (codes "prove"), None) ∷ r in
     let own : Spells (own_lines most_lines most_lines four_variables) no_lines p p = (zero, (refl, refl)) in
-    let aim : Spells (verb no_lines four_variables) (Prove (relation_written x).value) p k =
+    let aim : Spells (verb usual no_lines four_variables) (Prove (relation_written x).value) p k =
     inl (
       tt,
       r,
@@ -203,19 +203,19 @@ not_many i h = by_number (most_questions - i) (omega (arith, h))
     by_number (suc n) h = refl
 
 questions_say : (seed count : ℕ) (qs : List BodyView) → length qs + count ≤ most_questions
-    → Spells (more_questions qs) (qs ++ bodies seed count) (file_letters seed count) ((file_end, None) ∷ [])
+    → Spells (more_questions usual qs) (qs ++ bodies seed count) (file_letters seed count) ((file_end, None) ∷ [])
 unfolding Spells more_questions bodies file_letters
 questions_say seed zero qs few = (zero, (sym (append-nil qs), refl))
 questions_say seed (suc count) qs few =
     let q = body seed in
     let next = file_letters (state_after 8 seed) count in
     let m = question_letters seed next in
-    let w = subst (λ (all : List BodyView). Spells (more_questions (qs ++ q ∷ [])) all next ((file_end, None) ∷ []))
+    let w = subst (λ (all : List BodyView). Spells (more_questions usual (qs ++ q ∷ [])) all next ((file_end, None) ∷ []))
     (append_assoc qs (q ∷ []) (bodies (state_after 8 seed) count))
     (questions_say (state_after 8 seed) count (qs ++ q ∷ []) (omega (arith, few, length-append qs (q ∷ [])))) in
     (suc w.0, (tt, m, qs ++ q ∷ [], next, (Word (codes "vars"), refl, refl, ap (λ (c : Option Code). (Word (codes "vars"), c) ∷ m) (sym (not_many (length qs) (omega (arith, few))))), (q, next, question_says seed next, (refl, refl)), w.1))
 
-file_says : (seed count : ℕ) → count ≤ most_questions → Spells file (bodies seed count) (file_letters seed count) []
+file_says : (seed count : ℕ) → count ≤ most_questions → Spells (file usual) (bodies seed count) (file_letters seed count) []
 unfolding Spells file
 file_says seed count few = (
   bodies seed count,

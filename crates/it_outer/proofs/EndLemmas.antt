@@ -1,5 +1,5 @@
--- Without a quick run a search has one end.
-use Rattle.std.proofs.Common.{◌≡◌, inl, inr, ℕ, zero, suc, ◌-◌, ◌^◌, ℤ, List, [], ◌∷◌, ◌++◌, length, false, refl, sym, ap, subst, ◌∙◌}
+-- Where the defined run alone is made a search has one end.
+use Rattle.std.proofs.Common.{◌≡◌, inl, inr, ℕ, zero, suc, ◌-◌, ◌^◌, ℤ, List, [], ◌∷◌, ◌++◌, length, refl, sym, ap, subst, ◌∙◌}
 use Rattle.it_space.specs.Answers.{CertificateView}
 use Rattle.it_problems.specs.Problems.{ProblemView}
 use Rattle.it_space.specs.Rows.{Terms}
@@ -8,6 +8,7 @@ use Rattle.it_eliminate.specs.Elimination as elimination
 use Rattle.it_prove.specs.ProofViews as proofs
 use Rattle.it_prove.specs.ProofViews.{ProofView, EndsWith, AreProofsOf}
 use Rattle.it_prove.specs.declared.types.Effort.{Effort}
+use Rattle.it_prove.specs.declared.types.Runs.TheVariants.{Defined}
 use Rattle.it_prove.proofs.ProofLemmas.{one_outcome}
 use Rattle.it_redundant.specs.Reduction.{kept_rows}
 use Rattle.it_redundant.proofs.ReductionLemmas.{one_reduction}
@@ -71,7 +72,7 @@ module _ (q : ProblemView) (effort : Effort) where
   walks rows (Refuted values) e = first_walks rows e.0 (proofs.No values) (Refuted values) e.1 refl
   walks rows (Left row cause) e = first_walks rows row (proofs.Undecided cause) (Left row cause) e refl
 
-  module _ (defined : effort.quick ≡ false) where
+  module _ (defined : effort.runs ≡ Defined) where
     one_walk : (rows : List Terms) (v u : VisitView) → Walks q effort rows v → Walks q effort rows u → v ≡ u
     one_walk [] v u e f = e ∙ sym f
     one_walk (row ∷ rows) v u (o, ends, a) (p, other, b) =
@@ -89,7 +90,7 @@ module _ (q : ProblemView) (effort : Effort) where
 
 -- ---- a further ray, and passes
 
-module _ (s : Search) (defined : s.limits.effort.quick ≡ false) where
+module _ (s : Search) (defined : s.limits.effort.runs ≡ Defined) where
   one_next : (rows : List Terms) (ray : List ℤ) (h k : HullView) → NextHull s rows ray h → NextHull s rows ray k → h ≡ k
   one_next rows ray h k (step, e, a) (other, f, b) =
       by_step step a (subst (λ (x : EliminatedView). AfterStep s x k) (sym

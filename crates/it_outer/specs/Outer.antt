@@ -4,6 +4,7 @@ use Rattle.it_space.specs.declared.answers.Cause.{Cause}
 use Rattle.it_space.specs.Answers.{CertificateView, certificate_view}
 use Rattle.it_problems.specs.Problems.{ProblemView}
 use Rattle.it_space.specs.Rows.{Terms}
+use Rattle.it_prove.specs.Reach.{effort_under}
 use Rattle.it_hull.specs.KeptRates.{kept_coordinates}
 use Rattle.it_outer.specs.declared.types.Limits.{Limits}
 use Rattle.it_outer.specs.declared.types.Outer.{Outer}
@@ -21,6 +22,10 @@ pub record Search : Type 0 where
 -- the search for the bounds of a problem without some rates, the first of which has the multipliers
 abbrev pub search_without : ProblemView → List ℕ → Limits → Search
 search_without q gone limits = record { problem = q; spare = slice_index_or gone 0 0; kept = kept_coordinates q.space gone; limits = limits }
+
+-- these limits for the search under a problem: quick runs alone decide its rows where the defined run is out of reach
+abbrev pub limits_under : ProblemView → Limits → Limits
+limits_under q limits = record { rows = limits.rows; rays = limits.rays; effort = effort_under q limits.effort }
 
 -- why bounds stay undecided: the run about a row of the hull has no end within its bounds; a further ray leaves too many rows; a
 -- number passes the limit; a row is refuted, and no more rays are allowed

@@ -1,5 +1,5 @@
 -- Laws of bounds and of searches.
-use Rattle.std.specs.Prelude.{◌≡◌, ◌↔◌, ℕ, ◌+◌, ◌^◌, ◌≤◌, ◌<◌, ℤ, List, All, Contains, false}
+use Rattle.std.specs.Prelude.{◌≡◌, ◌↔◌, ℕ, ◌+◌, ◌^◌, ◌≤◌, ◌<◌, ℤ, List, All, Contains}
 use Rattle.it_space.specs.Answers.{CertificateView}
 use Rattle.it_problems.specs.Problems.{ProblemView, IsProblem}
 use Rattle.it_space.specs.Rows.{Terms, IsOver, most_system_rows}
@@ -7,6 +7,7 @@ use Rattle.it_space.specs.Spaces.{size_of}
 use Rattle.it_eliminate.specs.Projections.{IsPointOf}
 use Rattle.it_hull.specs.Hulls.{IsAttained}
 use Rattle.it_hull.specs.Theorems.{MeetsProblem}
+use Rattle.it_prove.specs.declared.types.Runs.TheVariants.{Defined}
 use Rattle.it_outer.specs.Bounds.{AreBounds, IsRightOuter}
 use Rattle.it_outer.specs.Outer.{Search, OuterView}
 use Rattle.it_outer.specs.Search.{SearchEnds}
@@ -29,6 +30,6 @@ pub record IsSearch (s : Search) : Type 0 where
 abbrev pub EndsAreRight : Type 0
 EndsAreRight = (s : Search) (end : OuterView) → IsSearch s → SearchEnds s end → IsRightOuter s.problem s.kept end
 
--- without a quick run a search has one end
+-- where the defined run alone is made a search has one end
 abbrev pub OneSearchEnd : Type 0
-OneSearchEnd = (s : Search) (end other : OuterView) → s.limits.effort.quick ≡ false → SearchEnds s end → SearchEnds s other → end ≡ other
+OneSearchEnd = (s : Search) (end other : OuterView) → s.limits.effort.runs ≡ Defined → SearchEnds s end → SearchEnds s other → end ≡ other

@@ -6,7 +6,7 @@ pub fn bounds_are_projection()
     ensures { BoundsAreProjection }
 {}
 
-/// The end of a search is right, and without a quick run it has one end.
+/// The end of a search is right, and where the defined run alone is made it has one end.
 pub fn searches_are_determined()
     ensures right { EndsAreRight }
     ensures one { OneSearchEnd }

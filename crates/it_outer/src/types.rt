@@ -1,7 +1,11 @@
 //! The limits and the results of a search for outer bounds.
+ghost use Rattle.std.specs.Prelude.{◌≡◌, IfOk};
+ghost use Rattle.it_outer.specs.Outer.{limits_under};
+
 use it_problems::{Problem, System};
 use it_prove::Effort;
 use it_space::{Cause, Certificate, Point, Row};
+use std::alloc::{AllocError, Global};
 
 /// The limits of a search.
 #[derive(Clone, Copy, Debug, PartialEq, Eq)]
@@ -12,6 +16,20 @@ pub struct Limits {
     pub rays: usize,
     /// The effort to decide each row.
     pub effort: Effort,
+}
+
+impl Limits {
+    /// These limits with the effort for rows under `problem`.
+    pub fn under(self, alloc: Global, problem: &Problem) -> Result<Limits, AllocError>
+        ensures { IfOk result (λ l. l ≡ limits_under problem.now self) }
+    {
+        let effort = self.effort.under(alloc, problem)?;
+        Ok(Limits {
+            rows: self.rows,
+            rays: self.rays,
+            effort,
+        })
+    }
 }
 
 /// Why bounds stay undecided.

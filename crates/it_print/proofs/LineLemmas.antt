@@ -1,5 +1,5 @@
 -- Steps of texts.
-use Rattle.std.proofs.Common.{◌≡◌, ℕ, ◌<◌, ◌≤◌, ◌*◌, ◌%◌, ◌^◌, ◌-◌, List, ◌∷◌, ◌++◌, ◌+◌, Some, Bool, true, false, if◌then◌else◌, sym, ap, ◌∙◌, arith, append_assoc, append-nil, codes, ◌||◌, drop, [], ℤ, map, filter, cond, refl}
+use Rattle.std.proofs.Common.{get_or, ◌&&◌, int_lt, bit_or, length, ◌≡◌, ℕ, ◌<◌, ◌≤◌, ◌*◌, ◌%◌, ◌^◌, ◌-◌, List, ◌∷◌, ◌++◌, ◌+◌, Some, Bool, true, false, if◌then◌else◌, sym, ap, ◌∙◌, arith, append_assoc, append-nil, codes, ◌||◌, drop, [], ℤ, map, filter, cond, refl}
 use Rattle.it_space.specs.Answers.{is_nonzero_weight}
 use Rattle.it_problems.specs.declared.problems.Origin.{Origin}
 use Rattle.std.specs.List.{slice_get}
@@ -9,7 +9,9 @@ use Rattle.it_space.specs.Sets.{has_member}
 use Rattle.it_space.specs.Spaces.{most_variables}
 use Rattle.it_space.proofs.SpaceLemmas.{few_sets}
 use Rattle.std.proofs.lemmas.Nat.{pow_below}
-use Rattle.it_print.specs.Lines.{joined_texts, members_from, or_zero, sum_text, weight_text}
+use Rattle.std.specs.Fmt.{signed_decimal}
+use Rattle.it_syntax.specs.NamesViews.{NamesView}
+use Rattle.it_print.specs.Lines.{coordinate_text, each_raises, is_told, joined_texts, members_from, or_zero, pair_texts, sum_text, weight_text}
 
 -- a list's first element, and what is written after it
 pub joined_step : (separator : List ℕ) (some wanted : Bool) (text : List ℕ) (rest : List (List ℕ)) (out : List ℕ)
@@ -73,3 +75,31 @@ set_step names i set name some out e =
     name_is_first : (names : List (List ℕ)) (i : ℕ) → slice_get names i ≡ Some name → drop i names ≡ name ∷ drop (i + 1) names
     name_is_first names i e = drop_more names i name (slice_get_within names i name e)
         ∙ ap (λ n. n ∷ drop (i + 1) names) (get_or_from_slice_get names i name name e)
+
+-- whether each variable from i on raises a value, by the first of them and the others
+abbrev raises_at : ℕ → (ℕ → ℤ) → ℕ → Bool
+raises_at i p s = has_member s i || int_lt (p s) (p (bit_or s (2 ^ i)))
+
+raise_step : (names : List (List ℕ)) (i : ℕ) (p : ℕ → ℤ) (s : ℕ) → i < length names
+    → each_raises i (drop i names) p s ≡ (raises_at i p s && each_raises (i + 1) (drop (i + 1) names) p s)
+raise_step names i p s h = ap (λ ns. each_raises i ns p s) (drop_more names i [] h)
+
+-- where the first doesn't, not each does
+pub raise_stops : (names : List (List ℕ)) (i : ℕ) (p : ℕ → ℤ) (s : ℕ) (all : Bool) → i < length names → each_raises i (drop i names) p s ≡ all
+    → raises_at i p s ≡ false → false ≡ all
+raise_stops names i p s all h e t = ap (λ b. b && each_raises (i + 1) (drop (i + 1) names) p s) (sym t) ∙ sym (raise_step names i p s h) ∙ e
+
+-- where the first does, the others tell
+pub raise_goes : (names : List (List ℕ)) (i : ℕ) (p : ℕ → ℤ) (s : ℕ) (all : Bool) → i < length names → each_raises i (drop i names) p s ≡ all
+    → raises_at i p s ≡ true → each_raises (i + 1) (drop (i + 1) names) p s ≡ all
+raise_goes names i p s all h e t = ap (λ b. b && each_raises (i + 1) (drop (i + 1) names) p s) (sym t) ∙ sym (raise_step names i p s h) ∙ e
+
+-- one more value of a point
+pub pair_step : (v : NamesView) (values : List ℤ) (i : ℕ) (d : ℤ) (some : Bool) (out : List ℕ) → i < length values
+    → (out ++ joined_texts (codes " ") some (if is_told v values (i + 1) then (coordinate_text v (i + 1) ++ codes "=" ++ signed_decimal (get_or values i d)) ∷ [] else []))
+    ++ joined_texts (codes " ") (some || is_told v values (i + 1)) (pair_texts v (is_told v values) (i + 1 + 1) (drop (i + 1) values))
+    ≡ out ++ joined_texts (codes " ") some (pair_texts v (is_told v values) (i + 1) (drop i values))
+pair_step v values i d some out h =
+    joined_step (codes " ") some (is_told v values (i + 1)) (coordinate_text v (i + 1) ++ codes "=" ++ signed_decimal (get_or values i d))
+    (pair_texts v (is_told v values) (i + 1 + 1) (drop (i + 1) values)) out
+    ∙ ap (λ xs. out ++ joined_texts (codes " ") some (pair_texts v (is_told v values) (i + 1) xs)) (sym (drop_more values i d h))

@@ -1,5 +1,5 @@
 -- The lines of an answer, as bytes.
-use Rattle.std.specs.Prelude.{◌≡◌, ℕ, ◌+◌, ◌-◌, ◌^◌, ◌<◌, ◌≤◌, ℤ, pos, unsigned_abs, int_lt, map, filter, flat_map, All, List, [], ◌∷◌, ◌++◌, length, Bool, true, false, if◌then◌else◌, ◌==◌, codes, decimal, drop, nat_lt, slice_index_or}
+use Rattle.std.specs.Prelude.{◌≡◌, ℕ, ◌+◌, ◌-◌, ◌^◌, ◌<◌, ◌≤◌, ℤ, pos, unsigned_abs, int_lt, map, filter, flat_map, All, List, [], ◌∷◌, ◌++◌, length, Bool, true, false, ◌&&◌, ◌||◌, if◌then◌else◌, ◌==◌, codes, decimal, drop, nat_le, nat_lt, slice_index_or, bit_or}
 use Rattle.std.specs.Fmt.{signed_decimal}
 use Rattle.it_space.specs.Sets.{has_member}
 use Rattle.it_space.specs.Answers.{AnswerView, CertificateView, IfRate, is_nonzero_weight, mark_word}
@@ -10,7 +10,7 @@ use Rattle.it_space.specs.declared.answers.Cause.{Cause}
 use Rattle.it_space.specs.declared.answers.Cause.TheVariants.{Pivots, Width, Scale, Rows, WideRate}
 use Rattle.it_space.specs.declared.answers.Certificate.{Certificate}
 use Rattle.it_space.specs.declared.answers.Mark.{Mark}
-use Rattle.it_space.specs.Rows.{Terms}
+use Rattle.it_space.specs.Rows.{Terms, point_of}
 use Rattle.it_space.specs.Spaces.{most_coordinates}
 use Rattle.it_problems.specs.declared.problems.Constraint.{Constraint}
 use Rattle.it_problems.specs.declared.problems.Kind.{Kind}
@@ -22,6 +22,7 @@ use Rattle.it_syntax.specs.NamesViews.{NamesView}
 use Rattle.it_question.specs.Questions.{BodyView, VerbView, Contain}
 use Rattle.it_canon.specs.TrueLines.{variable_count}
 use Rattle.it_question.specs.ProblemLines.{problem_names}
+use Rattle.it_question.specs.QuestionLimits.{most_names}
 
 -- texts with a separator between them, and before them if `some`: another text stands before
 abbrev pub joined_texts : List ℕ → Bool → List (List ℕ) → List ℕ
@@ -89,14 +90,25 @@ unfoldable pub coordinate_text : NamesView → ℕ → List ℕ
 coordinate_text v c =
     if nat_lt c (2 ^ length v.variables) then codes "h(" ++ set_text v.variables c ++ codes ")" else slice_index_or v.rates (c - 2 ^ length v.variables) []
 
--- the coordinates from c on with their values
-abbrev pub pair_texts : NamesView → ℕ → List ℤ → List (List ℕ)
-pair_texts v c [] = []
-pair_texts v c (x ∷ xs) = (coordinate_text v c ++ codes "=" ++ signed_decimal x) ∷ pair_texts v (c + 1) xs
+-- whether each variable that isn't a member of the set s raises its value at p, of the variables with these names, from variable i on
+abbrev pub each_raises : ℕ → List (List ℕ) → (ℕ → ℤ) → ℕ → Bool
+each_raises i [] p s = true
+each_raises i (name ∷ names) p s = (has_member s i || int_lt (p s) (p (bit_or s (2 ^ i)))) && each_raises (i + 1) names p s
+
+-- Whether a line has the value at coordinate c. Of a question with more names than usual it has those of the rates and of the point's
+-- closed sets, which each further variable raises: any other set has the value of the least of them around it. (J. Oxley, "Matroid Theory",
+-- 2011, calls these sets flats.)
+abbrev pub is_told : NamesView → List ℤ → ℕ → Bool
+is_told v values c = nat_le (length v.variables) most_names || (nat_le (2 ^ length v.variables) c || each_raises 0 v.variables (point_of values) c)
+
+-- the coordinates from c on with their values, those that f tells
+abbrev pub pair_texts : NamesView → (ℕ → Bool) → ℕ → List ℤ → List (List ℕ)
+pair_texts v f c [] = []
+pair_texts v f c (x ∷ xs) = (if f c then (coordinate_text v c ++ codes "=" ++ signed_decimal x) ∷ [] else []) ++ pair_texts v f (c + 1) xs
 
 -- the values of a point with a blank between them
 unfoldable pub values_text : NamesView → List ℤ → List ℕ
-values_text v values = joined_texts (codes " ") false (pair_texts v 1 values)
+values_text v values = joined_texts (codes " ") false (pair_texts v (is_told v values) 1 values)
 
 -- the cause why a question is undecided
 unfoldable pub cause_text : NamesView → Cause → List ℕ

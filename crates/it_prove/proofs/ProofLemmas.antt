@@ -1,7 +1,5 @@
 -- From the ends of the run and the checker's verdict to the outcome.
-use Rattle.std.proofs.Common.{◌≡◌, ◌≢◌, ◌⊎◌, inl, inr, ℕ, zero, suc, ℤ, List, [], ◌∷◌, map, length, get_or, All, Option, Some, None, Result, Ok, Err, refl, sym, ap, subst, subst₂, ◌∙◌, Bool, true, false}
-use Rattle.std.proofs.lemmas.Bool.{false≢true}
-use Rattle.std.specs.Option.{IfNone}
+use Rattle.std.proofs.Common.{◌≡◌, ◌≢◌, ◌⊎◌, inl, inr, ℕ, zero, suc, ℤ, List, [], ◌∷◌, map, length, get_or, All, Option, None, Result, Ok, Err, refl, sym, ap, subst, subst₂, ◌∙◌}
 use Rattle.std.specs.Result.{IfOk}
 use Rattle.it_number.specs.Limit.{IsWithin}
 use Rattle.it_rational.specs.Rational.{Rational, integer}
@@ -40,9 +38,11 @@ use Rattle.it_columns.specs.Columns.{columns}
 use Rattle.it_prove.specs.ClosedProblems.{SameRows}
 use Rattle.it_prove.specs.Closed.{closed_places, closed_generators, closed_target, CollapsesFit, spread_point}
 use Rattle.it_columns.specs.Scaling.{NumbersFit, scaled_number}
-use Rattle.it_prove.specs.ProofViews.{ProofView, Yes, No, Undecided, IsLifted, LiftedFit, Follows, Runs, EndsByRun, EndsWith, DefinedEndsMayCome, NeverOutOfSteps, OneProofView, ProvenAscends, proof_view}
+use Rattle.it_prove.specs.ProofViews.{ProofView, Yes, No, Undecided, IsLifted, LiftedFit, Follows, RunEnds, EndsByRun, EndsWith, QuickEnds, IsSettled, IsUnbound, DefinedEndsMayCome, NeverOutOfSteps, OneProofView, ProvenAscends, proof_view}
 use Rattle.it_prove.specs.declared.types.Effort.{Effort}
 use Rattle.it_prove.specs.declared.types.Proof.{Proof}
+use Rattle.it_prove.specs.declared.types.Runs.{Runs}
+use Rattle.it_prove.specs.declared.types.Runs.TheVariants.{Defined, QuickFirst, QuickAlone}
 use Rattle.it_prove.proofs.PointLemmas.{point_right}
 use Rattle.it_prove.proofs.LiftLemmas.{one_lift}
 
@@ -204,7 +204,7 @@ one_follows q target (Pivots k) o p a b = a ∙ sym b
 one_follows q target (Width k) o p a b = a ∙ sym b
 
 one_run : (q : ProblemView) (target : Terms) (budget : Option ℕ) (d e : RunEndView (List (ℕ × Rational)) (List Rational))
-    → Runs q target budget d → Runs q target budget e → d ≡ e
+    → RunEnds q target budget d → RunEnds q target budget e → d ≡ e
 one_run q target budget d e (inl a) (inl b) = a.1 ∙ sym b.1
 one_run q target budget d e (inl a) (inr b) = absurd (a.0 b.0)
 one_run q target budget d e (inr a) (inl b) = absurd (b.0 a.0)
@@ -214,18 +214,49 @@ one_run_outcome : (q : ProblemView) (target : Terms) (budget : Option ℕ) (o p 
 one_run_outcome q target budget o p a b =
     one_follows q target b.end o p (subst (λ e. Follows q target e o) (one_run q target budget a.end b.end a.run b.run) a.follows) b.follows
 
-not_quick : (quick : Bool) → quick ≡ false → quick ≡ true → ⊥
-not_quick quick e f = false≢true (sym e ∙ f)
+-- ---- what comes beside the defined run
+
+-- it is settled, or left open without a step
+pub quick_ends : (runs : Runs) (q : ProblemView) (target : Terms) (o : ProofView) → QuickEnds runs q target o
+    → IsSettled q target o ⊎ (o ≡ Undecided (causes.Pivots 0))
+quick_ends Defined q target o e = absurd e
+quick_ends QuickFirst q target o e = inl e
+quick_ends QuickAlone q target o e = e
+
+pub quick_yes : (runs : Runs) (q : ProblemView) (target : Terms) (w : CertificateView) → QuickEnds runs q target (Yes w) → IsSettled q target (Yes w)
+quick_yes runs q target w e = by_cases (quick_ends runs q target (Yes w) e)
+  where
+    by_cases : IsSettled q target (Yes w) ⊎ (Yes w ≡ Undecided (causes.Pivots 0)) → IsSettled q target (Yes w)
+    by_cases (inl settled) = settled
+    by_cases (inr is) = absurd (cc)
+
+pub quick_no : (runs : Runs) (q : ProblemView) (target : Terms) (values : List ℤ) → QuickEnds runs q target (No values) → IsSettled q target (No values)
+quick_no runs q target values e = by_cases (quick_ends runs q target (No values) e)
+  where
+    by_cases : IsSettled q target (No values) ⊎ (No values ≡ Undecided (causes.Pivots 0)) → IsSettled q target (No values)
+    by_cases (inl settled) = settled
+    by_cases (inr is) = absurd (cc)
+
+pub quick_cause : (runs : Runs) (q : ProblemView) (target : Terms) (cause : Cause) → QuickEnds runs q target (Undecided cause) → cause ≡ causes.Pivots 0
+quick_cause runs q target cause e = by_cases (quick_ends runs q target (Undecided cause) e)
+  where
+    by_cases : ⊥ ⊎ (Undecided cause ≡ Undecided (causes.Pivots 0)) → cause ≡ causes.Pivots 0
+    by_cases (inl settled) = absurd settled
+    by_cases (inr is) = cc
+
+-- where the defined run alone is made, nothing does
+none_beside : (q : ProblemView) (target : Terms) (runs : Runs) (o : ProofView) → runs ≡ Defined → QuickEnds runs q target o → ⊥
+none_beside q target runs o defined e = subst (λ (r : Runs). QuickEnds r q target o) defined e
 
 pub one_outcome : OneProofView
 one_outcome q target effort o p e (inl a) (inl b) = one_run_outcome q target effort.pivots o p a b
-one_outcome q target effort o p e (inl a) (inr b) = absurd (not_quick effort.quick e b.0)
-one_outcome q target effort o p e (inr a) b = absurd (not_quick effort.quick e a.0)
+one_outcome q target effort o p e (inl a) (inr b) = absurd (none_beside q target effort.runs p e b)
+one_outcome q target effort o p e (inr a) b = absurd (none_beside q target effort.runs o e a)
 
--- the outcome of the defined run may come where a quick run comes first
+-- the outcome of the defined run may come whichever runs are made
 pub defined_ends_may_come : DefinedEndsMayCome
-defined_ends_may_come q target budget o (inl a) = inl a
-defined_ends_may_come q target budget o (inr b) = absurd (not_quick false refl b.0)
+defined_ends_may_come q target runs budget o (inl a) = inl a
+defined_ends_may_come q target runs budget o (inr b) = absurd b
 
 -- weights of a proof ascend, and none is 0
 run_ascends : (q : ProblemView) (target : Terms) (budget : Option ℕ) (w : CertificateView) → EndsByRun q target budget (Yes w) → IsCanonical w.weights
@@ -250,11 +281,11 @@ run_ascends q target budget w e = for_each e.end e.follows
 
 pub proven_ascends : ProvenAscends
 proven_ascends q target effort w (inl e) = run_ascends q target effort.pivots w e
-proven_ascends q target effort w (inr (quick, settled)) = settled.1
+proven_ascends q target effort w (inr e) = (quick_yes effort.runs q target w e).1
 
 -- ---- without a budget
 
-run_within_budget : (q : ProblemView) (target : Terms) (e : RunEndView (List (ℕ × Rational)) (List Rational)) → Runs q target None e → (k : ℕ) → e ≢ Pivots k
+run_within_budget : (q : ProblemView) (target : Terms) (e : RunEndView (List (ℕ × Rational)) (List Rational)) → RunEnds q target None e → (k : ℕ) → e ≢ Pivots k
 run_within_budget q target e (inl a) = λ k p. let h = a.1 in cc
 run_within_budget q target e (inr a) = ends_within_budget (closed_places q) (columns (closed_generators q)) (closed_target q target) e a.1
 
@@ -281,21 +312,22 @@ run_never_out q target k e = for_each e.end e.follows (run_within_budget q targe
     for_each (Pivots j) a i = i j refl
     for_each (Width j) a i = pivots_not_width a
 
+-- where the defined run is made, no target is left open beside it
+none_open : (q : ProblemView) (target : Terms) (runs : Runs) (cause : Cause) → runs ≢ QuickAlone → QuickEnds runs q target (Undecided cause) → ⊥
+none_open q target Defined cause made e = e
+none_open q target QuickFirst cause made e = e
+none_open q target QuickAlone cause made e = made refl
+
 pub never_out_of_steps : NeverOutOfSteps
-never_out_of_steps q target effort k none (inl e) = run_never_out q target k (subst (λ b. EndsByRun q target b (Undecided (causes.Pivots k))) none e)
-never_out_of_steps q target effort k none (inr (quick, settled)) = settled
+never_out_of_steps q target effort k u (inl e) = run_never_out q target k (subst (λ b. EndsByRun q target b (Undecided (causes.Pivots k))) u.0 e)
+never_out_of_steps q target effort k u (inr e) = none_open q target effort.runs (causes.Pivots k) u.1 e
 
 -- so is the result of the code
 pub never_pivots : {E : Type 0} (q : ProblemView) (target : Terms) (effort : Effort) (r : Result Proof E)
     → IfOk r (λ proof. EndsWith q target effort (proof_view proof))
-    → IfNone effort.pivots (IfOk r (λ proof. (k : ℕ) → proof_view proof ≢ Undecided (causes.Pivots k)))
-never_pivots q target effort r h = by effort.pivots refl r h
-  where
-    by : (pivots : Option ℕ) → effort.pivots ≡ pivots → {E : Type 0} (r : Result Proof E) → IfOk r (λ proof. EndsWith q target effort (proof_view proof))
-        → IfNone pivots (IfOk r (λ proof. (k : ℕ) → proof_view proof ≢ Undecided (causes.Pivots k)))
-    by (Some steps) e r h = tt
-    by None e (Err fault) h = tt
-    by None e (Ok proof) h = λ k is. never_out_of_steps q target effort k e (subst (EndsWith q target effort) is h)
+    → IsUnbound effort → IfOk r (λ proof. (k : ℕ) → proof_view proof ≢ Undecided (causes.Pivots k))
+never_pivots q target effort (Err fault) h u = tt
+never_pivots q target effort (Ok proof) h u = λ k is. never_out_of_steps q target effort k u (subst (EndsWith q target effort) is h)
 
 -- the result of the code by the defined run is a possible outcome about the target
 pub defined_ends : {E : Type 0} (q : ProblemView) (target : Terms) (effort : Effort) (r : Result Proof E)

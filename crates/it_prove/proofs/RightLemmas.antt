@@ -1,5 +1,5 @@
 -- The end of a run is right: the lift of weights certifies the target, and a point that is spread out refutes it.
-use Rattle.std.proofs.Common.{inl, inr, ℕ, ℤ, pos, neg_ℤ, ◌≤ℤ◌, List, Option, Result, Ok, Err, length, sym, subst, arith}
+use Rattle.std.proofs.Common.{◌≡◌, ◌⊎◌, inl, inr, ℕ, ℤ, pos, neg_ℤ, ◌≤ℤ◌, List, Option, Result, Ok, Err, length, sym, subst, arith}
 use Rattle.std.proofs.lemmas.Int.{ints}
 use Rattle.std.specs.Result.{IfOk}
 use Rattle.it_rational.specs.Rational.{Rational}
@@ -17,11 +17,13 @@ use Rattle.it_run.proofs.RunLemmas.{EndIsRight}
 use Rattle.it_check.proofs.Truth.{yes_is_true}
 use Rattle.it_prove.specs.Closed.{closed_places, closed_generators, closed_target}
 use Rattle.it_columns.specs.Columns.{columns}
-use Rattle.it_prove.specs.ProofViews.{ProofView, Yes, No, Undecided, Follows, Runs, EndsByRun, EndsWith, EndsAgree, IsRightProof, IsSettled, EndsAreRight, proof_view}
+use Rattle.it_prove.specs.ProofViews.{ProofView, Yes, No, Undecided, Follows, RunEnds, EndsByRun, EndsWith, EndsAgree, IsRightProof, IsSettled, EndsAreRight, proof_view}
 use Rattle.it_prove.specs.declared.types.Effort.{Effort}
 use Rattle.it_prove.specs.declared.types.Proof.{Proof}
+use Rattle.it_space.specs.declared.answers.Cause.TheVariants as causes
 use Rattle.it_prove.proofs.LiftLemmas.{lifted_certifies}
 use Rattle.it_prove.proofs.PointLemmas.{point_right}
+use Rattle.it_prove.proofs.ProofLemmas.{quick_ends}
 
 module _ (q : ProblemView) (target : Terms) where
   -- weights sum to the collapsed target, and a point separates it from the columns
@@ -29,7 +31,7 @@ module _ (q : ProblemView) (target : Terms) where
   IsRightEnd end = EndIsRight field_ℚ (length (closed_places q)) (length (columns (closed_generators q)))
       (feasibility_problem (closed_places q) (columns (closed_generators q)) (closed_target q target)) end
 
-  right_run : (budget : Option ℕ) (end : RunEndView (List (ℕ × Rational)) (List Rational)) → Runs q target budget end → IsRightEnd end
+  right_run : (budget : Option ℕ) (end : RunEndView (List (ℕ × Rational)) (List Rational)) → RunEnds q target budget end → IsRightEnd end
   right_run budget end (inl a) = subst IsRightEnd (sym a.1) tt
   right_run budget end (inr (c, inl a)) = subst IsRightEnd (sym a.1) tt
   right_run budget end (inr (c, inr a)) =
@@ -56,9 +58,13 @@ settled_right q target (Yes w) (right, canonical, within) = right
 settled_right q target (No values) (right, within) = right
 settled_right q target (Undecided cause) s = tt
 
+quick_right : (q : ProblemView) (target : Terms) (o : ProofView) → IsSettled q target o ⊎ (o ≡ Undecided (causes.Pivots 0)) → IsRightProof q target o
+quick_right q target o (inl settled) = settled_right q target o settled
+quick_right q target o (inr is) = subst (IsRightProof q target) (sym is) tt
+
 pub ends_are_right : EndsAreRight
 ends_are_right q target effort o k u (inl e) = run_right q target effort.pivots o k u e
-ends_are_right q target effort o k u (inr (quick, settled)) = settled_right q target o settled
+ends_are_right q target effort o k u (inr e) = quick_right q target o (quick_ends effort.runs q target o e)
 
 -- so is the result of the code
 pub right_result : {E : Type 0} (q : ProblemView) (target : Terms) (effort : Effort) (r : Result Proof E) → IsProblem q → IsOver (size_of q.space) target

@@ -38,7 +38,8 @@ use Rattle.it_run.specs.Runs.RunEndView.{Weights, Point, Pivots, Width}
 use Rattle.it_run.proofs.RowValues.{whole_plus}
 use Rattle.it_prove.specs.Closed.{collapsed_row, collapsed_generator, closed_places, closed_generators, closed_target, CollapsesFit}
 use Rattle.it_columns.specs.Columns.{columns}
-use Rattle.it_prove.specs.ProofViews.{Undecided, Follows, Runs, EndsByRun, AreSmall, NeverAtStart}
+use Rattle.it_prove.proofs.ProofLemmas.{quick_cause}
+use Rattle.it_prove.specs.ProofViews.{Undecided, Follows, RunEnds, EndsByRun, AreSmall, NeverAtStart}
 use Rattle.it_prove.proofs.ClosedRows.{coords_rise}
 use Rattle.it_prove.proofs.LiftLemmas.{dependences_sound}
 use Rattle.it_prove.proofs.SmallRows.{abs_add, abs_neg, collapsed_small, columns_small, collapse_fits, generators_small}
@@ -202,7 +203,7 @@ run_never_at_start q target budget k s e = by_cases e.run (zero_end e.end e.foll
         (λ g b. collapsed_small q.space.variables (dependences_of q) g.row b) all_small)))
         (collapsed_small q.space.variables (dependences_of q) target s.own)
 
-    by_cases : Runs q target budget e.end → e.end ≡ Width 0 → ⊥
+    by_cases : RunEnds q target budget e.end → e.end ≡ Width 0 → ⊥
     by_cases (inl a) z = a.0 all_collapses_fit
     by_cases (inr (f, inl a)) z = a.0 start
     by_cases (inr (f, inr a)) z = never_run (length (closed_places q)) (length (columns (closed_generators q)))
@@ -211,4 +212,4 @@ run_never_at_start q target budget k s e = by_cases e.run (zero_end e.end e.foll
 
 pub never_at_start : NeverAtStart
 never_at_start q target effort k s (inl e) = run_never_at_start q target effort.pivots k s e
-never_at_start q target effort k s (inr (quick, settled)) = settled
+never_at_start q target effort k s (inr e) = let is : causes.Width 0 ≡ causes.Pivots 0 = quick_cause effort.runs q target (causes.Width 0) e in absurd (cc)

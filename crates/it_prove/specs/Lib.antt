@@ -3,3 +3,4 @@ pub mod Closed
 pub mod ClosedProblems
 pub mod ProofViews
 pub mod Steps
+pub mod Reach

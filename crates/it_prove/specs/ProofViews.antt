@@ -1,6 +1,6 @@
 -- The outcome about one target: by weights of the run over closed sets, which are lifted to a certificate, by a point of it, which is
--- spread out, or by neither; and if a quick run comes first, by its proposal, if the check finds it valid.
-use Rattle.std.specs.Prelude.{◌≡◌, ◌≢◌, ◌⊎◌, ℕ, ◌+◌, ◌*◌, ℤ, List, [], length, All, Option, None, true, false}
+-- spread out, or by neither; and if a quick run comes first or alone, by its proposal, if the check finds it valid.
+use Rattle.std.specs.Prelude.{◌≡◌, ◌≢◌, ◌⊎◌, ℕ, ◌+◌, ◌*◌, ℤ, List, [], length, All, Option, None}
 use Rattle.std.specs.List.{AllZip}
 use Rattle.it_number.specs.Limit.{IsWithin}
 use Rattle.it_rational.specs.Rational.{Rational}
@@ -28,6 +28,8 @@ use Rattle.it_prove.specs.Weights.{numbers_of, certificate_of}
 use Rattle.it_prove.specs.declared.types.Effort.{Effort}
 use Rattle.it_prove.specs.declared.types.Proof.{Proof}
 use Rattle.it_prove.specs.declared.types.Proof.TheVariants as proofs
+use Rattle.it_prove.specs.declared.types.Runs.{Runs}
+use Rattle.it_prove.specs.declared.types.Runs.TheVariants.{Defined, QuickFirst, QuickAlone}
 
 -- a certificate, a point that refutes the target, or neither with its cause
 pub data ProofView : Type 0 where
@@ -67,15 +69,15 @@ Follows q target (Pivots k) o = o ≡ Undecided (causes.Pivots k)
 Follows q target (Width k) o = o ≡ Undecided (causes.Width k)
 
 -- the run over closed sets, with a budget of steps or without one, ends with e; if the collapse doesn't fit, it ends with `Width` 0
-abbrev pub Runs : ProblemView → Terms → Option ℕ → RunEndView (List (ℕ × Rational)) (List Rational) → Type 0
-Runs q target budget e =
+abbrev pub RunEnds : ProblemView → Terms → Option ℕ → RunEndView (List (ℕ × Rational)) (List Rational) → Type 0
+RunEnds q target budget e =
     (¬ (CollapsesFit q target) × (e ≡ Width 0))
     ⊎ (CollapsesFit q target × Solves (closed_places q) (columns (closed_generators q)) (closed_target q target) budget e)
 
 -- the outcome is that of the defined run
 pub record EndsByRun (q : ProblemView) (target : Terms) (budget : Option ℕ) (o : ProofView) : Type 0 where
   pub end : RunEndView (List (ℕ × Rational)) (List Rational)
-  pub run : Runs q target budget end
+  pub run : RunEnds q target budget end
   pub follows : Follows q target end o
 
 -- an outcome is right: a certificate certifies the target, and a point refutes it
@@ -90,10 +92,17 @@ IsSettled q target (Yes w) = IsRightProof q target (Yes w) × IsCanonical w.weig
 IsSettled q target (No values) = IsRightProof q target (No values) × All IsWithin values
 IsSettled q target (Undecided cause) = ⊥
 
--- The outcome is that of the defined run, or, if a quick run comes first, one that is settled. So if the target is left open, the
--- defined run leaves it open.
+-- What may come beside the outcome of the defined run: nothing, where that is made alone; one that is settled, where a quick run comes
+-- first; and where a quick run is made alone, also that the target is left open without a step of the defined run.
+abbrev pub QuickEnds : Runs → ProblemView → Terms → ProofView → Type 0
+QuickEnds Defined q target o = ⊥
+QuickEnds QuickFirst q target o = IsSettled q target o
+QuickEnds QuickAlone q target o = IsSettled q target o ⊎ (o ≡ Undecided (causes.Pivots 0))
+
+-- The outcome is that of the defined run, or one that the quick runs of this effort end with. So if the target is left open and the
+-- defined run is made, that leaves it open.
 abbrev pub EndsWith : ProblemView → Terms → Effort → ProofView → Type 0
-EndsWith q target effort o = EndsByRun q target effort.pivots o ⊎ ((effort.quick ≡ true) × IsSettled q target o)
+EndsWith q target effort o = EndsByRun q target effort.pivots o ⊎ QuickEnds effort.runs q target o
 
 -- the outcomes about the targets are the certificates, in order
 abbrev pub AreProofsOf : ProblemView → Effort → List Terms → List CertificateView → Type 0
@@ -108,14 +117,15 @@ abbrev pub EndsAgree : Type 0
 EndsAgree = (q : ProblemView) (target : Terms) (effort other : Effort) (w : CertificateView) (values : List ℤ) → IsProblem q → IsOver (size_of q.space) target
     → EndsWith q target effort (Yes w) → EndsWith q target other (No values) → ⊥
 
--- without a quick run a target has one outcome
+-- where the defined run alone is made a target has one outcome
 abbrev pub OneProofView : Type 0
-OneProofView = (q : ProblemView) (target : Terms) (effort : Effort) (o p : ProofView) → effort.quick ≡ false → EndsWith q target effort o → EndsWith q target effort p → o ≡ p
+OneProofView = (q : ProblemView) (target : Terms) (effort : Effort) (o p : ProofView) → effort.runs ≡ Defined → EndsWith q target effort o
+    → EndsWith q target effort p → o ≡ p
 
--- the outcome without a quick run is one of the possible outcomes with one
+-- the outcome of the defined run alone is one of the possible outcomes whichever runs are made
 abbrev pub DefinedEndsMayCome : Type 0
-DefinedEndsMayCome = (q : ProblemView) (target : Terms) (budget : Option ℕ) (o : ProofView)
-    → EndsWith q target (record { quick = false; pivots = budget }) o → EndsWith q target (record { quick = true; pivots = budget }) o
+DefinedEndsMayCome = (q : ProblemView) (target : Terms) (runs : Runs) (budget : Option ℕ) (o : ProofView)
+    → EndsWith q target (record { runs = Defined; pivots = budget }) o → EndsWith q target (record { runs = runs; pivots = budget }) o
 
 -- the weights of a proof ascend by generator, and none is 0
 abbrev pub ProvenAscends : Type 0
@@ -130,9 +140,13 @@ pub record AreSmall (q : ProblemView) (target : Terms) : Type 0 where
 abbrev pub NeverAtStart : Type 0
 NeverAtStart = (q : ProblemView) (target : Terms) (effort : Effort) → IsProblem q → AreSmall q target → EndsWith q target effort (Undecided (causes.Width 0)) → ⊥
 
--- without a budget no target is left open because steps ran out
+-- the defined run is made, if a quick run doesn't settle the target, and goes on to its end
+abbrev pub IsUnbound : Effort → Type 0
+IsUnbound effort = (effort.pivots ≡ None) × (effort.runs ≢ QuickAlone)
+
+-- with such an effort no target is left open because steps ran out
 abbrev pub NeverOutOfSteps : Type 0
-NeverOutOfSteps = (q : ProblemView) (target : Terms) (effort : Effort) (k : ℕ) → effort.pivots ≡ None → EndsWith q target effort (Undecided (causes.Pivots k)) → ⊥
+NeverOutOfSteps = (q : ProblemView) (target : Terms) (effort : Effort) (k : ℕ) → IsUnbound effort → EndsWith q target effort (Undecided (causes.Pivots k)) → ⊥
 
 -- the size of a problem's table is that of the run's start: its coordinates times its columns, with an artificial one for each coordinate
 abbrev pub SizeIsOfStart : Type 0

@@ -6,7 +6,7 @@ ghost use Rattle.it_prove.specs.Steps.{GeneratorsFit};
 ghost use Rattle.it_columns.specs.Columns.{columns};
 
 use crate::columns::push_columns;
-use crate::types::Effort;
+use crate::types::{Effort, Runs};
 use it_closure::Dependences;
 use it_elemental::generator_count;
 use it_problems::Problem;
@@ -37,8 +37,8 @@ impl Drop for ClosedProblem {
 }
 
 impl ClosedProblem {
-    /// The closed problem of `problem`, for targets with this effort. If a quick run comes first, no column is made before the defined run
-    /// needs it; else those of all generators are made, or none if a partial sum of a coefficient passes the limit.
+    /// The closed problem of `problem`, for targets with this effort. If a quick run comes first or alone, no column is made before the
+    /// defined run needs it; else those of all generators are made, or none if a partial sum of a coefficient passes the limit.
     pub fn read(
         alloc: Global,
         problem: &Problem,
@@ -47,7 +47,7 @@ impl ClosedProblem {
         ensures { IfOk result (IsClosedProblem problem.now) }
     {
         let mut closed = without_columns(alloc, problem)?;
-        if effort.quick {
+        if effort.runs != Runs::Defined {
             closed.quick = Some(QuickProblem::read(alloc, problem)?);
             return Ok(closed);
         }

@@ -11,12 +11,12 @@ pub fn ends_agree()
     ensures { EndsAgree }
 {}
 
-/// The outcome without a quick run is one of the possible outcomes with one.
+/// The outcome of the defined run alone is one of the possible outcomes whichever runs are made.
 pub fn defined_ends_may_come()
     ensures { DefinedEndsMayCome }
 {}
 
-/// Without a quick run a target under a problem has one outcome.
+/// Where the defined run alone is made, a target under a problem has one outcome.
 pub fn one_outcome()
     ensures { OneProofView }
 {}
@@ -32,7 +32,7 @@ pub fn never_at_start()
     ensures { NeverAtStart }
 {}
 
-/// Without a budget no target is left open because steps ran out.
+/// Where the defined run is made without a budget, no target is left open because steps ran out.
 pub fn never_out_of_steps()
     ensures { NeverOutOfSteps }
 {}

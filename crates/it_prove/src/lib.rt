@@ -2,7 +2,7 @@
 //! the elemental inequalities and the constraints, or by a point that refutes it (Yeung 1997). The run of the simplex
 //! method works on the sets that are closed under the problem's functional dependences; its weights are lifted back to
 //! all sets, and its point is spread out over them. A quick run may come first: its proposal is the answer if the check
-//! finds it valid.
+//! finds it valid. Where the defined run is out of reach, the quick run is made alone.
 #![tactic(auto)]
 
 mod answering;
@@ -13,6 +13,7 @@ mod laws;
 mod points;
 mod proving;
 mod quick;
+mod reach;
 mod scaling;
 mod types;
 
@@ -23,4 +24,4 @@ pub use laws::{
     one_outcome, proven_ascends, size_is_of_start,
 };
 pub use quick::settle;
-pub use types::{Effort, Proof, budget_of};
+pub use types::{Effort, Proof, Runs, budget_of};

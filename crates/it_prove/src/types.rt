@@ -15,11 +15,21 @@ pub enum Proof {
     Undecided(Cause),
 }
 
+/// Which runs are made about a target.
+#[derive(Clone, Copy, Debug, PartialEq, Eq)]
+pub enum Runs {
+    /// The defined run.
+    Defined,
+    /// A quick run, whose proposal is the answer if the check finds it valid; else the defined run.
+    QuickFirst,
+    /// A quick run alone, since the defined run is out of reach: what it doesn't settle stays undecided.
+    QuickAlone,
+}
+
 /// The effort to decide a target.
 #[derive(Clone, Copy, Debug, PartialEq, Eq)]
 pub struct Effort {
-    /// Whether a quick run comes first, whose proposal is the answer if the check finds it valid.
-    pub quick: bool,
+    pub runs: Runs,
     /// The most steps of the defined run; without it the run goes on to its end.
     pub pivots: Option<u32>,
 }

@@ -19,6 +19,7 @@ use Rattle.it_syntax.specs.NamesViews.{NamesView}
 use Rattle.it_syntax.specs.Spans.{letter_of, letters_until, last_letter}
 use Rattle.it_syntax.specs.Spelling.{is_word_byte, is_space, AreAll, IsText}
 use Rattle.it_syntax.proofs.RunLemmas.{value_digits}
+use Rattle.it_question.specs.declared.sizes.FileLimits.{FileLimits}
 use Rattle.it_question.specs.AsciiTexts.{IsAsciiQuestion, TextsAreAscii}
 use Rattle.it_question.specs.Lines.{LineView, split_lines, file_end, line_letters, letters_of_lines}
 use Rattle.it_question.specs.NewNames.{NameSortView, Variable, Rate, with_name, no_names}
@@ -34,7 +35,7 @@ use Rattle.it_forms.proofs.LetterLemmas.{letters_append, letters_cleaned}
 use Rattle.it_question.specs.LineTexts.{without_leading, unless_blank, without_trailing, text_of_lines}
 use Rattle.it_question.specs.Texts.{question_line_count, with_texts}
 use Rattle.it_space.specs.Spaces.{most_rates}
-use Rattle.it_question.specs.QuestionLimits.{most_names}
+use Rattle.it_question.specs.QuestionLimits.{names_within}
 
 -- ---- bytes of tokens
 
@@ -214,29 +215,30 @@ names_line_ascii sort most keyword v y m k (inr s) a h = subst AsciiNames s.0 a
 no_names_ascii : AsciiNames no_names
 no_names_ascii = record { variables = All-nil IsAscii; rates = All-nil IsAscii }
 
-names_ascii : (q : BodyView) (m k : FlaggedLetters) → Spells question q m k → AsciiWords (letters m) → AsciiNames q.names
+names_ascii : (limits : FileLimits) (q : BodyView) (m k : FlaggedLetters) → Spells (question limits) q m k → AsciiWords (letters m) → AsciiNames q.names
 unfolding question Spells
-names_ascii q m k s h =
-    let first = new_names_ascii Variable most_names no_names s.0 m s.1 s.2 no_names_ascii h in
-    subst (λ (x : BodyView). AsciiNames x.names) s.3.3.3.3.0 (names_line_ascii Rate most_rates (codes "rates") s.0 s.3.0 s.1 s.3.1 s.3.2 first (words_after (new_names Variable most_names no_names) s.0 m s.1 s.2 h))
+names_ascii limits q m k s h =
+    let first = new_names_ascii Variable (names_within limits) no_names s.0 m s.1 s.2 no_names_ascii h in
+    subst (λ (x : BodyView). AsciiNames x.names) s.3.3.3.3.0 (names_line_ascii Rate most_rates (codes "rates") s.0 s.3.0 s.1 s.3.1 s.3.2 first
+    (words_after (new_names Variable (names_within limits) no_names) s.0 m s.1 s.2 h))
 
 -- ---- files
 
-all_questions : (lines : List LineView) (qs : List BodyView) → AreAt lines qs → All IsAsciiQuestion (with_texts lines qs)
-all_questions lines [] a = All-nil IsAsciiQuestion
-all_questions lines (b ∷ qs) a =
+all_questions : (limits : FileLimits) (lines : List LineView) (qs : List BodyView) → AreAt limits lines qs → All IsAsciiQuestion (with_texts lines qs)
+all_questions limits lines [] a = All-nil IsAsciiQuestion
+all_questions limits lines (b ∷ qs) a =
     let i = question_line_count b in
     let h = a.0 in
     let words : AsciiWords h.said = (subst AsciiWords h.first (lines_words (take i lines) h.whole)).1 in
     let all : AsciiWords (letters (without_flags h.said ++ the_end)) = subst AsciiWords
     (sym (letters_append (without_flags h.said) the_end ∙ ap (λ (ls : List Letter). ls ++ file_end ∷ []) (letters_cleaned h.said)))
     (words_append h.said (file_end ∷ []) words tt) in
-    let names = names_ascii b (without_flags h.said ++ the_end) the_end h.says all in
+    let names = names_ascii limits b (without_flags h.said ++ the_end) the_end h.says all in
     let q : QuestionView = record { body = b; text = text_of_lines (texts_of (take i lines)) } in
     let first : IsAsciiQuestion q = record { text = lines_ascii (take i lines) h.whole; variables = names.variables; rates = names.rates } in
-    All-cons IsAsciiQuestion q (with_texts (drop i lines) qs) first (all_questions (drop i lines) qs a.1)
+    All-cons IsAsciiQuestion q (with_texts (drop i lines) qs) first (all_questions limits (drop i lines) qs a.1)
 
 pub texts_are_ascii : TextsAreAscii
-texts_are_ascii bytes qs asked = subst (All IsAsciiQuestion) asked.says
-    (all_questions asked.lines asked.tree.0 (questions_at asked.lines asked.tree.0 (lines_sound 1 (split_lines bytes) asked.lines asked.cut)
-    (said file with_texts bytes qs asked)))
+texts_are_ascii limits bytes qs asked = subst (All IsAsciiQuestion) asked.says
+    (all_questions limits asked.lines asked.tree.0 (questions_at limits asked.lines asked.tree.0 (lines_sound 1 (split_lines bytes) asked.lines asked.cut)
+    (said (file limits) with_texts bytes qs asked)))

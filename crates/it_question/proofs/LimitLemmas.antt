@@ -1,15 +1,17 @@
 -- The questions that are read keep the limits, and their tables aren't too large.
 use Rattle.std.proofs.Common.{◌≡◌, ℕ, zero, suc, ◌+◌, ◌-◌, ◌≤◌, ◌<◌, ◌^◌, Bool, true, false, cond, nat_lt, List, [], ◌∷◌, ◌++◌, length, Option, None, Some, Ok, refl, ap, ◌∙◌, arith, length-append}
+use Rattle.std.specs.Bool.{OnFalse}
 use Rattle.std.specs.Prelude.{All, ◌||◌, eqb, ◌==◌, bytes_eq, codes, unwrap_or, is_some, if◌then◌else◌}
 use Rattle.std.specs.List.{IsDistinct, AllByRecursion, list_any, list_all}
 use Rattle.std.proofs.Math.Nat.{min-le_left, min-le_right}
+use Rattle.std.proofs.lemmas.Bool.{OnFalse_from}
 use Rattle.std.proofs.lemmas.Bool.Decides.{nat_tests}
 use Rattle.std.proofs.lemmas.List.{length-map}
 use Rattle.std.proofs.lemmas.List.Elements.{All-nil, All-cons, All-head, All-tail, All-append, All-map}
 use Rattle.std.proofs.lemmas.List.Quantifiers.{position-Some}
-use Rattle.it_closure.specs.Sizes.{table_size}
+use Rattle.it_closure.specs.Sizes.{most_entries, table_size}
 use Rattle.it_demand.specs.QuestionSpaces.{space_of}
-use Rattle.it_space.specs.Spaces.{IsSpace, most_rates}
+use Rattle.it_space.specs.Spaces.{IsSpace, most_rates, most_variables}
 use Rattle.it_forms.specs.declared.types.Code.TheVariants as codes
 use Rattle.it_forms.specs.declared.types.Symbol.TheVariants.{Comma, Semicolon}
 use Rattle.it_forms.specs.Letters.{Letter}
@@ -24,15 +26,16 @@ use Rattle.it_syntax.specs.MeasureWords.{is_measure}
 use Rattle.it_syntax.specs.NamesViews.{NamesView, index_of}
 use Rattle.it_syntax.specs.Scopes.{Environment, env_of, scope_of}
 use Rattle.it_syntax.proofs.FormLimits.{Knows, empty_is_set, names_keep, relation_keeps, given_keeps, knows_names, scope_covers, variables_covered}
-use Rattle.it_question.specs.Limits.{AreLinesOver, IsRegionOf, IsTryOf, AreRatesOf, IsVerbOver, IsQuestion}
+use Rattle.it_question.specs.declared.sizes.FileLimits.{FileLimits}
+use Rattle.it_question.specs.Limits.{AreLinesOver, IsRegionOf, IsTryOf, AreRatesOf, IsVerbOver, IsQuestion, IsQuestionWithin}
 use Rattle.it_question.specs.NewNames.{NameSortView, Variable, Rate, with_name, no_names, is_taken, new_flag, once_flag}
-use Rattle.it_question.specs.QuestionForms.{count, new_name, more_new, new_names, names_line, own_line, own_words, own_keyword, more_own_lines, own_lines, once, more_once, distinct, auxiliary, set, part, more_parts, try_line, more_tries, region, containment, verb, question, more_questions, file}
-use Rattle.it_question.specs.QuestionLimits.{auxiliaries_left, givens_left, most_lines, most_names, most_questions, rows_left}
+use Rattle.it_question.specs.QuestionForms.{count, new_name, more_new, new_names, names_line, own_line, own_words, own_keyword, more_own_lines, own_lines, once, more_once, distinct, auxiliary, set, part, more_parts, try_line, more_tries, region, region_flag, containment, verb, question, more_questions, file}
+use Rattle.it_question.specs.QuestionLimits.{auxiliaries_left, givens_left, most_lines, most_names, most_questions, names_within, rows_left, usual}
 use Rattle.it_question.specs.OwnLines.{OwnLinesView, RegionView, no_lines}
 use Rattle.it_question.specs.Sorts.{AreQuestionNames}
 use Rattle.it_question.specs.Questions.{VerbView, Prove, Eliminate, Contain, BodyView}
 use Rattle.it_question.specs.ProblemLines.{givens_alone, names_under, lines_under}
-use Rattle.it_question.specs.TableSizes.{problem_of_lines, most_entries, size_flag, HasSmallTable}
+use Rattle.it_question.specs.TableSizes.{problem_of_lines, size_flag, table_flag, HasTableWithin}
 use Rattle.it_question.specs.TrySets.{Sets, unnamed_sets, with_set, auxiliary_env}
 use Rattle.it_question.proofs.QuestionLines.{IsGrown, not_grown, grown_more}
 
@@ -340,24 +343,42 @@ region_keeps g r v few_g few_r few = λ l e m.
 
 -- ---- what a question wants
 
--- a table that isn't flagged
-unflagged_is_small : (v : NamesView) (own : OwnLinesView) → size_flag v own ≡ None → table_size (problem_of_lines v own) ≤ most_entries
-unfolding size_flag
-unflagged_is_small v own e = by_test (nat_lt most_entries (table_size (problem_of_lines v own))) refl e
+-- what isn't more than `most`, by the flag of its test
+unflagged_is_few : (most n : ℕ) → cond (nat_lt most n) (Some codes.Large) None ≡ None → n ≤ most
+unflagged_is_few most n e = by_test (nat_lt most n) refl e
   where
-    by_test : (b : Bool) → nat_lt most_entries (table_size (problem_of_lines v own)) ≡ b → cond b (Some codes.Large) None ≡ None
-        → table_size (problem_of_lines v own) ≤ most_entries
+    by_test : (b : Bool) → nat_lt most n ≡ b → cond b (Some codes.Large) None ≡ None → n ≤ most
     by_test true t k = absurd cc
     by_test false t k = grind (arith, nat_tests)
 
--- what a question with these lines may want
-record IsWanted (own : OwnLinesView) (v : NamesView) (y : VerbView) : Type 0 where
-  over : IsVerbOver v y
-  small : table_size (problem_of_lines (names_under v y) (lines_under own y)) ≤ most_entries
+-- a table that isn't flagged
+unflagged_is_small : (v : NamesView) (own : OwnLinesView) → size_flag v own ≡ None → table_size (problem_of_lines v own) ≤ most_entries
+unfolding size_flag
+unflagged_is_small v own e = unflagged_is_few most_entries (table_size (problem_of_lines v own)) e
 
-containment_keeps : (own : OwnLinesView) (v : NamesView) → length v.variables ≤ most_names → Always (containment own v) (λ p y. IsWanted own v y)
+-- a table that isn't flagged in a file with these limits
+unflagged_is_within : (limits : FileLimits) (v : NamesView) (own : OwnLinesView) → table_flag limits v own ≡ None
+    → OnFalse limits.large_tables (table_size (problem_of_lines v own) ≤ most_entries)
+unflagged_is_within limits v own e = by_test limits.large_tables e
+  where
+    by_test : (b : Bool) → cond b None (size_flag v own) ≡ None → OnFalse b (table_size (problem_of_lines v own) ≤ most_entries)
+    by_test true k = tt
+    by_test false k = unflagged_is_small v own k
+
+-- the names of a question whose first `region` isn't flagged
+few_for_region : (v : NamesView) → region_flag v ≡ None → length v.variables ≤ most_names
+unfolding region_flag
+few_for_region v e = unflagged_is_few most_names (length v.variables) e
+
+-- what a question with these lines may want
+record IsWanted (limits : FileLimits) (own : OwnLinesView) (v : NamesView) (y : VerbView) : Type 0 where
+  over : IsVerbOver v y
+  small : OnFalse limits.large_tables (table_size (problem_of_lines (names_under v y) (lines_under own y)) ≤ most_entries)
+
+containment_keeps : (limits : FileLimits) (own : OwnLinesView) (v : NamesView) → length v.variables ≤ most_names
+    → Always (containment own v) (λ p y. IsWanted limits own v y)
 unfolding containment Always
-containment_keeps own v few =
+containment_keeps limits own v few =
     let g = givens_left most_lines own in
     let r = rows_left most_lines own in
     always_weaker (region g r v) _ _
@@ -365,40 +386,61 @@ containment_keeps own v few =
     (λ q second hs. always_weaker (more_tries (auxiliary_env v second.names) (env_of first.names) (unnamed_sets second.auxiliaries) []) _ _
     (λ s tries ht l e none l' e' m'. record {
       over = (hf.region, hs.region, ht.0, ht.1);
-      small = unflagged_is_small first.names
-          (lines_under own (Contain first second tries)) none;
+      small = OnFalse_from limits.large_tables _ (λ u. unflagged_is_small first.names (lines_under own (Contain first second tries)) none);
     })
     (tries_keep (auxiliary_env v second.names) (env_of first.names) (length first.names.variables) (knows_names first.names) second.auxiliaries))
     (region_keeps (givens_left g first.lines) (rows_left r first.lines) v (omega arith) (omega arith) few))
     (region_keeps g r v (omega arith) (omega arith) few)
 
-verb_keeps : (own : OwnLinesView) (v : NamesView) → length v.variables ≤ most_names → Always (verb own v) (λ p y. IsWanted own v y)
+verb_keeps : (limits : FileLimits) (own : OwnLinesView) (v : NamesView) → Always (verb limits own v) (λ p y. IsWanted limits own v y)
 unfolding verb Always
-verb_keeps own v few = (
+verb_keeps limits own v = (
   λ l e m. always_weaker (to_end (relation (scope_of v true))) (λ p x. IsRelationOf (length v.variables) (length v.rates) x)
-      (λ p x. IsWanted own v (Prove x)) (λ p x hx. record { over = hx; small = unflagged_is_small v own m })
+      (λ p x. IsWanted limits own v (Prove x)) (λ p x hx. record { over = hx; small = unflagged_is_within limits v own m })
       (line_keeps (relation (scope_of v true)) (IsRelationOf (length v.variables) (length v.rates))
       (relation_keeps (scope_of v true) (length v.variables) (length v.rates) (scope_covers v true))),
   (
     λ l e m. always_weaker (to_end (distinct (index_of v.rates))) (λ p x. AreRatesOf (length v.rates) x)
-        (λ p x. IsWanted own v (Eliminate x)) (λ p x hx. record { over = hx; small = unflagged_is_small v (givens_alone own) m })
+        (λ p x. IsWanted limits own v (Eliminate x)) (λ p x hx. record { over = hx; small = unflagged_is_within limits v (givens_alone own) m })
         (line_keeps (distinct (index_of v.rates)) (AreRatesOf (length v.rates))
         (distinct_keeps (index_of v.rates) (length v.rates) (knows_rates v))),
-    λ l e m. containment_keeps own v few,
+    λ l e m. containment_keeps limits own v (few_for_region v m),
   ),
 )
 
 -- ---- questions
 
 -- within the limits, with a table that isn't too large
-pub record IsRead (q : BodyView) : Type 0 where
-  pub limits : IsQuestion q
-  pub small : HasSmallTable q
+pub record IsRead (allowed : FileLimits) (q : BodyView) : Type 0 where
+  pub limits : IsQuestionWithin allowed q
+  pub small : HasTableWithin allowed q
+
+-- no file allows more names than a space has
+pub within_space : (limits : FileLimits) → names_within limits ≤ most_variables
+within_space limits = min-le_right limits.variables most_variables
+
+-- a usual file allows as many names as are usual
+pub usual_names : names_within usual ≤ most_names
+usual_names = min-le_left most_names most_variables
+
+-- a question of a usual file has few names
+pub few_usual_names : (q : BodyView) → IsQuestionWithin usual q → length q.names.variables ≤ most_names
+few_usual_names q k = omega (arith, k.few, usual_names)
+
+-- a question of a file with limits is one of any file
+pub within_any : (limits : FileLimits) (q : BodyView) → IsQuestionWithin limits q → IsQuestion q
+within_any limits q k = record {
+  some = k.some;
+  few = omega (arith, k.few, within_space limits);
+  few_rates = k.few_rates;
+  lines = k.lines;
+  verb = k.verb;
+}
 
 -- variables, and perhaps rates
-are_names : (variables names : NamesView) → AreNamed Variable most_names no_names variables → MayBeNamed Rate most_rates variables names
-    → AreQuestionNames names
-are_names variables names hv hn =
+are_names : (most : ℕ) (variables names : NamesView) → AreNamed Variable most no_names variables → MayBeNamed Rate most_rates variables names
+    → AreQuestionNames most names
+are_names most variables names hv hn =
     let own : names.variables ≡ variables.variables = ap (λ (w : NamesView). w.variables) hn.grown.is in
     let first : variables.variables ≡ hv.grown.own = ap (λ (w : NamesView). w.variables) hv.grown.is in
     let none : variables.rates ≡ [] = ap (λ (w : NamesView). w.rates) hv.grown.is in
@@ -408,13 +450,13 @@ are_names variables names hv hn =
       few_rates = hn.few (let n = ap (λ (ws : List (List ℕ)). length ws) none in omega (arith, n));
     }
 
-question_keeps : Always question (λ p q. IsRead q)
+question_keeps : (limits : FileLimits) → Always (question limits) (λ p q. IsRead limits q)
 unfolding question Always
-question_keeps = always_weaker (new_names Variable most_names no_names) _ _
+question_keeps limits = always_weaker (new_names Variable (names_within limits) no_names) _ _
     (λ p variables hv. always_weaker (names_line Rate most_rates (codes "rates") variables) _ _
-    (λ q names hn. let n = are_names variables names hv hn in
+    (λ q names hn. let n = are_names (names_within limits) variables names hv hn in
     always_weaker (own_lines most_lines most_lines names) _ _
-    (λ r own ho. always_weaker (verb own names) _ _ (λ s aim ha.
+    (λ r own ho. always_weaker (verb limits own names) _ _ (λ s aim ha.
     record {
       limits = record {
         some = n.some;
@@ -426,27 +468,31 @@ question_keeps = always_weaker (new_names Variable most_names no_names) _ _
       };
       small = ha.small;
     })
-    (verb_keeps own names n.few)) (own_lines_keep most_lines most_lines names)) (names_line_keeps Rate most_rates (codes "rates") variables)) (new_names_keep Variable most_names no_names)
+    (verb_keeps limits own names)) (own_lines_keep most_lines most_lines names)) (names_line_keeps Rate most_rates (codes "rates") variables))
+    (new_names_keep Variable (names_within limits) no_names)
 
-file_keeps : Always file (λ p qs. All IsRead qs)
+file_keeps : (limits : FileLimits) → Always (file limits) (λ p qs. All (IsRead limits) qs)
 unfolding file more_questions Always
-file_keeps = always_weaker (more_questions []) _ _ (λ p qs h l e m. h)
-    (each_keeps (Keyword (codes "vars") ∷ []) (λ qs l. (limit_flag (most_questions - length qs), tt {0})) (λ qs u. question) (λ qs q. qs ++ q ∷ []) (All IsRead) (λ qs h l e m. always_weaker question _ _ (λ p q hq. all_and_one IsRead qs q h hq) question_keeps) [] (All-nil IsRead))
+file_keeps limits = always_weaker (more_questions limits []) _ _ (λ p qs h l e m. h)
+    (each_keeps (Keyword (codes "vars") ∷ []) (λ qs l. (limit_flag (most_questions - length qs), tt {0})) (λ qs u. question limits) (λ qs q. qs ++ q ∷ [])
+    (All (IsRead limits))
+    (λ qs h l e m. always_weaker (question limits) _ _ (λ p q hq. all_and_one (IsRead limits) qs q h hq) (question_keeps limits)) [] (All-nil (IsRead limits)))
 
 -- ---- what the readers hand on
 
-pub file_limited : (ls r : List Letter) (qs : List BodyView) → read file ls ≡ Ok (qs, r) → All IsRead qs
-file_limited ls r qs e = value_read file (All IsRead) ls r qs file_keeps e
+pub file_limited : (limits : FileLimits) (ls r : List Letter) (qs : List BodyView) → read (file limits) ls ≡ Ok (qs, r) → All (IsRead limits) qs
+file_limited limits ls r qs e = value_read (file limits) (All (IsRead limits)) ls r qs (file_keeps limits) e
 
-pub names_limited : (variables names : NamesView) (ls a b r : List Letter) → read (new_names Variable most_names no_names) ls ≡ Ok (variables, a) → read (names_line Rate most_rates (codes "rates") variables) b ≡ Ok (names, r) → AreQuestionNames names
-names_limited variables names ls a b r e f =
-    let hv = value_read (new_names Variable most_names no_names) (AreNamed Variable most_names no_names) ls a variables
-    (new_names_keep Variable most_names no_names) e in
+pub names_limited : (most : ℕ) (variables names : NamesView) (ls a b r : List Letter) → read (new_names Variable most no_names) ls ≡ Ok (variables, a)
+    → read (names_line Rate most_rates (codes "rates") variables) b ≡ Ok (names, r) → AreQuestionNames most names
+names_limited most variables names ls a b r e f =
+    let hv = value_read (new_names Variable most no_names) (AreNamed Variable most no_names) ls a variables
+    (new_names_keep Variable most no_names) e in
     let hn = value_read (names_line Rate most_rates (codes "rates") variables) (MayBeNamed Rate most_rates variables) b r names (names_line_keeps Rate most_rates (codes "rates") variables) f in
-    are_names variables names hv hn
+    are_names most variables names hv hn
 
-pub declared_space : (v : NamesView) → AreQuestionNames v → IsSpace (space_of v)
-declared_space v k = record { some = k.some; few = omega (arith, k.few); few_rates = k.few_rates }
+pub declared_space : (most : ℕ) (v : NamesView) → most ≤ most_variables → AreQuestionNames most v → IsSpace (space_of v)
+declared_space most v h k = record { some = k.some; few = omega (arith, k.few, h); few_rates = k.few_rates }
 
 pub lines_limited : (v : NamesView) (ls r : List Letter) (own : OwnLinesView) → read (own_lines most_lines most_lines v) ls ≡ Ok (own, r) → AreLinesOver v own
 lines_limited v ls r own e = lines_over most_lines most_lines v own (omega arith) (omega arith)

@@ -25,10 +25,11 @@ use Rattle.it_syntax.specs.NamesViews.{NamesView, index_of}
 use Rattle.it_syntax.specs.Scopes.{Scope, scope_of, env_of}
 use Rattle.it_syntax.specs.Spans.{letter_of, letters_until, last_letter}
 use Rattle.it_syntax.specs.Spelling.{IsText}
-use Rattle.it_question.specs.Files.{IsFile}
+use Rattle.it_question.specs.declared.sizes.FileLimits.{FileLimits}
+use Rattle.it_question.specs.Files.{IsFileWithin}
 use Rattle.it_question.specs.Lines.{LineView, AreLines, letters_of_lines, split_lines}
 use Rattle.it_question.specs.QuestionForms.{own_words, own_keyword, own_line, more_own_lines, own_lines, names_line, new_names, distinct, more_tries, region, containment, verb, question, more_questions, file}
-use Rattle.it_question.specs.QuestionLimits.{auxiliaries_left, givens_left, most_lines, most_names, most_questions, rows_left}
+use Rattle.it_question.specs.QuestionLimits.{auxiliaries_left, givens_left, most_lines, most_questions, names_within, rows_left}
 use Rattle.it_question.specs.OwnLines.{OwnLinesView, RegionView, no_lines}
 use Rattle.it_question.specs.Questions.{VerbView, BodyView, QuestionView}
 use Rattle.it_question.specs.Questions as views
@@ -198,9 +199,9 @@ pub relation_line_small : (v : NamesView) → Always (to_end (relation (scope_of
 unfolding Always
 relation_line_small v = always_weaker (relation (scope_of v true)) _ _ (λ p x h l e u small. h (front_small p _ small)) (relation_small (scope_of v true))
 
-verb_small : (own : OwnLinesView) (v : NamesView) → Always (verb own v) (λ p y. AreSmall p → VerbHasSmallNumbers y)
+verb_small : (limits : FileLimits) (own : OwnLinesView) (v : NamesView) → Always (verb limits own v) (λ p y. AreSmall p → VerbHasSmallNumbers y)
 unfolding verb Always
-verb_small own v = (
+verb_small limits own v = (
   λ l e u. always_weaker (to_end (relation (scope_of v true))) (λ p x. AreSmall p → HasSmallNumbers x)
       (λ p x. AreSmall ((l ∷ []) ++ (p ++ [])) → HasSmallNumbers x) (λ p x h small. h
       (front_small p [] (rest_small (l ∷ []) (p ++ []) small))) (relation_line_small v),
@@ -212,19 +213,21 @@ verb_small own v = (
   ),
 )
 
-question_small : Always question (λ p q. AreSmall p → QuestionHasSmallNumbers q)
+question_small : (limits : FileLimits) → Always (question limits) (λ p q. AreSmall p → QuestionHasSmallNumbers q)
 unfolding question Always
-question_small = always_any (new_names Variable most_names no_names) _ (λ p variables. always_any (names_line Rate most_rates (codes "rates") variables) _
-    (λ q names. always_weaker (own_lines most_lines most_lines names) _ _ (λ r own ho. always_weaker (verb own names) _ _ (λ w aim ha small.
+question_small limits = always_any (new_names Variable (names_within limits) no_names) _
+    (λ p variables. always_any (names_line Rate most_rates (codes "rates") variables) _
+    (λ q names. always_weaker (own_lines most_lines most_lines names) _ _ (λ r own ho. always_weaker (verb limits own names) _ _ (λ w aim ha small.
     let after = rest_small q _ (rest_small p _ small) in (ho (front_small r _ after), ha (front_small w _ (rest_small r _ after))))
-    (verb_small own names)) (own_lines_small most_lines most_lines names)))
+    (verb_small limits own names)) (own_lines_small most_lines most_lines names)))
 
-pub file_small : Always file (λ p qs. AreSmall p → Every QuestionHasSmallNumbers qs)
+pub file_small : (limits : FileLimits) → Always (file limits) (λ p qs. AreSmall p → Every QuestionHasSmallNumbers qs)
 unfolding file more_questions Always
-file_small = always_weaker (more_questions []) _ _ (λ p qs h l e u small. h (front_small p _ small))
-    (loop_keeps (Keyword (codes "vars") ∷ []) (λ qs l. (limit_flag (most_questions - length qs), tt {0})) (λ qs u. Then question (λ q. Give (qs ++ q ∷ []))) (λ p qs. AreSmall p → Every QuestionHasSmallNumbers qs)
-    (λ p qs h l e u. always_weaker question _ _ (λ q b k small. every_more QuestionHasSmallNumbers qs b (h (front_small p _ small))
-    (k (front_small q _ (rest_small (l ∷ []) _ (rest_small p _ small))))) question_small) [] [] (λ small. tt))
+file_small limits = always_weaker (more_questions limits []) _ _ (λ p qs h l e u small. h (front_small p _ small))
+    (loop_keeps (Keyword (codes "vars") ∷ []) (λ qs l. (limit_flag (most_questions - length qs), tt {0}))
+    (λ qs u. Then (question limits) (λ q. Give (qs ++ q ∷ []))) (λ p qs. AreSmall p → Every QuestionHasSmallNumbers qs)
+    (λ p qs h l e u. always_weaker (question limits) _ _ (λ q b k small. every_more QuestionHasSmallNumbers qs b (h (front_small p _ small))
+    (k (front_small q _ (rest_small (l ∷ []) _ (rest_small p _ small))))) (question_small limits)) [] [] (λ small. tt))
 
 -- ---- the letters of lines
 
@@ -264,9 +267,10 @@ texts_apart lines [] h = tt
 texts_apart lines (q ∷ qs) h = (h.0, texts_apart (drop (question_line_count q) lines) qs h.1)
 
 -- the questions of a file count by numbers of 64 bits
-pub file_has_small_numbers : (bytes : List ℕ) (qs : List QuestionView) → IsFile bytes qs → Every (λ (q : QuestionView). QuestionHasSmallNumbers q.body) qs
-file_has_small_numbers bytes qs asked =
+pub file_has_small_numbers : (limits : FileLimits) (bytes : List ℕ) (qs : List QuestionView) → IsFileWithin limits bytes qs
+    → Every (λ (q : QuestionView). QuestionHasSmallNumbers q.body) qs
+file_has_small_numbers limits bytes qs asked =
     let small = lines_small 1 (split_lines bytes) asked.lines asked.cut in
-    let all = always_said file _ file_has (λ p qs. AreSmall p → Every QuestionHasSmallNumbers qs) file_small
-    (letters_of_lines asked.lines) asked.tree.0 (said file with_texts bytes qs asked) small in
+    let all = always_said (file limits) _ (file_has limits) (λ p qs. AreSmall p → Every QuestionHasSmallNumbers qs) (file_small limits)
+    (letters_of_lines asked.lines) asked.tree.0 (said (file limits) with_texts bytes qs asked) small in
     subst (Every (λ (q : QuestionView). QuestionHasSmallNumbers q.body)) asked.says (texts_apart asked.lines asked.tree.0 all)

@@ -14,14 +14,15 @@ use Rattle.it_syntax.proofs.OneLine.{names_has_no_end, relation_has_no_end, give
 use Rattle.it_syntax.specs.NamesViews.{NamesView, index_of}
 use Rattle.it_syntax.specs.Scopes.{Environment, scope_of}
 use Rattle.it_syntax.specs.LineForms.{relation, given}
+use Rattle.it_question.specs.declared.sizes.FileLimits.{FileLimits}
 use Rattle.it_question.specs.NewNames.{NameSortView, Variable, Rate, with_name, no_names}
-use Rattle.it_question.specs.QuestionForms.{own_words, own_keyword, new_name, more_new, new_names, names_line, own_line, more_own_lines, once, more_once, distinct, auxiliary, set, part, more_parts, try_line, more_tries, region, containment, verb, question, more_questions}
+use Rattle.it_question.specs.QuestionForms.{own_words, own_keyword, new_name, more_new, new_names, names_line, own_line, more_own_lines, once, more_once, distinct, auxiliary, set, part, more_parts, try_line, more_tries, region, region_flag, containment, verb, question, more_questions}
 use Rattle.it_question.specs.OwnLines.{OwnLinesView, RegionView}
 use Rattle.it_question.specs.Questions.{VerbView, Prove, Eliminate, Contain, BodyView}
 use Rattle.it_question.specs.Texts.{own_line_count, region_line_count, verb_line_count, question_line_count}
 use Rattle.it_question.specs.TrySets.{Sets}
 use Rattle.it_question.specs.ProblemLines.{givens_alone, lines_with}
-use Rattle.it_question.specs.TableSizes.{size_flag}
+use Rattle.it_question.specs.TableSizes.{size_flag, table_flag}
 use Rattle.it_question.specs.QuestionLimits.{most_questions, most_lines}
 use Rattle.it_question.proofs.Puts.{AreTokens, HasLines, Puts, puts_at, no_lines, tokens_then, taken_token, in_line, end_puts, tokens_lines, lines_then, lines_as, line_puts}
 
@@ -219,11 +220,17 @@ verb_has_lines (Prove r) = omega arith
 verb_has_lines (Eliminate rates) = omega arith
 verb_has_lines (Contain first second tries) = omega arith
 
-verb_lines : (own : OwnLinesView) (v : NamesView) (y : VerbView) (m k : FlaggedLetters) → Spells (verb own v) y m k → Puts (HasLines (verb_line_count y)) m k
+verb_lines : (limits : FileLimits) (own : OwnLinesView) (v : NamesView) (y : VerbView) (m k : FlaggedLetters) → Spells (verb limits own v) y m k
+    → Puts (HasLines (verb_line_count y)) m k
 unfolding verb Spells
-verb_lines own v y m k (inl s) = subst (λ (x : VerbView). Puts (HasLines (verb_line_count x)) m k) s.3.3.0 (puts_at (tokens_lines 0 (taken_token (flagged_word (codes "prove") (size_flag v own)) s.0 m s.1 refl s.2) (line_puts (relation (scope_of v true)) (relation_has_no_end _) s.3.0 s.1 s.3.1 s.3.2)) s.3.3.1)
-verb_lines own v y m k (inr (inl s)) = subst (λ (x : VerbView). Puts (HasLines (verb_line_count x)) m k) s.3.3.0 (puts_at (tokens_lines 0 (taken_token (flagged_word (codes "eliminate") (size_flag v (givens_alone own))) s.0 m s.1 refl s.2) (line_puts (distinct (index_of v.rates)) (distinct_has_no_end _) s.3.0 s.1 s.3.1 s.3.2)) s.3.3.1)
-verb_lines own v y m k (inr (inr s)) = some_lines (verb_line_count y) (verb_has_lines y) (taken_token (word (codes "region")) s.0 m s.1 refl s.2) (containment_lines own v y s.1 k s.3)
+verb_lines limits own v y m k (inl s) = subst (λ (x : VerbView). Puts (HasLines (verb_line_count x)) m k) s.3.3.0
+    (puts_at (tokens_lines 0 (taken_token (flagged_word (codes "prove") (table_flag limits v own)) s.0 m s.1 refl s.2)
+    (line_puts (relation (scope_of v true)) (relation_has_no_end _) s.3.0 s.1 s.3.1 s.3.2)) s.3.3.1)
+verb_lines limits own v y m k (inr (inl s)) = subst (λ (x : VerbView). Puts (HasLines (verb_line_count x)) m k) s.3.3.0
+    (puts_at (tokens_lines 0 (taken_token (flagged_word (codes "eliminate") (table_flag limits v (givens_alone own))) s.0 m s.1 refl s.2)
+    (line_puts (distinct (index_of v.rates)) (distinct_has_no_end _) s.3.0 s.1 s.3.1 s.3.2)) s.3.3.1)
+verb_lines limits own v y m k (inr (inr s)) = some_lines (verb_line_count y) (verb_has_lines y)
+    (taken_token (flagged_word (codes "region") (region_flag v)) s.0 m s.1 refl s.2) (containment_lines own v y s.1 k s.3)
 
 -- a `rates` line stands there where there are rates
 rates_lines : (i : ℕ) (v y : NamesView) → v.rates ≡ [] → OneOrNone i Rate v y → i ≡ min 1 (length y.rates)
@@ -232,13 +239,13 @@ rates_lines i v y e (inl h) = h.0 ∙ sym (ap (λ (u : NamesView). min 1 (length
 rates_lines i v y e (inr h) = h.0 ∙ sym (ap (λ (u : NamesView). min 1 (length u.rates)) (sym h.1) ∙ ap (λ (xs : List (List ℕ)). min 1 (length xs)) e)
 
 -- A question, after its word `vars`, is as many lines as are counted of it.
-pub question_lines : (q : BodyView) (m k : FlaggedLetters) → Spells question q m k → Puts (HasLines (question_line_count q)) m k
+pub question_lines : (limits : FileLimits) (q : BodyView) (m k : FlaggedLetters) → Spells (question limits) q m k → Puts (HasLines (question_line_count q)) m k
 unfolding question Spells
-question_lines q m k s =
+question_lines limits q m k s =
     let variables = new_names_lines Variable _ no_names s.0 m s.1 s.2 in
     let names = names_line_lines Rate _ (codes "rates") s.0 s.3.0 s.1 s.3.1 s.3.2 in
     let own = own_lines_lines _ _ s.3.0 _ s.3.3.0 s.3.1 s.3.3.1 s.3.3.2 in
-    let aim = verb_lines s.3.3.0 s.3.0 s.3.3.3.0 s.3.3.1 s.3.3.3.1 s.3.3.3.2 in
+    let aim = verb_lines limits s.3.3.0 s.3.0 s.3.3.3.0 s.3.3.1 s.3.3.3.1 s.3.3.3.2 in
     let j = verb_line_count s.3.3.3.0 in
     let all = lines_then 1 (names.0 + (own.lines + j)) variables.0 (lines_then names.0 (own.lines + j) names.1 (lines_then own.lines j own.puts aim)) in
     subst (λ (x : BodyView). Puts (HasLines (question_line_count x)) m k) s.3.3.3.3.0 (lines_as (1 + (names.0 + (own.lines + j))) _ (puts_at all s.3.3.3.3.1)
@@ -253,13 +260,15 @@ lines_append : (qs : List BodyView) (q : BodyView) → all_lines (qs ++ q ∷ []
 lines_append [] q = omega arith
 lines_append (p ∷ qs) q = let e = lines_append qs q in omega (arith, e)
 
-pub questions_lines : (qs ys : List BodyView) (m k : FlaggedLetters) → Spells (more_questions qs) ys m k → Grows all_lines qs ys m k
+pub questions_lines : (limits : FileLimits) (qs ys : List BodyView) (m k : FlaggedLetters) → Spells (more_questions limits qs) ys m k
+    → Grows all_lines qs ys m k
 unfolding more_questions Spells
-questions_lines qs ys m k s =
-    turns_grow (λ (qs : List BodyView). record { kinds = Keyword (codes "vars") ∷ []; says = λ l. (limit_flag (most_questions - length qs), tt {0}) }) (λ qs u. Spells (Then question (λ q. Give (qs ++ q ∷ [])))) all_lines (λ qs. refl)
+questions_lines limits qs ys m k s =
+    turns_grow (λ (qs : List BodyView). record { kinds = Keyword (codes "vars") ∷ []; says = λ l. (limit_flag (most_questions - length qs), tt {0}) })
+    (λ qs u. Spells (Then (question limits) (λ q. Give (qs ++ q ∷ [])))) all_lines (λ qs. refl)
     (λ qs u c m k t. let q = t.0 in let i = min 1 (length q.names.rates) + own_line_count q.lines + verb_line_count q.verb in (
       i,
-      lines_as (question_line_count q) (suc i) (puts_at (question_lines q m t.1 t.2) t.3.1) (omega arith),
+      lines_as (question_line_count q) (suc i) (puts_at (question_lines limits q m t.1 t.2) t.3.1) (omega arith),
       sym (ap all_lines t.3.0)
           ∙ lines_append qs q ∙ omega arith,
     ))

@@ -5,6 +5,7 @@ use Rattle.it_forms.specs.declared.types.Symbol.TheVariants.{Comma, Assign}
 use Rattle.it_forms.specs.declared.types.Code.TheVariants as codes
 use Rattle.it_forms.specs.Letters.{Word, End, Bad}
 use Rattle.it_syntax.specs.Scopes.{Environment}
+use Rattle.it_question.specs.declared.sizes.FileLimits.{FileLimits}
 use Rattle.it_question.specs.TrySets.{Sets}
 use Rattle.it_question.specs.QuestionForms.{new_name, more_new, new_names, names_line, own_line, own_words, more_own_lines, own_lines, auxiliary, set, part, more_parts, try_line, more_tries, region, containment, once, more_once, distinct, verb, question, more_questions, file}
 use Rattle.it_syntax.proofs.LineOutlines.{a_name, names_has, a_relation, relation_has, a_given, given_has}
@@ -105,23 +106,27 @@ unfolding distinct more_once once
 distinct_has env = has_then _ _ _ _ (has_take _ (Word []) refl) (λ first. has_while _ _ _ _ _
     (λ seen u. has_then _ _ _ _ (has_take _ (Word []) refl) (λ i. has_give _) refl) refl) refl
 
-verb_has : (own : OwnLinesView) (v : NamesView) → Has (verb own v) (one_of (Keyword (codes "prove") ∷ Keyword (codes "eliminate") ∷ Keyword (codes "region") ∷ []))
+verb_has : (limits : FileLimits) (own : OwnLinesView) (v : NamesView)
+    → Has (verb limits own v) (one_of (Keyword (codes "prove") ∷ Keyword (codes "eliminate") ∷ Keyword (codes "region") ∷ []))
 unfolding verb
-verb_has own v =
+verb_has limits own v =
     has_if _ _ _ _ _ (λ u. has_then _ _ _ _ (has_then _ _ _ _ (relation_has _) (λ x. has_then _ _ _ _ end_has (λ u. has_give _) refl) refl)
     (λ x. has_give _) refl)
     (has_if _ _ _ _ _ (λ u. has_then _ _ _ _ (has_then _ _ _ _ (distinct_has _)
     (λ rates. has_then _ _ _ _ end_has (λ u. has_give _) refl) refl) (λ x. has_give _) refl)
-    (has_then _ _ _ _ (word_has (codes "region") refl) (λ u. containment_has own v) refl) refl) refl
+    (has_then _ _ _ _ (flagged_word_has (codes "region") _ refl) (λ u. containment_has own v) refl) refl) refl
 
-question_has : Has question (one_of (WordBut [] ∷ []))
+question_has : (limits : FileLimits) → Has (question limits) (one_of (WordBut [] ∷ []))
 unfolding question
-question_has = has_then _ _ _ _ (new_names_has _ _ _) (λ variables. has_then _ _ _ _ (names_line_has _ _ (codes "rates") variables) (λ names. has_then _ _ _ _ (own_lines_has _ _ names) (λ own. has_then _ _ _ _ (verb_has _ names) (λ aim. has_give _) refl) refl) refl) refl
+question_has limits = has_then _ _ _ _ (new_names_has _ _ _)
+    (λ variables. has_then _ _ _ _ (names_line_has _ _ (codes "rates") variables)
+    (λ names. has_then _ _ _ _ (own_lines_has _ _ names) (λ own. has_then _ _ _ _ (verb_has limits _ names) (λ aim. has_give _) refl) refl) refl) refl
 
-questions_has : (qs : List BodyView) → Has (more_questions qs) (repeated (Keyword (codes "vars") ∷ []) (one_then (one_of (WordBut [] ∷ [])) nothing))
+questions_has : (limits : FileLimits) (qs : List BodyView)
+    → Has (more_questions limits qs) (repeated (Keyword (codes "vars") ∷ []) (one_then (one_of (WordBut [] ∷ [])) nothing))
 unfolding more_questions
-questions_has qs = has_while _ _ _ _ _ (λ qs u. has_then _ _ _ _ question_has (λ q. has_give _) refl) refl
+questions_has limits qs = has_while _ _ _ _ _ (λ qs u. has_then _ _ _ _ (question_has limits) (λ q. has_give _) refl) refl
 
-pub file_has : Has file (one_of (Keyword (codes "vars") ∷ FileEnd ∷ []))
+pub file_has : (limits : FileLimits) → Has (file limits) (one_of (Keyword (codes "vars") ∷ FileEnd ∷ []))
 unfolding file
-file_has = has_then _ _ _ _ (questions_has []) (λ qs. has_then _ _ _ _ (has_take _ (Bad codes.Unfinished) refl) (λ u. has_give _) refl) refl
+file_has limits = has_then _ _ _ _ (questions_has limits []) (λ qs. has_then _ _ _ _ (has_take _ (Bad codes.Unfinished) refl) (λ u. has_give _) refl) refl

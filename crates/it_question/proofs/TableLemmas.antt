@@ -19,7 +19,7 @@ use Rattle.it_elemental.proofs.PlaceLemmas.{length-elementals}
 use Rattle.std.proofs.lemmas.Bool.Decides.{nat_tests}
 use Rattle.it_polymatroid.specs.Elementals.{elementals}
 use Rattle.it_closure.specs.Reading.{dependences_of}
-use Rattle.it_closure.specs.Sizes.{table_rows, table_columns, table_size}
+use Rattle.it_closure.specs.Sizes.{most_entries, table_rows, table_columns, table_size}
 use Rattle.it_closure.proofs.SizeLemmas.{rows-few, columns-few}
 use Rattle.it_syntax.specs.Givens.{GivenView, given_view, IsRelationOf, IsGivenOf}
 use Rattle.it_syntax.specs.declared.types.Given.{Given}
@@ -37,7 +37,7 @@ use Rattle.it_question.specs.Limits.{IsRegionOf}
 use Rattle.it_question.specs.ReaderSteps.{flag_if_large}
 use Rattle.it_question.specs.LineOrigins.{line_origins}
 use Rattle.it_question.specs.LineDemands.{line_demands}
-use Rattle.it_question.specs.TableSizes.{constraint_of, problem_of_lines, most_entries, size_flag}
+use Rattle.it_question.specs.TableSizes.{constraint_of, problem_of_lines, size_flag}
 
 abbrev constraint : Terms → Kind → Origin → Constraint
 constraint row kind origin = record { row = row; kind = kind; origin = origin }

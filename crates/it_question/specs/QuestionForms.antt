@@ -1,6 +1,7 @@
 -- The grammar of question files. `Word` flags H or I in the place of a name, `Twice` a name that is taken or was named before, `Name`
--- one that is unknown, `Many` the first letter past a limit, `Large` the word of a verb whose question's table is too large.
-use Rattle.std.specs.Prelude.{ℕ, ◌+◌, ◌-◌, ◌==◌, Bool, true, false, List, [], ◌∷◌, ◌++◌, length, is_some, Option, Some, None, if◌then◌else◌, codes, unwrap_or, map}
+-- one that is unknown, `Many` the first letter past a limit, `Large` the word of a verb whose question's table is too large, and the
+-- first `region` of a question with more names than a containment may have. The forms from `verb` on take the limits of a file.
+use Rattle.std.specs.Prelude.{ℕ, ◌+◌, ◌-◌, ◌==◌, nat_lt, Bool, true, false, List, [], ◌∷◌, ◌++◌, length, is_some, Option, Some, None, if◌then◌else◌, codes, unwrap_or, map}
 use Rattle.std.specs.List.{list_all, list_any}
 use Rattle.it_forms.specs.declared.types.Symbol.TheVariants.{Comma, Semicolon, Assign}
 use Rattle.it_forms.specs.declared.types.Code.{Code}
@@ -8,7 +9,7 @@ use Rattle.it_forms.specs.declared.types.Code.TheVariants as codes
 use Rattle.it_forms.specs.Letters.{Letter}
 use Rattle.it_syntax.specs.MeasureWords.{is_measure}
 use Rattle.it_question.specs.TrySets.{Sets, unnamed_sets, is_named, with_set, auxiliary_env}
-use Rattle.it_question.specs.QuestionLimits.{auxiliaries_left, givens_left, most_lines, most_names, most_questions, rows_left}
+use Rattle.it_question.specs.QuestionLimits.{auxiliaries_left, givens_left, most_lines, most_names, most_questions, names_within, rows_left}
 use Rattle.it_syntax.specs.LineForms.{names, relation, given}
 use Rattle.it_syntax.specs.NamesViews.{NamesView, index_of}
 use Rattle.it_syntax.specs.Scopes.{env_of, scope_of, Environment}
@@ -16,7 +17,8 @@ use Rattle.it_question.specs.OwnLines.{OwnLinesView, RegionView, no_lines}
 use Rattle.it_question.specs.Questions.{VerbView, BodyView, Prove, Eliminate, Contain}
 use Rattle.it_question.specs.NewNames.{NameSortView, Variable, Rate, with_name, no_names, is_taken, new_flag, once_flag}
 use Rattle.it_question.specs.ProblemLines.{givens_alone, lines_with}
-use Rattle.it_question.specs.TableSizes.{size_flag}
+use Rattle.it_question.specs.TableSizes.{size_flag, table_flag}
+use Rattle.it_question.specs.declared.sizes.FileLimits.{FileLimits}
 use Rattle.it_forms.specs.Forms.{Kind, Keyword, LineEnd, is_of, Terminal, Form, Give, Take, If, While}
 use Rattle.it_forms.specs.Words.{◌>>=◌, ◌>>◌, word, flagged_word, any_word, symbol, each_after, each_flagged, zero_alone, line_end, to_end, file_end, limit_flag}
 use Rattle.it_space.specs.Spaces.{most_rates}
@@ -141,6 +143,10 @@ region g r v = do
   own ← own_lines g r names
   Give (record { names = names; auxiliaries = length names.variables - length v.variables; lines = own })
 
+-- the flag of the first `region`: `Large` if there are more names of variables than a containment may have
+unfoldable pub region_flag : NamesView → Option Code
+region_flag v = if nat_lt most_names (length v.variables) then Some codes.Large else None
+
 -- two regions, `try` lines and `contain`, after the first `region`, in a question with the own lines `own`
 unfoldable pub containment : OwnLinesView → NamesView → Form VerbView
 containment own v = do
@@ -155,32 +161,32 @@ containment own v = do
 -- ---- verbs, questions and files
 
 -- `prove`, `eliminate` or regions, in a question with the own lines `own`
-unfoldable pub verb : OwnLinesView → NamesView → Form VerbView
-verb own v =
-    If (flagged_word (codes "prove") (size_flag v own)) (λ u. do
+unfoldable pub verb : FileLimits → OwnLinesView → NamesView → Form VerbView
+verb limits own v =
+    If (flagged_word (codes "prove") (table_flag limits v own)) (λ u. do
       x ← to_end (relation (scope_of v true))
       Give (Prove x))
-    (If (flagged_word (codes "eliminate") (size_flag v (givens_alone own))) (λ u. do
+    (If (flagged_word (codes "eliminate") (table_flag limits v (givens_alone own))) (λ u. do
       rates ← to_end (distinct (index_of v.rates))
       Give (Eliminate rates))
-    (Take (word (codes "region")) >> containment own v))
+    (Take (flagged_word (codes "region") (region_flag v)) >> containment own v))
 
 -- after `vars`
-unfoldable pub question : Form BodyView
-question = do
-  variables ← new_names Variable most_names no_names
+unfoldable pub question : FileLimits → Form BodyView
+question limits = do
+  variables ← new_names Variable (names_within limits) no_names
   names ← names_line Rate most_rates (codes "rates") variables
   own ← own_lines most_lines most_lines names
-  aim ← verb own names
+  aim ← verb limits own names
   Give (record { names = names; lines = own; verb = aim })
 
 -- the questions `qs` and further ones, at most 1000 in all
-unfoldable pub more_questions : List BodyView → Form (List BodyView)
-more_questions qs = each_flagged (codes "vars") (λ qs. limit_flag (most_questions - length qs)) (λ qs. question) (λ qs q. qs ++ q ∷ []) qs
+unfoldable pub more_questions : FileLimits → List BodyView → Form (List BodyView)
+more_questions limits qs = each_flagged (codes "vars") (λ qs. limit_flag (most_questions - length qs)) (λ qs. question limits) (λ qs q. qs ++ q ∷ []) qs
 
 -- questions up to the file's end
-unfoldable pub file : Form (List BodyView)
-file = do
-  qs ← more_questions []
+unfoldable pub file : FileLimits → Form (List BodyView)
+file limits = do
+  qs ← more_questions limits []
   file_end
   Give qs

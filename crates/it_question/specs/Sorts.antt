@@ -5,7 +5,6 @@ use Rattle.it_question.specs.declared.sorts.NameSort.{NameSort}
 use Rattle.it_question.specs.declared.sorts.NameSort.TheVariants as sorts
 use Rattle.it_question.specs.NewNames.{NameSortView, Variable, Rate}
 use Rattle.it_space.specs.Spaces.{most_rates, most_variables}
-use Rattle.it_question.specs.QuestionLimits.{most_names}
 
 -- what contracts see of a sort of names
 abbrev pub name_sort_view : NameSort → NameSortView
@@ -22,8 +21,8 @@ abbrev pub HasRoom : NameSort → NamesView → Type 0
 HasRoom sorts.Variable v = length v.variables < most_variables
 HasRoom sorts.Rate v = length v.rates < most_rates
 
--- the names that a question may declare
-pub record AreQuestionNames (v : NamesView) : Type 0 where
+-- the names that a question may declare, where it may have `most` names of variables
+pub record AreQuestionNames (most : ℕ) (v : NamesView) : Type 0 where
   pub some : 1 ≤ length v.variables
-  pub few : length v.variables ≤ most_names
+  pub few : length v.variables ≤ most
   pub few_rates : length v.rates ≤ most_rates

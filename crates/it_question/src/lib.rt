@@ -17,6 +17,7 @@ mod rates;
 pub mod readers;
 mod region_types;
 mod regions;
+mod sizes;
 mod sorts;
 mod tables;
 mod texts;
@@ -29,5 +30,6 @@ pub use laws::{
     file_has_one, file_is_one, questions_stand_alone, text_reads_back, texts_are_ascii,
 };
 pub use plain::first_line;
+pub use sizes::FileLimits;
 pub use tables::{line_constraints, region_constraints};
 pub use types::{FileFault, OwnLines, Question, Region, Verb};

@@ -11,6 +11,5 @@ pub use crate::own::MOST_LINES;
 pub use crate::parts::{names_set, relation};
 pub use crate::regions::MOST_NAMES;
 pub use crate::sorts::NameSort;
-pub use crate::tables::MOST_ENTRIES;
 pub use crate::texts::with_texts;
 pub use crate::words::{after_word, comma, line_end, word};

@@ -8,7 +8,7 @@ ghost use Rattle.it_demand.specs.QuestionSpaces.{space_of};
 ghost use Rattle.it_question.specs.Limits.{AreLinesOver, IsRegionOf};
 ghost use Rattle.it_question.specs.QuestionForms as forms;
 ghost use Rattle.it_question.specs.NewNames.{Variable};
-ghost use Rattle.it_question.specs.QuestionLimits.{most_lines};
+ghost use Rattle.it_question.specs.QuestionLimits.{most_lines, most_names};
 ghost use Rattle.it_question.specs.ReaderSteps.{contain_line, most_of_region};
 ghost use Rattle.it_question.specs.Sorts.{AreQuestionNames};
 
@@ -25,7 +25,8 @@ use it_syntax::rest::Stop;
 use it_syntax::types::Code;
 use std::alloc::Global;
 
-/// The most names of variables of a question, a region's auxiliaries among them.
+/// The most names of variables of a question where nothing else is said, and of a containment in any file, a region's auxiliaries
+/// among them.
 pub const MOST_NAMES: usize = 10;
 
 /// The most auxiliaries of a region.
@@ -123,7 +124,7 @@ pub fn containment(
     names: &Names,
     lines: &OwnLines,
 ) -> Result<Verb, Stop>
-    requires names { AreQuestionNames names.now }
+    requires names { AreQuestionNames most_names names.now }
     requires lines { AreLinesOver names.now lines.now }
     ensures { ParsesBy verb_view result (forms.containment lines.now names.now) cursor.old cursor.new }
 {

@@ -2,7 +2,7 @@
 ghost use Rattle.std.specs.Prelude.{◌≡◌, ◌+◌, ◌≤◌, nat_lt, length, All, IfOk, IfErr};
 ghost use Rattle.it_problems.specs.Problems.{IsProblem};
 ghost use Rattle.it_space.specs.Spaces.{IsSpace};
-ghost use Rattle.it_closure.specs.Sizes.{table_size};
+ghost use Rattle.it_closure.specs.Sizes.{most_entries, table_size};
 ghost use Rattle.it_syntax.specs.declared.rest.Stop.TheVariants.{Memory};
 ghost use Rattle.it_syntax.specs.Givens.{IsRelationOf, IsGivenOf};
 ghost use Rattle.it_demand.specs.Origins.{AreStated};
@@ -13,19 +13,17 @@ ghost use Rattle.it_question.specs.ReaderSteps.{containment_flag, flag_if_large}
 ghost use Rattle.it_question.specs.LineOrigins.{line_origins};
 ghost use Rattle.it_question.specs.LineDemands.{line_demands};
 ghost use Rattle.it_question.specs.ProblemLines.{givens_alone, lines_with};
-ghost use Rattle.it_question.specs.TableSizes.{most_entries, size_flag};
+ghost use Rattle.it_question.specs.TableSizes.{size_flag, table_flag};
 
+use crate::sizes::FileLimits;
 use crate::types::{OwnLines, Region};
-use it_closure::size;
+use it_closure::{MOST_ENTRIES, size};
 use it_demand::{given_constraints, row_constraints};
 use it_problems::{Constraint, Problem};
 use it_space::Space;
 use it_syntax::Names;
 use it_syntax::rest::Stop;
 use std::alloc::{AllocError, Global};
-
-/// The most entries of the table of a question.
-pub const MOST_ENTRIES: u64 = 4000000;
 
 /// With at most this many variables no table has more entries, within the limits of a question's lines.
 const MOST_SMALL: u8 = 9;
@@ -91,7 +89,7 @@ fn is_large(alloc: Global, space: Space, constraints: Vec<Constraint>) -> Result
 }
 
 /// Whether the table of a question that asks for a proof is too large.
-pub fn proof_is_large(alloc: Global, names: &Names, lines: &OwnLines) -> Result<bool, Stop>
+fn proof_is_large(alloc: Global, names: &Names, lines: &OwnLines) -> Result<bool, Stop>
     requires space { IsSpace (space_of names.now) }
     requires lines { AreLinesOver names.now lines.now }
     ensures large { IfOk result (λ large. size_flag names.now lines.now ≡ flag_if_large large) }
@@ -107,7 +105,7 @@ pub fn proof_is_large(alloc: Global, names: &Names, lines: &OwnLines) -> Result<
 }
 
 /// Whether the table of a question that asks for an elimination is too large; its `row` lines are no part of it.
-pub fn elimination_is_large(alloc: Global, names: &Names, lines: &OwnLines) -> Result<bool, Stop>
+fn elimination_is_large(alloc: Global, names: &Names, lines: &OwnLines) -> Result<bool, Stop>
     requires space { IsSpace (space_of names.now) }
     requires lines { AreLinesOver names.now lines.now }
     ensures large { IfOk result (λ large. size_flag names.now (givens_alone lines.now) ≡ flag_if_large large) }
@@ -120,6 +118,42 @@ pub fn elimination_is_large(alloc: Global, names: &Names, lines: &OwnLines) -> R
     let constraints = given_constraints(alloc, lines.givens(), 1, space)?;
     let large = is_large(alloc, space, constraints)?;
     Ok(large)
+}
+
+/// Whether the table of a question that asks for a proof is larger than these limits allow.
+pub fn proof_is_beyond(
+    alloc: Global,
+    names: &Names,
+    lines: &OwnLines,
+    limits: FileLimits,
+) -> Result<bool, Stop>
+    requires space { IsSpace (space_of names.now) }
+    requires lines { AreLinesOver names.now lines.now }
+    ensures large { IfOk result (λ large. table_flag limits names.now lines.now ≡ flag_if_large large) }
+    ensures memory { IfErr result (λ e. e ≡ Memory) }
+{
+    if limits.large_tables {
+        return Ok(false);
+    }
+    proof_is_large(alloc, names, lines)
+}
+
+/// Whether the table of a question that asks for an elimination is larger than these limits allow.
+pub fn elimination_is_beyond(
+    alloc: Global,
+    names: &Names,
+    lines: &OwnLines,
+    limits: FileLimits,
+) -> Result<bool, Stop>
+    requires space { IsSpace (space_of names.now) }
+    requires lines { AreLinesOver names.now lines.now }
+    ensures large { IfOk result (λ large. table_flag limits names.now (givens_alone lines.now) ≡ flag_if_large large) }
+    ensures memory { IfErr result (λ e. e ≡ Memory) }
+{
+    if limits.large_tables {
+        return Ok(false);
+    }
+    elimination_is_large(alloc, names, lines)
 }
 
 /// Whether the table of a question about a containment, with the first region `first`, is too large.

@@ -1,5 +1,5 @@
 -- Laws of reduction.
-use Rattle.std.specs.Prelude.{◌≡◌, ◌↔◌, ℕ, ◌+◌, ◌-◌, ◌^◌, ◌≤◌, ℤ, neg_ℤ, pos, ◌≤ℤ◌, List, [], ◌++◌, ◌∷◌, length, map, All, Contains, false}
+use Rattle.std.specs.Prelude.{◌≡◌, ◌↔◌, ℕ, ◌+◌, ◌-◌, ◌^◌, ◌≤◌, ℤ, neg_ℤ, pos, ◌≤ℤ◌, List, [], ◌++◌, ◌∷◌, length, map, All, Contains}
 use Rattle.it_space.specs.Answers.{CertificateView}
 use Rattle.it_problems.specs.Problems.{ProblemView, AreMet, IsProblem}
 use Rattle.it_space.specs.Rows.{Terms, IsOver, point_of, value, most_system_rows}
@@ -8,6 +8,7 @@ use Rattle.it_polymatroid.specs.Polymatroid.{IsPolymatroid}
 use Rattle.it_eliminate.specs.Elimination.{EliminatedView, EliminationEnds, ordered_rows}
 use Rattle.it_eliminate.specs.Projections.{IsPointOf, Extends, LacksCoordinate}
 use Rattle.it_prove.specs.declared.types.Effort.{Effort}
+use Rattle.it_prove.specs.declared.types.Runs.TheVariants.{Defined}
 use Rattle.it_redundant.specs.Reduction.{NeedView, Needed, Unsettled, Reduces, kept_rows}
 use Rattle.it_redundant.specs.ReducedElimination.{ProjectedView, Region, Rows, Wide, GoesOn, ReducedEnds}
 
@@ -35,10 +36,11 @@ abbrev pub AreNeeded : ProblemView → List (Terms × NeedView) → Type 0
 AreNeeded givens kept = (before after : List (Terms × NeedView)) (k : Terms × NeedView) → kept ≡ before ++ k ∷ after
     → IsNeeded givens (kept_rows before ++ kept_rows after) k
 
--- without a quick run a list has one reduction
+-- where the defined run alone is made a list has one reduction
 abbrev pub OneReduction : Type 0
 OneReduction = (givens : ProblemView) (effort : Effort) (before rows : List Terms) (kept other_kept : List (Terms × NeedView)) (dropped other_dropped : List (Terms × CertificateView))
-    → effort.quick ≡ false → Reduces givens effort before rows kept dropped → Reduces givens effort before rows other_kept other_dropped → (kept ≡ other_kept) × (dropped ≡ other_dropped)
+    → effort.runs ≡ Defined → Reduces givens effort before rows kept dropped → Reduces givens effort before rows other_kept other_dropped
+    → (kept ≡ other_kept) × (dropped ≡ other_dropped)
 
 -- the givens are about entropies alone
 abbrev pub SpeakOfSets : ProblemView → Type 0
@@ -58,10 +60,10 @@ RegionIsReduced givens rates rows (Region kept dropped) = IsReducedRegion givens
 RegionIsReduced givens rates rows (Rows rate) = Unit {0}
 RegionIsReduced givens rates rows (Wide rate) = Unit {0}
 
--- without a quick run reduced elimination has one end
+-- where the defined run alone is made reduced elimination has one end
 abbrev pub OneReducedEnd : Type 0
 OneReducedEnd = (givens : ProblemView) (effort : Effort) (most : ℕ) (rows : List Terms) (last : List (Terms × NeedView)) (gone : List (Terms × CertificateView)) (rates : List ℕ) (end other : ProjectedView)
-    → effort.quick ≡ false → ReducedEnds givens effort most rows last gone rates end → ReducedEnds givens effort most rows last gone rates other → end ≡ other
+    → effort.runs ≡ Defined → ReducedEnds givens effort most rows last gone rates end → ReducedEnds givens effort most rows last gone rates other → end ≡ other
 
 -- ---- for any effort
 

@@ -2,14 +2,14 @@
 ghost use Rattle.it_redundant.specs.PlainCauses.{CausesArePlain};
 ghost use Rattle.it_redundant.specs.Theorems.{OneReducedEnd, OneReduction, SettledRegionsAgree};
 
-/// Without a quick run, reduction of a list under givens has one end, and so has reduced elimination.
+/// Where the defined run alone is made, reduction of a list under givens has one end, and so has reduced elimination.
 pub fn reductions_are_determined()
     ensures reduction { OneReduction }
     ensures elimination { OneReducedEnd }
 {}
 
 /// Reduced elimination that leaves no row unsettled ends with the same rows in the same order, or with the same cause at the same rate,
-/// for any effort: with a quick run first or without, and with any budget.
+/// for any effort: whichever runs are made, and with any budget.
 #[tactic(auto, using(crate::proofs::SettledLemmas::settled_regions_agree))]
 pub fn settled_regions_agree()
     ensures { SettledRegionsAgree }

@@ -15,6 +15,7 @@ use Rattle.it_hull.specs.Theorems.{MeetsProblem}
 use Rattle.it_spans.specs.declared.types.HullVerdict.TheVariants.{Valid as HullIsValid}
 use Rattle.it_spans.specs.Spans.{StepView, rays_of}
 use Rattle.it_spans.proofs.VerdictLemmas.{valid_rows}
+use Rattle.it_question.specs.declared.sizes.FileLimits.{FileLimits}
 use Rattle.it_question.specs.Limits.{IsQuestion}
 use Rattle.it_question.specs.Questions.{BodyView}
 use Rattle.it_demand.specs.QuestionSpaces.{space_of}
@@ -93,15 +94,16 @@ module _ (q : BodyView) (b : BoundsView) (k : IsQuestion q) (fits : HasBoundsSha
       (all_of (IsTrueRay q) (rays_of b.steps) (rays_true (rays_of b.steps) (rays_met p posed.limits b.steps complete rays)))
 
 pub valid_is_true_of_bounds : ValidIsTrueOfBounds
-valid_is_true_of_bounds line source b v h =
+valid_is_true_of_bounds limits line source b v h =
     let q = (asked source).body in
-    let same : v.reading ≡ Bounded source b = same_read v.reading (Bounded source b) (one_reading line (Ok v.reading) (Ok (Bounded source b)) v.reads h) in
+    let same : v.reading ≡ Bounded source b = same_read v.reading (Bounded source b)
+    (one_reading limits line (Ok v.reading) (Ok (Bounded source b)) v.reads h) in
     let told = subst (λ (r : Reading). IsReadingVerdict r (Hulled HullIsValid)) same v.verdict in
     let read = bounds_are h.reads.own h.value source b h.reads.is in
-    let own : IsSourceOf h.value source = subst (IsSourceAt h.value) read.0 h.reads.source in
-    let limits = source_limits h.value source own in
-    let small = source_numbers h.value source own in
+    let own : IsSourceOf limits h.value source = subst (IsSourceAt limits h.value) read.0 h.reads.source in
+    let within = source_limits limits h.value source own in
+    let small = source_numbers limits h.value source own in
     let p = problem_of (under_all_lines q) in
-    let posed = question_poses (under_all_lines q) (all_lines_question q limits) (small.0, (tt, tt)) in
+    let posed = question_poses (under_all_lines q) (all_lines_question q within) (small.0, (tt, tt)) in
     let parts = both_valid (proofs_verdict p b.rows b.proofs) (rays_verdict p b.steps) told.0 in
-    exact_bounds q b limits read.1 p posed parts.0 parts.1 told.1
+    exact_bounds q b within read.1 p posed parts.0 parts.1 told.1

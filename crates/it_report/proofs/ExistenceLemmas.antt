@@ -6,6 +6,7 @@ use Rattle.std.proofs.lemmas.Str.{IsUtf8-from_is_utf8, is_utf8-from_IsUtf8}
 use Rattle.serde_json.specs.Data.{Data}
 use Rattle.serde_json.specs.Read.{read}
 use Rattle.it_space.specs.Answers.{AnswerView}
+use Rattle.it_question.specs.declared.sizes.FileLimits.{FileLimits}
 use Rattle.it_question.specs.Questions.{BodyView}
 use Rattle.it_question.specs.ProblemLines.{problem_names}
 use Rattle.it_certificate.specs.declared.keys.Key.{Key}
@@ -74,42 +75,44 @@ bounds_verdict_there q b = by_parts (bounds_verdict q b) refl
 
 -- ---- the verdict on a line
 
-abbrev VerdictThere : List ℕ → Type 0
-VerdictThere line = (v : LineVerdict) × IsVerdict line v
+abbrev VerdictThere : FileLimits → List ℕ → Type 0
+VerdictThere limits line = (v : LineVerdict) × IsVerdict limits line v
 
-verdict_read : (line : List ℕ) (r : Result Reading Key) → ReadsReport line r → VerdictThere line
-verdict_read line (Err key) h = (Shape key, h)
-verdict_read line (Ok (Answered source a)) h =
+verdict_read : (limits : FileLimits) (line : List ℕ) (r : Result Reading Key) → ReadsReport limits line r → VerdictThere limits line
+verdict_read limits line (Err key) h = (Shape key, h)
+verdict_read limits line (Ok (Answered source a)) h =
     let v = answer_verdict_there (asked source).body a in
-    (v.0, read_verdict line (Answered source a) v.0 h v.1)
-verdict_read line (Ok (Coded source a c)) h =
+    (v.0, read_verdict limits line (Answered source a) v.0 h v.1)
+verdict_read limits line (Ok (Coded source a c)) h =
     let v = coded_verdict_there (asked source).body a c (coded_is h.reads.own h.value source a c h.reads.is).1.no in
-    (v.0, read_verdict line (Coded source a c) v.0 h v.1)
-verdict_read line (Ok (Derived source a ws)) h =
+    (v.0, read_verdict limits line (Coded source a c) v.0 h v.1)
+verdict_read limits line (Ok (Derived source a ws)) h =
     let q = (asked source).body in
     let v = Judged q.names (proofs_verdict (problem_of (under_all_lines q)) (rows_of a) ws) in
-    (v, read_verdict line (Derived source a ws) v h refl)
-verdict_read line (Ok (Factored source b)) h = let v = factor_line_verdict (asked source).body b in (v, read_verdict line (Factored source b) v h refl)
-verdict_read line (Ok (Bounded source b)) h =
+    (v, read_verdict limits line (Derived source a ws) v h refl)
+verdict_read limits line (Ok (Factored source b)) h = let v = factor_line_verdict (asked source).body b in
+    (v, read_verdict limits line (Factored source b) v h refl)
+verdict_read limits line (Ok (Bounded source b)) h =
     let v = bounds_verdict_there (asked source).body b in
-    (v.0, read_verdict line (Bounded source b) v.0 h v.1)
-verdict_read line (Ok Misfit) h = (Skipped, read_verdict line Misfit Skipped h refl)
+    (v.0, read_verdict limits line (Bounded source b) v.0 h v.1)
+verdict_read limits line (Ok Misfit) h = (Skipped, read_verdict limits line Misfit Skipped h refl)
 
-verdict_there : (line : List ℕ) → VerdictThere line
-verdict_there line = by_bytes (is_utf8 line) refl
+verdict_there : (limits : FileLimits) (line : List ℕ) → VerdictThere limits line
+verdict_there limits line = by_bytes (is_utf8 line) refl
   where
-    none_there : read line ≡ None → VerdictThere line
+    none_there : read line ≡ None → VerdictThere limits line
     none_there e = (NotJson, λ u. e)
 
-    by_value : IsUtf8 line → (o : Option Data) → read line ≡ o → VerdictThere line
+    by_value : IsUtf8 line → (o : Option Data) → read line ≡ o → VerdictThere limits line
     by_value u None e = none_there e
     by_value u (Some d) e =
-        let own = source_there d in
-        verdict_read line (report_of own.0 d) (record { value = d; utf8 = u; is_json = e; reads = record { own = own.0; source = own.1; is = refl } })
+        let own = source_there limits d in
+        verdict_read limits line (report_of own.0 d) (record { value = d; utf8 = u; is_json = e; reads = record { own = own.0; source = own.1; is = refl } })
 
-    by_bytes : (b : Bool) → is_utf8 line ≡ b → VerdictThere line
+    by_bytes : (b : Bool) → is_utf8 line ≡ b → VerdictThere limits line
     by_bytes true e = by_value (IsUtf8-from_is_utf8 line e) (read line) refl
     by_bytes false e = (NotJson, λ u. absurd (true≢false (sym (is_utf8-from_IsUtf8 line u) ∙ e)))
 
 pub each_line_is_judged : EachLineIsJudged
-each_line_is_judged k line = let v = verdict_there line in (verdict_line k v.0, is_invalid v.0, record { verdict = v.0; is = v.1; told = (refl, refl) })
+each_line_is_judged limits k line = let v = verdict_there limits line in
+    (verdict_line k v.0, is_invalid v.0, record { verdict = v.0; is = v.1; told = (refl, refl) })

@@ -18,6 +18,7 @@ use Rattle.it_elemental.specs.Generators.{generators}
 use Rattle.it_syntax.specs.Meaning.{RelationView}
 use Rattle.it_syntax.specs.declared.types.Sign.{Sign}
 use Rattle.it_syntax.specs.declared.types.Sign.TheVariants.{AtLeast, AtMost, Equal}
+use Rattle.it_question.specs.declared.sizes.FileLimits.{FileLimits}
 use Rattle.it_question.specs.Limits.{IsQuestion}
 use Rattle.it_question.specs.Questions.{BodyView, VerbView, Prove, Eliminate, Contain}
 use Rattle.it_question.specs.ProblemLines.{names_under, problem_names, problem_lines}
@@ -258,11 +259,13 @@ module _ (q : BodyView) (p : ProblemView) (is : IsProblemOf q p) where
 
 -- ---- the question that is asked
 
-best_fits_question : (line : List ℕ) (source : Source) (b : BestView) → ReadsReport line (Ok (Factored source b)) → HasFactorShape (asked source).body b
-best_fits_question line source b h = (best_is h.reads.own h.value source b h.reads.is).1
+best_fits_question : (limits : FileLimits) (line : List ℕ) (source : Source) (b : BestView) → ReadsReport limits line (Ok (Factored source b))
+    → HasFactorShape (asked source).body b
+best_fits_question limits line source b h = (best_is h.reads.own h.value source b h.reads.is).1
 
-best_source_read : (line : List ℕ) (source : Source) (b : BestView) (h : ReadsReport line (Ok (Factored source b))) → IsSourceOf h.value source
-best_source_read line source b h = subst (IsSourceAt h.value) (best_is h.reads.own h.value source b h.reads.is).0 h.reads.source
+best_source_read : (limits : FileLimits) (line : List ℕ) (source : Source) (b : BestView) (h : ReadsReport limits line (Ok (Factored source b)))
+    → IsSourceOf limits h.value source
+best_source_read limits line source b h = subst (IsSourceAt limits h.value) (best_is h.reads.own h.value source b h.reads.is).0 h.reads.source
 
 -- ---- the claim
 
@@ -303,14 +306,14 @@ told_true q best names k small shape (Some r) asks e =
     by_option (Some x) e = let g : x ≡ valid = cc in ap Some g
 
 pub valid_factor_is_true : ValidFactorIsTrue
-valid_factor_is_true line names source best h reads =
+valid_factor_is_true limits line names source best h reads =
     let q = (asked source).body in
     let e : h.reading ≡ Factored source best = same_read h.reading (Factored source best)
-    (one_reading line (Ok h.reading) (Ok (Factored source best)) h.reads reads) in
+    (one_reading limits line (Ok h.reading) (Ok (Factored source best)) h.reads reads) in
     let told : Weighed names valid ≡ factor_line_verdict (asked source).body best = subst (λ x. IsReadingVerdict x (Weighed names valid)) e h.verdict in
-    let about = best_source_read line source best reads in
-    told_true q best names (source_limits reads.value source about) (source_numbers reads.value source about)
-    (best_fits_question line source best reads).shape (asked_by q.verb) refl told
+    let about = best_source_read limits line source best reads in
+    told_true q best names (source_limits limits reads.value source about) (source_numbers limits reads.value source about)
+    (best_fits_question limits line source best reads).shape (asked_by q.verb) refl told
 
 -- ---- of a sharing file
 
@@ -333,9 +336,9 @@ module _ (x : SharingView) (within : IsSharing x) where
       by_sign Equal e = absurd (cc)
 
 pub valid_factor_is_true_of_sharing : ValidFactorIsTrueOfSharing
-valid_factor_is_true_of_sharing line names x best h reads =
-    let source = best_source_read line (Sharing x) best reads in
-    let within : IsSharing x = (sharing_is_within source.text x source.makes.reads).0 in
-    let t = valid_factor_is_true line names (Sharing x) best h reads in
+valid_factor_is_true_of_sharing limits line names x best h reads =
+    let source = best_source_read limits line (Sharing x) best reads in
+    let within : IsSharing x = (sharing_is_within limits source.text x source.makes.reads).0 in
+    let t = valid_factor_is_true limits line names (Sharing x) best h reads in
     true_of_same (HoldsFor (made_question x).body x.relation) (HoldsWherePerfect x) best (same_factors x within)
     (subst (λ (r : RelationView). IsTrueBest (HoldsFor (made_question x).body r) best) (own_relation x within t.0 t.1) t.2)

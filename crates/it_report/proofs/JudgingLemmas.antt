@@ -16,6 +16,7 @@ use Rattle.it_syntax.specs.Meaning.{RelationView}
 use Rattle.it_syntax.specs.NamesViews.{NamesView}
 use Rattle.it_syntax.specs.declared.types.Sign.{Sign}
 use Rattle.it_syntax.specs.declared.types.Sign.TheVariants.{AtLeast, AtMost, Equal}
+use Rattle.it_question.specs.declared.sizes.FileLimits.{FileLimits}
 use Rattle.it_question.specs.Limits.{IsQuestion}
 use Rattle.it_question.specs.OwnLines.{RegionView}
 use Rattle.it_question.specs.Questions.{BodyView, QuestionView, VerbView, Prove, Eliminate, Contain}
@@ -74,26 +75,27 @@ no_shape : (key : Key) (q : BodyView) (o : Option FactorVerdict) → Shape key �
 no_shape key q None e = cc
 no_shape key q (Some v) e = cc
 
-pub read_verdict : (line : List ℕ) (reading : Reading) (v : LineVerdict) → ReadsReport line (Ok reading) → IsReadingVerdict reading v → IsVerdict line v
-read_verdict line (Answered source a) NotJson h is = absurd is
-read_verdict line (Answered source a) (Shape key) h is = absurd is
-read_verdict line (Coded source a c) NotJson h is = absurd is
-read_verdict line (Coded source a c) (Shape key) h is = absurd is
-read_verdict line (Derived source a ws) NotJson h is = absurd cc
-read_verdict line (Derived source a ws) (Shape key) h is = absurd cc
-read_verdict line (Factored source b) NotJson h is = absurd (not_json (asked source).body
+pub read_verdict : (limits : FileLimits) (line : List ℕ) (reading : Reading) (v : LineVerdict) → ReadsReport limits line (Ok reading)
+    → IsReadingVerdict reading v → IsVerdict limits line v
+read_verdict limits line (Answered source a) NotJson h is = absurd is
+read_verdict limits line (Answered source a) (Shape key) h is = absurd is
+read_verdict limits line (Coded source a c) NotJson h is = absurd is
+read_verdict limits line (Coded source a c) (Shape key) h is = absurd is
+read_verdict limits line (Derived source a ws) NotJson h is = absurd cc
+read_verdict limits line (Derived source a ws) (Shape key) h is = absurd cc
+read_verdict limits line (Factored source b) NotJson h is = absurd (not_json (asked source).body
     (option_and_then (λ r. factor_verdict_of (asked source).body r b) (asked_by (asked source).body.verb)) is)
-read_verdict line (Factored source b) (Shape key) h is = absurd (no_shape key (asked source).body
+read_verdict limits line (Factored source b) (Shape key) h is = absurd (no_shape key (asked source).body
     (option_and_then (λ r. factor_verdict_of (asked source).body r b) (asked_by (asked source).body.verb)) is)
-read_verdict line (Bounded source b) NotJson h is = absurd is
-read_verdict line (Bounded source b) (Shape key) h is = absurd is
-read_verdict line Misfit NotJson h is = absurd cc
-read_verdict line Misfit (Shape key) h is = absurd cc
-read_verdict line reading Skipped h is = record { reading = reading; reads = h; verdict = is }
-read_verdict line reading (Judged names v) h is = record { reading = reading; reads = h; verdict = is }
-read_verdict line reading (Weighed names v) h is = record { reading = reading; reads = h; verdict = is }
-read_verdict line reading (OtherCode names s) h is = record { reading = reading; reads = h; verdict = is }
-read_verdict line reading (Hulled v) h is = record { reading = reading; reads = h; verdict = is }
+read_verdict limits line (Bounded source b) NotJson h is = absurd is
+read_verdict limits line (Bounded source b) (Shape key) h is = absurd is
+read_verdict limits line Misfit NotJson h is = absurd cc
+read_verdict limits line Misfit (Shape key) h is = absurd cc
+read_verdict limits line reading Skipped h is = record { reading = reading; reads = h; verdict = is }
+read_verdict limits line reading (Judged names v) h is = record { reading = reading; reads = h; verdict = is }
+read_verdict limits line reading (Weighed names v) h is = record { reading = reading; reads = h; verdict = is }
+read_verdict limits line reading (OtherCode names s) h is = record { reading = reading; reads = h; verdict = is }
+read_verdict limits line reading (Hulled v) h is = record { reading = reading; reads = h; verdict = is }
 
 -- ---- a no with a code
 
@@ -162,17 +164,17 @@ valid_coded k q a c t i is_no valid judged all = by_verdict judged.verdict judge
     by_verdict (OtherCode names s) is told = absurd is
     by_verdict (Hulled v) is told = absurd is
 
-line_is_judged : (k : ℕ) (line text : List ℕ) (invalid : Bool) (reported : Reported) → Reports line (Ok reported)
-    → IsJudgedReport k reported text invalid → IsJudgedLine k line text invalid
-line_is_judged k line text invalid reported h judged = by_reading h.0 reported h.1 h.2 judged
+line_is_judged : (limits : FileLimits) (k : ℕ) (line text : List ℕ) (invalid : Bool) (reported : Reported) → Reports limits line (Ok reported)
+    → IsJudgedReport k reported text invalid → IsJudgedLine limits k line text invalid
+line_is_judged limits k line text invalid reported h judged = by_reading h.0 reported h.1 h.2 judged
   where
-    by_reading : (reading : Reading) (reported : Reported) → IsReported reading reported → ReadsReport line (Ok reading)
-        → IsJudgedReport k reported text invalid → IsJudgedLine k line text invalid
+    by_reading : (reading : Reading) (reported : Reported) → IsReported reading reported → ReadsReport limits line (Ok reading)
+        → IsJudgedReport k reported text invalid → IsJudgedLine limits k line text invalid
     by_reading (Answered source a) (variants.Answered question answer) same h judged =
         let verdict : IsAnswerVerdict (asked source).body a judged.verdict =
         subst (λ b. IsAnswerVerdict (asked source).body b judged.verdict) (sym same.1)
         (subst (λ (q : QuestionView). IsAnswerVerdict q.body (answer_view answer) judged.verdict) (sym same.0) judged.is) in
-        record { verdict = judged.verdict; is = read_verdict line (Answered source a) judged.verdict h verdict; told = judged.told }
+        record { verdict = judged.verdict; is = read_verdict limits line (Answered source a) judged.verdict h verdict; told = judged.told }
     by_reading (Answered source a) (variants.Coded question answer code) same h judged = absurd same
     by_reading (Answered source a) (variants.Derived question answer origins) same h judged = absurd same
     by_reading (Answered source a) (variants.Factored question best) same h judged = absurd same
@@ -184,7 +186,7 @@ line_is_judged k line text invalid reported h judged = by_reading h.0 reported h
         subst (λ x. IsCodedVerdict (asked source).body a x judged.verdict) (sym same.2)
         (subst (λ x. IsCodedVerdict (asked source).body x code judged.verdict) (sym same.1)
         (subst (λ (q : QuestionView). IsCodedVerdict q.body (answer_view answer) code judged.verdict) (sym same.0) judged.is)) in
-        record { verdict = judged.verdict; is = read_verdict line (Coded source a c) judged.verdict h verdict; told = judged.told }
+        record { verdict = judged.verdict; is = read_verdict limits line (Coded source a c) judged.verdict h verdict; told = judged.told }
     by_reading (Coded source a c) (variants.Derived question answer origins) same h judged = absurd same
     by_reading (Coded source a c) (variants.Factored question best) same h judged = absurd same
     by_reading (Coded source a c) (variants.Bounded question bounds) same h judged = absurd same
@@ -197,7 +199,7 @@ line_is_judged k line text invalid reported h judged = by_reading h.0 reported h
         (subst (λ x. IsDerivedVerdict (asked source).body x (map certificate_view origins.items) judged.verdict) (sym same.1)
         (subst (λ (q : QuestionView). IsDerivedVerdict q.body (answer_view answer) (map certificate_view origins.items) judged.verdict)
         (sym same.0) judged.is)) in
-        record { verdict = judged.verdict; is = read_verdict line (Derived source a ws) judged.verdict h verdict; told = judged.told }
+        record { verdict = judged.verdict; is = read_verdict limits line (Derived source a ws) judged.verdict h verdict; told = judged.told }
     by_reading (Derived source a ws) (variants.Factored question best) same h judged = absurd same
     by_reading (Derived source a ws) (variants.Bounded question bounds) same h judged = absurd same
     by_reading (Derived source a ws) variants.Misfit same h judged = absurd same
@@ -208,7 +210,7 @@ line_is_judged k line text invalid reported h judged = by_reading h.0 reported h
         let v = factor_line_verdict question.body (best_view best) in
         let told : v ≡ factor_line_verdict (asked source).body b = ap₂ (λ (q : QuestionView) (x : BestView). factor_line_verdict q.body x)
         (sym same.0) (sym same.1) in
-        record { verdict = factor_line_verdict question.body (best_view best); is = read_verdict line (Factored source b) v h told; told = judged }
+        record { verdict = factor_line_verdict question.body (best_view best); is = read_verdict limits line (Factored source b) v h told; told = judged }
     by_reading (Factored source b) (variants.Bounded question bounds) same h judged = absurd same
     by_reading (Factored source b) variants.Misfit same h judged = absurd same
     by_reading (Bounded source b) (variants.Answered question answer) same h judged = absurd same
@@ -219,22 +221,22 @@ line_is_judged k line text invalid reported h judged = by_reading h.0 reported h
         let verdict : IsBoundsVerdict (asked source).body b judged.verdict =
         subst (λ c. IsBoundsVerdict (asked source).body c judged.verdict) (sym same.1)
         (subst (λ (q : QuestionView). IsBoundsVerdict q.body (bounds_view bounds) judged.verdict) (sym same.0) judged.is) in
-        record { verdict = judged.verdict; is = read_verdict line (Bounded source b) judged.verdict h verdict; told = judged.told }
+        record { verdict = judged.verdict; is = read_verdict limits line (Bounded source b) judged.verdict h verdict; told = judged.told }
     by_reading (Bounded source b) variants.Misfit same h judged = absurd same
     by_reading Misfit (variants.Answered question answer) same h judged = absurd same
     by_reading Misfit (variants.Coded question answer code) same h judged = absurd same
     by_reading Misfit (variants.Derived question answer origins) same h judged = absurd same
     by_reading Misfit (variants.Factored question best) same h judged = absurd same
     by_reading Misfit (variants.Bounded question bounds) same h judged = absurd same
-    by_reading Misfit variants.Misfit same h judged = record { verdict = Skipped; is = read_verdict line Misfit Skipped h refl; told = judged }
+    by_reading Misfit variants.Misfit same h judged = record { verdict = Skipped; is = read_verdict limits line Misfit Skipped h refl; told = judged }
 
 module _ {L E : Type 0} (text : L → List ℕ) (invalid : L → Bool) (k : ℕ) where
   -- the line about a fault is that of each line that has it
   pub fault_is_judged : (fault : ReportFault) (r : Result L E) → IfOk r (λ j. IsFaultLine k fault (text j) (invalid j))
       → IfOk r (λ j. IsJudgedWhereRead k (Err fault) (text j) (invalid j))
   fault_is_judged faults.Memory (Ok j) told = absurd told
-  fault_is_judged faults.NotJson (Ok j) told = λ line h. record { verdict = NotJson; is = h; told = told }
-  fault_is_judged (faults.Shape key) (Ok j) told = λ line h. record { verdict = Shape key; is = h; told = told }
+  fault_is_judged faults.NotJson (Ok j) told = λ limits line h. record { verdict = NotJson; is = h; told = told }
+  fault_is_judged (faults.Shape key) (Ok j) told = λ limits line h. record { verdict = Shape key; is = h; told = told }
   fault_is_judged fault (Err e) told = tt
 
   pub fault_is_invalid : (fault : ReportFault) (r : Result L E) → IfOk r (λ j. IsFaultLine k fault (text j) (invalid j))
@@ -247,14 +249,14 @@ module _ {L E : Type 0} (text : L → List ℕ) (invalid : L → Bool) (k : ℕ)
   -- the line about what was read is that of each line that reads so
   pub report_is_judged : (reported : Reported) (r : Result L E) → IfOk r (λ j. IsJudgedReport k reported (text j) (invalid j))
       → IfOk r (λ j. IsJudgedWhereRead k (Ok reported) (text j) (invalid j))
-  report_is_judged reported (Ok j) judged = λ line h. line_is_judged k line (text j) (invalid j) reported h judged
+  report_is_judged reported (Ok j) judged = λ limits line h. line_is_judged limits k line (text j) (invalid j) reported h judged
   report_is_judged reported (Err e) judged = tt
 
   -- that of a line which reads so
-  pub judged_as_read : (line : List ℕ) (read : Result Reported ReportFault) (r : Result L E) → Reports line read
-      → IfOk r (λ j. IsJudgedWhereRead k read (text j) (invalid j)) → IfOk r (λ j. IsJudgedLine k line (text j) (invalid j))
-  judged_as_read line read (Ok j) h judged = judged line h
-  judged_as_read line read (Err e) h judged = tt
+  pub judged_as_read : (limits : FileLimits) (line : List ℕ) (read : Result Reported ReportFault) (r : Result L E) → Reports limits line read
+      → IfOk r (λ j. IsJudgedWhereRead k read (text j) (invalid j)) → IfOk r (λ j. IsJudgedLine limits k line (text j) (invalid j))
+  judged_as_read limits line read (Ok j) h judged = judged limits line h
+  judged_as_read limits line read (Err e) h judged = tt
 
   pub verdict_is_told : (q : BodyView) (a : AnswerView) (names : NamesView) (v : Verdict) (r : Result L E)
       → IsAnswerVerdict q a (Judged names v) → IfOk r (λ j. IsLineOf k (Judged names v) (text j) (invalid j))

@@ -5,6 +5,7 @@ use Rattle.serde_json.specs.Read.{read}
 use Rattle.serde_json.specs.Data.{Data}
 use Rattle.it_space.specs.Answers.{AnswerView}
 use Rattle.it_space.proofs.OptionLemmas.{some_same}
+use Rattle.it_question.specs.declared.sizes.FileLimits.{FileLimits}
 use Rattle.it_question.specs.Questions.{BodyView}
 use Rattle.it_certificate.specs.declared.keys.Key.{Key}
 use Rattle.it_certificate.specs.Bounds.{BoundsView}
@@ -36,8 +37,8 @@ as_fault k = Err k
 none_is_not_some : (d : Data) → Some d ≡ None → ⊥
 none_is_not_some d e = cc
 
-has_json : (line : List ℕ) (r : Result Reading Key) → ReadsReport line r → (IsUtf8 line → read line ≡ None) → ⊥
-has_json line r h none = none_is_not_some h.value (sym h.is_json ∙ none h.utf8)
+has_json : (limits : FileLimits) (line : List ℕ) (r : Result Reading Key) → ReadsReport limits line r → (IsUtf8 line → read line ≡ None) → ⊥
+has_json limits line r h none = none_is_not_some h.value (sym h.is_json ∙ none h.utf8)
 
 one_key : (k j : Key) → as_fault k ≡ as_fault j → k ≡ j
 one_key k j e = cc
@@ -133,58 +134,58 @@ told_once (Factored source b) v w h k = h ∙ sym k
 told_once (Bounded source b) v w h k = bounds_once (asked source).body b v w h k
 told_once Misfit v w h k = h ∙ sym k
 
-once : (line : List ℕ) (v w : LineVerdict) → HasReading line v → HasReading line w → v ≡ w
-once line v w h k =
-    let e : k.reading ≡ h.reading = same_read k.reading h.reading (one_reading line (Ok k.reading) (Ok h.reading) k.reads h.reads) in
+once : (limits : FileLimits) (line : List ℕ) (v w : LineVerdict) → HasReading limits line v → HasReading limits line w → v ≡ w
+once limits line v w h k =
+    let e : k.reading ≡ h.reading = same_read k.reading h.reading (one_reading limits line (Ok k.reading) (Ok h.reading) k.reads h.reads) in
     told_once h.reading v w h.verdict (subst (λ x. IsReadingVerdict x w) e k.verdict)
 
 pub one_verdict : OneVerdict
-one_verdict line NotJson NotJson a b = refl
-one_verdict line NotJson (Shape j) a b = absurd (has_json line (Err j) b a)
-one_verdict line NotJson Skipped a b = absurd (has_json line (Ok b.reading) b.reads a)
-one_verdict line NotJson (Judged n w) a b = absurd (has_json line (Ok b.reading) b.reads a)
-one_verdict line NotJson (Weighed n w) a b = absurd (has_json line (Ok b.reading) b.reads a)
-one_verdict line NotJson (OtherCode n s) a b = absurd (has_json line (Ok b.reading) b.reads a)
-one_verdict line NotJson (Hulled w) a b = absurd (has_json line (Ok b.reading) b.reads a)
-one_verdict line (Shape k) NotJson a b = absurd (has_json line (Err k) a b)
-one_verdict line (Shape k) (Shape j) a b = ap Shape (one_key k j (one_reading line (Err k) (Err j) a b))
-one_verdict line (Shape k) Skipped a b = absurd (no_key k b.reading (one_reading line (Err k) (Ok b.reading) a b.reads))
-one_verdict line (Shape k) (Judged n w) a b = absurd (no_key k b.reading (one_reading line (Err k) (Ok b.reading) a b.reads))
-one_verdict line (Shape k) (Weighed n w) a b = absurd (no_key k b.reading (one_reading line (Err k) (Ok b.reading) a b.reads))
-one_verdict line (Shape k) (OtherCode n s) a b = absurd (no_key k b.reading (one_reading line (Err k) (Ok b.reading) a b.reads))
-one_verdict line (Shape k) (Hulled w) a b = absurd (no_key k b.reading (one_reading line (Err k) (Ok b.reading) a b.reads))
-one_verdict line Skipped NotJson a b = absurd (has_json line (Ok a.reading) a.reads b)
-one_verdict line Skipped (Shape j) a b = absurd (no_key j a.reading (one_reading line (Err j) (Ok a.reading) b a.reads))
-one_verdict line Skipped Skipped a b = refl
-one_verdict line Skipped (Judged n w) a b = once line Skipped (Judged n w) a b
-one_verdict line Skipped (Weighed n w) a b = once line Skipped (Weighed n w) a b
-one_verdict line Skipped (OtherCode n s) a b = once line Skipped (OtherCode n s) a b
-one_verdict line Skipped (Hulled w) a b = once line Skipped (Hulled w) a b
-one_verdict line (Judged m v) NotJson a b = absurd (has_json line (Ok a.reading) a.reads b)
-one_verdict line (Judged m v) (Shape j) a b = absurd (no_key j a.reading (one_reading line (Err j) (Ok a.reading) b a.reads))
-one_verdict line (Judged m v) Skipped a b = once line (Judged m v) Skipped a b
-one_verdict line (Judged m v) (Judged n w) a b = once line (Judged m v) (Judged n w) a b
-one_verdict line (Judged m v) (Weighed n w) a b = once line (Judged m v) (Weighed n w) a b
-one_verdict line (Judged m v) (OtherCode n s) a b = once line (Judged m v) (OtherCode n s) a b
-one_verdict line (Judged m v) (Hulled w) a b = once line (Judged m v) (Hulled w) a b
-one_verdict line (Weighed m v) NotJson a b = absurd (has_json line (Ok a.reading) a.reads b)
-one_verdict line (Weighed m v) (Shape j) a b = absurd (no_key j a.reading (one_reading line (Err j) (Ok a.reading) b a.reads))
-one_verdict line (Weighed m v) Skipped a b = once line (Weighed m v) Skipped a b
-one_verdict line (Weighed m v) (Judged n w) a b = once line (Weighed m v) (Judged n w) a b
-one_verdict line (Weighed m v) (Weighed n w) a b = once line (Weighed m v) (Weighed n w) a b
-one_verdict line (Weighed m v) (OtherCode n s) a b = once line (Weighed m v) (OtherCode n s) a b
-one_verdict line (Weighed m v) (Hulled w) a b = once line (Weighed m v) (Hulled w) a b
-one_verdict line (Hulled v) NotJson a b = absurd (has_json line (Ok a.reading) a.reads b)
-one_verdict line (Hulled v) (Shape j) a b = absurd (no_key j a.reading (one_reading line (Err j) (Ok a.reading) b a.reads))
-one_verdict line (Hulled v) Skipped a b = once line (Hulled v) Skipped a b
-one_verdict line (Hulled v) (Judged n w) a b = once line (Hulled v) (Judged n w) a b
-one_verdict line (Hulled v) (Weighed n w) a b = once line (Hulled v) (Weighed n w) a b
-one_verdict line (Hulled v) (OtherCode n s) a b = once line (Hulled v) (OtherCode n s) a b
-one_verdict line (Hulled v) (Hulled w) a b = once line (Hulled v) (Hulled w) a b
-one_verdict line (OtherCode m v) NotJson a b = absurd (has_json line (Ok a.reading) a.reads b)
-one_verdict line (OtherCode m v) (Shape j) a b = absurd (no_key j a.reading (one_reading line (Err j) (Ok a.reading) b a.reads))
-one_verdict line (OtherCode m v) Skipped a b = once line (OtherCode m v) Skipped a b
-one_verdict line (OtherCode m v) (Judged n w) a b = once line (OtherCode m v) (Judged n w) a b
-one_verdict line (OtherCode m v) (Weighed n w) a b = once line (OtherCode m v) (Weighed n w) a b
-one_verdict line (OtherCode m v) (OtherCode n s) a b = once line (OtherCode m v) (OtherCode n s) a b
-one_verdict line (OtherCode m v) (Hulled w) a b = once line (OtherCode m v) (Hulled w) a b
+one_verdict limits line NotJson NotJson a b = refl
+one_verdict limits line NotJson (Shape j) a b = absurd (has_json limits line (Err j) b a)
+one_verdict limits line NotJson Skipped a b = absurd (has_json limits line (Ok b.reading) b.reads a)
+one_verdict limits line NotJson (Judged n w) a b = absurd (has_json limits line (Ok b.reading) b.reads a)
+one_verdict limits line NotJson (Weighed n w) a b = absurd (has_json limits line (Ok b.reading) b.reads a)
+one_verdict limits line NotJson (OtherCode n s) a b = absurd (has_json limits line (Ok b.reading) b.reads a)
+one_verdict limits line NotJson (Hulled w) a b = absurd (has_json limits line (Ok b.reading) b.reads a)
+one_verdict limits line (Shape k) NotJson a b = absurd (has_json limits line (Err k) a b)
+one_verdict limits line (Shape k) (Shape j) a b = ap Shape (one_key k j (one_reading limits line (Err k) (Err j) a b))
+one_verdict limits line (Shape k) Skipped a b = absurd (no_key k b.reading (one_reading limits line (Err k) (Ok b.reading) a b.reads))
+one_verdict limits line (Shape k) (Judged n w) a b = absurd (no_key k b.reading (one_reading limits line (Err k) (Ok b.reading) a b.reads))
+one_verdict limits line (Shape k) (Weighed n w) a b = absurd (no_key k b.reading (one_reading limits line (Err k) (Ok b.reading) a b.reads))
+one_verdict limits line (Shape k) (OtherCode n s) a b = absurd (no_key k b.reading (one_reading limits line (Err k) (Ok b.reading) a b.reads))
+one_verdict limits line (Shape k) (Hulled w) a b = absurd (no_key k b.reading (one_reading limits line (Err k) (Ok b.reading) a b.reads))
+one_verdict limits line Skipped NotJson a b = absurd (has_json limits line (Ok a.reading) a.reads b)
+one_verdict limits line Skipped (Shape j) a b = absurd (no_key j a.reading (one_reading limits line (Err j) (Ok a.reading) b a.reads))
+one_verdict limits line Skipped Skipped a b = refl
+one_verdict limits line Skipped (Judged n w) a b = once limits line Skipped (Judged n w) a b
+one_verdict limits line Skipped (Weighed n w) a b = once limits line Skipped (Weighed n w) a b
+one_verdict limits line Skipped (OtherCode n s) a b = once limits line Skipped (OtherCode n s) a b
+one_verdict limits line Skipped (Hulled w) a b = once limits line Skipped (Hulled w) a b
+one_verdict limits line (Judged m v) NotJson a b = absurd (has_json limits line (Ok a.reading) a.reads b)
+one_verdict limits line (Judged m v) (Shape j) a b = absurd (no_key j a.reading (one_reading limits line (Err j) (Ok a.reading) b a.reads))
+one_verdict limits line (Judged m v) Skipped a b = once limits line (Judged m v) Skipped a b
+one_verdict limits line (Judged m v) (Judged n w) a b = once limits line (Judged m v) (Judged n w) a b
+one_verdict limits line (Judged m v) (Weighed n w) a b = once limits line (Judged m v) (Weighed n w) a b
+one_verdict limits line (Judged m v) (OtherCode n s) a b = once limits line (Judged m v) (OtherCode n s) a b
+one_verdict limits line (Judged m v) (Hulled w) a b = once limits line (Judged m v) (Hulled w) a b
+one_verdict limits line (Weighed m v) NotJson a b = absurd (has_json limits line (Ok a.reading) a.reads b)
+one_verdict limits line (Weighed m v) (Shape j) a b = absurd (no_key j a.reading (one_reading limits line (Err j) (Ok a.reading) b a.reads))
+one_verdict limits line (Weighed m v) Skipped a b = once limits line (Weighed m v) Skipped a b
+one_verdict limits line (Weighed m v) (Judged n w) a b = once limits line (Weighed m v) (Judged n w) a b
+one_verdict limits line (Weighed m v) (Weighed n w) a b = once limits line (Weighed m v) (Weighed n w) a b
+one_verdict limits line (Weighed m v) (OtherCode n s) a b = once limits line (Weighed m v) (OtherCode n s) a b
+one_verdict limits line (Weighed m v) (Hulled w) a b = once limits line (Weighed m v) (Hulled w) a b
+one_verdict limits line (Hulled v) NotJson a b = absurd (has_json limits line (Ok a.reading) a.reads b)
+one_verdict limits line (Hulled v) (Shape j) a b = absurd (no_key j a.reading (one_reading limits line (Err j) (Ok a.reading) b a.reads))
+one_verdict limits line (Hulled v) Skipped a b = once limits line (Hulled v) Skipped a b
+one_verdict limits line (Hulled v) (Judged n w) a b = once limits line (Hulled v) (Judged n w) a b
+one_verdict limits line (Hulled v) (Weighed n w) a b = once limits line (Hulled v) (Weighed n w) a b
+one_verdict limits line (Hulled v) (OtherCode n s) a b = once limits line (Hulled v) (OtherCode n s) a b
+one_verdict limits line (Hulled v) (Hulled w) a b = once limits line (Hulled v) (Hulled w) a b
+one_verdict limits line (OtherCode m v) NotJson a b = absurd (has_json limits line (Ok a.reading) a.reads b)
+one_verdict limits line (OtherCode m v) (Shape j) a b = absurd (no_key j a.reading (one_reading limits line (Err j) (Ok a.reading) b a.reads))
+one_verdict limits line (OtherCode m v) Skipped a b = once limits line (OtherCode m v) Skipped a b
+one_verdict limits line (OtherCode m v) (Judged n w) a b = once limits line (OtherCode m v) (Judged n w) a b
+one_verdict limits line (OtherCode m v) (Weighed n w) a b = once limits line (OtherCode m v) (Weighed n w) a b
+one_verdict limits line (OtherCode m v) (OtherCode n s) a b = once limits line (OtherCode m v) (OtherCode n s) a b
+one_verdict limits line (OtherCode m v) (Hulled w) a b = once limits line (OtherCode m v) (Hulled w) a b

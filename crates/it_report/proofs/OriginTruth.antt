@@ -1,4 +1,5 @@
 -- The rows of a region whose origins are valid are true wherever the question's lines are.
+use Rattle.it_question.specs.declared.sizes.FileLimits.{FileLimits}
 use Rattle.std.proofs.Common.{◌≡◌, ℕ, ℤ, pos, ◌≤ℤ◌, map, Ok, sym, subst, All}
 use Rattle.std.specs.List.{AllByRecursion as Every}
 use Rattle.it_space.specs.declared.answers.Mark.{Mark}
@@ -33,17 +34,17 @@ same_judged : (m n : NamesView) (v w : Verdict) → Judged m v ≡ Judged n w �
 same_judged m n v w e = cc
 
 pub valid_origins_are_true : ValidOriginsAreTrue
-valid_origins_are_true line names source rows ws h reads =
+valid_origins_are_true limits line names source rows ws h reads =
     let q = (asked source).body in
     let same : h.reading ≡ Derived source (Region rows) ws = same_read h.reading (Derived source (Region rows) ws)
-    (one_reading line (Ok h.reading) (Ok (Derived source (Region rows) ws)) h.reads reads) in
+    (one_reading limits line (Ok h.reading) (Ok (Derived source (Region rows) ws)) h.reads reads) in
     let told = subst (λ (r : Reading). IsReadingVerdict r (Judged names Valid)) same h.verdict in
     let read = derived_is reads.reads.own reads.value source (Region rows) ws reads.reads.is in
-    let own : IsSourceOf reads.value source = subst (IsSourceAt reads.value) read.0 reads.reads.source in
-    let limits = source_limits reads.value source own in
-    let small = source_numbers reads.value source own in
+    let own : IsSourceOf limits reads.value source = subst (IsSourceAt limits reads.value) read.0 reads.reads.source in
+    let within = source_limits limits reads.value source own in
+    let small = source_numbers limits reads.value source own in
     let p = problem_of (under_all_lines q) in
-    let posed = question_poses (under_all_lines q) (all_lines_question q limits) (small.0, (tt, tt)) in
+    let posed = question_poses (under_all_lines q) (all_lines_question q within) (small.0, (tt, tt)) in
     let over : All (IsOver (size_of p.space)) (map (λ r. r.1) rows) = subst (λ (s : Space). All (IsOver (size_of s)) (map (λ r. r.1) rows))
     (sym posed.space) (rows_over q (Region rows) read.1.region read.1.answered) in
     let valid : proofs_verdict p (map (λ r. r.1) rows) ws ≡ Valid = sym (same_judged names q.names Valid (proofs_verdict p (map (λ r. r.1) rows) ws) told) in

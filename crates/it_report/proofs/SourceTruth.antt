@@ -8,6 +8,7 @@ use Rattle.it_space.specs.Answers.AnswerView.{Yes, No, Undecided, Region, Contai
 use Rattle.it_space.specs.Rows.{point_of}
 use Rattle.it_polymatroid.specs.Polymatroid.{IsPolymatroid}
 use Rattle.it_syntax.specs.Meaning.{RelationView, Holds, common_denominator, side_at}
+use Rattle.it_question.specs.declared.sizes.FileLimits.{FileLimits}
 use Rattle.it_question.specs.Limits.{IsQuestion}
 use Rattle.it_question.specs.Questions.{BodyView, QuestionView, VerbView, Prove}
 use Rattle.it_question.specs.ProblemLines.{lines_under, names_under}
@@ -43,12 +44,12 @@ own_lines e r verb is h = subst (λ (v : VerbView). (p : ℕ → ℤ) → IsPoly
     is h
 
 pub valid_is_true_by_copies : ValidIsTrueByCopies
-valid_is_true_by_copies line names q copies r ws valid reads about =
-    let source = source_read line (Copies q copies) (Yes ws) reads in
-    let claim = valid_is_true line names (Copies q copies) (Yes ws) valid reads in
-    let limits = All-head (λ (q : QuestionView). IsQuestion q.body) q []
-    (copied_questions_are_within (source.head ++ source.text) copies (q ∷ []) source.asks.reads) in
-    yes_by_copies q.body (extended q.body copies) copies r limits about source.asks.extension
+valid_is_true_by_copies limits line names q copies r ws valid reads about =
+    let source = source_read limits line (Copies q copies) (Yes ws) reads in
+    let claim = valid_is_true limits line names (Copies q copies) (Yes ws) valid reads in
+    let within = All-head (λ (q : QuestionView). IsQuestion q.body) q []
+    (copied_questions_are_within limits (source.head ++ source.text) copies (q ∷ []) source.asks.reads) in
+    yes_by_copies limits q.body (extended q.body copies) copies r within about source.asks.extension
     (λ image polymatroid lines. own_lines (extended q.body copies) r q.body.verb about
     (subst (λ (v : VerbView). IsClaimTrueBy (extended q.body copies) v (Yes ws)) about claim) image (polymatroid, lines))
 
@@ -95,8 +96,8 @@ unfolding made_question
 made_claim x a claim = claim
 
 pub valid_is_true_of_sharing : ValidIsTrueOfSharing
-valid_is_true_of_sharing line names x a valid reads =
-    let source = source_read line (Sharing x) a reads in
-    let shape = fits_question line (Sharing x) a reads in
-    true_of_sharing x (sharing_is_within source.text x source.makes.reads).0 a shape (made_shape x a shape)
-    (made_claim x a (valid_is_true line names (Sharing x) a valid reads))
+valid_is_true_of_sharing limits line names x a valid reads =
+    let source = source_read limits line (Sharing x) a reads in
+    let shape = fits_question limits line (Sharing x) a reads in
+    true_of_sharing x (sharing_is_within limits source.text x source.makes.reads).0 a shape (made_shape x a shape)
+    (made_claim x a (valid_is_true limits line names (Sharing x) a valid reads))

@@ -12,6 +12,7 @@ use Rattle.it_space.proofs.OptionLemmas.{some_same}
 use Rattle.it_polymatroid.specs.Certificates.{Form}
 use Rattle.it_polymatroid.specs.Polymatroid.{IsPolymatroid}
 use Rattle.it_syntax.specs.Meaning.{RelationView, common_denominator, side_at}
+use Rattle.it_question.specs.declared.sizes.FileLimits.{FileLimits}
 use Rattle.it_question.specs.Limits.{IsQuestion}
 use Rattle.it_question.specs.OwnLines.{RegionView}
 use Rattle.it_question.specs.Questions.{BodyView, VerbView, Prove, Eliminate, Contain}
@@ -52,28 +53,33 @@ use Rattle.it_report.proofs.VerdictLemmas.{both_valid}
 
 -- ---- the question that an answer is about
 
-pub fits_question : (line : List ℕ) (source : Source) (a : AnswerView) → ReadsReport line (Ok (Answered source a)) → HasQuestionShape (asked source).body a
-fits_question line source a h = (answer_is h.reads.own h.value source a h.reads.is).1
+pub fits_question : (limits : FileLimits) (line : List ℕ) (source : Source) (a : AnswerView) → ReadsReport limits line (Ok (Answered source a))
+    → HasQuestionShape (asked source).body a
+fits_question limits line source a h = (answer_is h.reads.own h.value source a h.reads.is).1
 
 -- the line's value is about the source of its reading
-pub source_read : (line : List ℕ) (source : Source) (a : AnswerView) (h : ReadsReport line (Ok (Answered source a))) → IsSourceOf h.value source
-source_read line source a h = subst (IsSourceAt h.value) (answer_is h.reads.own h.value source a h.reads.is).0 h.reads.source
+pub source_read : (limits : FileLimits) (line : List ℕ) (source : Source) (a : AnswerView) (h : ReadsReport limits line (Ok (Answered source a)))
+    → IsSourceOf limits h.value source
+source_read limits line source a h = subst (IsSourceAt limits h.value) (answer_is h.reads.own h.value source a h.reads.is).0 h.reads.source
 
 -- the question that a line asks keeps the limits and has small numbers
-pub limits_question : (line : List ℕ) (source : Source) (a : AnswerView) → ReadsReport line (Ok (Answered source a)) → IsQuestion (asked source).body
-limits_question line source a h = source_limits h.value source (source_read line source a h)
+pub limits_question : (limits : FileLimits) (line : List ℕ) (source : Source) (a : AnswerView) → ReadsReport limits line (Ok (Answered source a))
+    → IsQuestion (asked source).body
+limits_question limits line source a h = source_limits limits h.value source (source_read limits line source a h)
 
-pub small_numbers : (line : List ℕ) (source : Source) (a : AnswerView) → ReadsReport line (Ok (Answered source a)) → QuestionHasSmallNumbers (asked source).body
-small_numbers line source a h = source_numbers h.value source (source_read line source a h)
-
-pub coded_numbers : (line : List ℕ) (source : Source) (a : AnswerView) (c : ReportedCodeView) → ReadsReport line (Ok (Coded source a c))
+pub small_numbers : (limits : FileLimits) (line : List ℕ) (source : Source) (a : AnswerView) → ReadsReport limits line (Ok (Answered source a))
     → QuestionHasSmallNumbers (asked source).body
-coded_numbers line source a c h = source_numbers h.value source (subst (IsSourceAt h.value)
+small_numbers limits line source a h = source_numbers limits h.value source (source_read limits line source a h)
+
+pub coded_numbers : (limits : FileLimits) (line : List ℕ) (source : Source) (a : AnswerView) (c : ReportedCodeView)
+    → ReadsReport limits line (Ok (Coded source a c))
+    → QuestionHasSmallNumbers (asked source).body
+coded_numbers limits line source a c h = source_numbers limits h.value source (subst (IsSourceAt limits h.value)
     (coded_is h.reads.own h.value source a c h.reads.is).0 h.reads.source)
 
-pub derived_numbers : (line : List ℕ) (source : Source) (a : AnswerView) (ws : List CertificateView)
-    → ReadsReport line (Ok (Derived source a ws)) → QuestionHasSmallNumbers (asked source).body
-derived_numbers line source a ws h = source_numbers h.value source (subst (IsSourceAt h.value)
+pub derived_numbers : (limits : FileLimits) (line : List ℕ) (source : Source) (a : AnswerView) (ws : List CertificateView)
+    → ReadsReport limits line (Ok (Derived source a ws)) → QuestionHasSmallNumbers (asked source).body
+derived_numbers limits line source a ws h = source_numbers limits h.value source (subst (IsSourceAt limits h.value)
     (derived_is h.reads.own h.value source a ws h.reads.is).0 h.reads.source)
 
 -- ---- valid certificates
@@ -199,23 +205,24 @@ judged_true q (Contain first second tries) a about k small fits e =
     by_answer (Open tried) fits e = tt
 
 pub valid_is_true : ValidIsTrue
-valid_is_true line names source a h reads =
-    let e : h.reading ≡ Answered source a = same_read h.reading (Answered source a) (one_reading line (Ok h.reading) (Ok (Answered source a)) h.reads reads) in
+valid_is_true limits line names source a h reads =
+    let e : h.reading ≡ Answered source a = same_read h.reading (Answered source a)
+    (one_reading limits line (Ok h.reading) (Ok (Answered source a)) h.reads reads) in
     let judged : IsAnswerVerdict (asked source).body a (Judged names Valid) = subst (λ x. IsReadingVerdict x (Judged names Valid)) e h.verdict in
-    judged_true (asked source).body (asked source).body.verb a refl (limits_question line source a reads)
-    (small_numbers line source a reads) (fits_question line source a reads) judged.1
+    judged_true (asked source).body (asked source).body.verb a refl (limits_question limits line source a reads)
+    (small_numbers limits line source a reads) (fits_question limits line source a reads) judged.1
 
 -- a valid no with a code
 pub valid_code_is_true : ValidCodeIsTrue
-valid_code_is_true line names source back values c h reads =
+valid_code_is_true limits line names source back values c h reads =
     let e : h.reading ≡ Coded source (No back values) c = same_read h.reading (Coded source (No back values) c)
-    (one_reading line (Ok h.reading) (Ok (Coded source (No back values) c)) h.reads reads) in
+    (one_reading limits line (Ok h.reading) (Ok (Coded source (No back values) c)) h.reads reads) in
     let judged : IsCodedVerdict (asked source).body (No back values) c (Judged names Valid) = subst
     (λ y. IsReadingVerdict y (Judged names Valid)) e h.verdict in
     let read = coded_is reads.reads.own reads.value source (No back values) c reads.reads.is in
-    let own : IsSourceOf reads.value source = subst (IsSourceAt reads.value) read.0 reads.reads.source in (
-      judged_true (asked source).body (asked source).body.verb (No back values) refl (source_limits reads.value source own)
-          (source_numbers reads.value source own) read.1.answered judged.1,
+    let own : IsSourceOf limits reads.value source = subst (IsSourceAt limits reads.value) read.0 reads.reads.source in (
+      judged_true (asked source).body (asked source).body.verb (No back values) refl (source_limits limits reads.value source own)
+          (source_numbers limits reads.value source own) read.1.answered judged.1,
       read.1.code.variables,
       read.1.code.times,
       judged.2 refl,

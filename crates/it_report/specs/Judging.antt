@@ -6,6 +6,7 @@ use Rattle.it_space.specs.Answers.{AnswerView, CertificateView}
 use Rattle.it_space.specs.Answers.AnswerView.{Yes, No, Contained}
 use Rattle.it_problems.specs.Problems.{ProblemView}
 use Rattle.it_space.specs.Rows.{Terms}
+use Rattle.it_question.specs.declared.sizes.FileLimits.{FileLimits}
 use Rattle.it_question.specs.Questions.{BodyView}
 use Rattle.it_question.specs.ProblemLines.{problem_names}
 use Rattle.it_syntax.specs.Meaning.{RelationView}
@@ -107,25 +108,26 @@ IsReadingVerdict (Factored source best) v = v ≡ factor_line_verdict (asked sou
 IsReadingVerdict (Bounded source b) v = IsBoundsVerdict (asked source).body b v
 IsReadingVerdict Misfit v = v ≡ Skipped
 
--- the line has a reading, and this is the verdict on it
-pub record HasReading (line : List ℕ) (v : LineVerdict) : Type 0 where
+-- the line has a reading within these limits, and this is the verdict on it
+pub record HasReading (limits : FileLimits) (line : List ℕ) (v : LineVerdict) : Type 0 where
   pub reading : Reading
-  pub reads : ReadsReport line (Ok reading)
+  pub reads : ReadsReport limits line (Ok reading)
   pub verdict : IsReadingVerdict reading v
 
--- the verdict on a line: it is no JSON; this key is the first that is missing or of another shape; or the line has a reading
+-- the verdict on a line, within these limits: it is no JSON; this key is the first that is missing or of another shape; or the line has a reading
 -- with this verdict
-abbrev pub IsVerdict : List ℕ → LineVerdict → Type 0
-IsVerdict line NotJson = IsUtf8 line → read line ≡ None
-IsVerdict line (Shape key) = ReadsReport line (Err key)
-IsVerdict line verdict = HasReading line verdict
+abbrev pub IsVerdict : FileLimits → List ℕ → LineVerdict → Type 0
+IsVerdict limits line NotJson = IsUtf8 line → read line ≡ None
+IsVerdict limits line (Shape key) = ReadsReport limits line (Err key)
+IsVerdict limits line verdict = HasReading limits line verdict
 
--- the text is the line of the verdict on line `k` of a report, and `invalid` says whether that is an invalid one
-pub record IsJudgedLine (k : ℕ) (line text : List ℕ) (invalid : Bool) : Type 0 where
+-- the text is the line of the verdict on line `k` of a report, within these limits, and `invalid` says whether that is an invalid one
+pub record IsJudgedLine (limits : FileLimits) (k : ℕ) (line text : List ℕ) (invalid : Bool) : Type 0 where
   pub verdict : LineVerdict
-  pub is : IsVerdict line verdict
+  pub is : IsVerdict limits line verdict
   pub told : IsLineOf k verdict text invalid
 
--- the text and `invalid` are those of each line that reads so, or that has this fault
+-- the text and `invalid` are those of each line that reads so, or that has this fault, whatever the limits are
 abbrev pub IsJudgedWhereRead : ℕ → Result Reported ReportFault → List ℕ → Bool → Type 0
-IsJudgedWhereRead k read text invalid = (line : List ℕ) → Reports line read → IsJudgedLine k line text invalid
+IsJudgedWhereRead k read text invalid = (limits : FileLimits) (line : List ℕ) → Reports limits line read
+    → IsJudgedLine limits k line text invalid

@@ -6,6 +6,7 @@ use Rattle.it_space.specs.declared.answers.Mark.{Mark}
 use Rattle.it_space.specs.Rows.{Terms, point_of, value}
 use Rattle.it_syntax.specs.Meaning.{Holds, RelationView}
 use Rattle.it_syntax.specs.NamesViews.{NamesView}
+use Rattle.it_question.specs.declared.sizes.FileLimits.{FileLimits}
 use Rattle.it_question.specs.Questions.{BodyView, QuestionView, VerbView, Prove, Contain}
 use Rattle.it_canon.specs.TrueLines.{variable_count, AreTrueTogether}
 use Rattle.it_demand.specs.Targets.{targets}
@@ -34,11 +35,12 @@ use Rattle.it_report.specs.Judging.{IsVerdict, IsJudgedLine}
 
 -- Each line of a report has a verdict, and so a line about it.
 abbrev pub EachLineIsJudged : Type 0
-EachLineIsJudged = (k : ℕ) (line : List ℕ) → (text : List ℕ) × (invalid : Bool) × IsJudgedLine k line text invalid
+EachLineIsJudged = (limits : FileLimits) (k : ℕ) (line : List ℕ) → (text : List ℕ) × (invalid : Bool)
+    × IsJudgedLine limits k line text invalid
 
 -- A line has at most one verdict.
 abbrev pub OneVerdict : Type 0
-OneVerdict = (line : List ℕ) (v w : LineVerdict) → IsVerdict line v → IsVerdict line w → v ≡ w
+OneVerdict = (limits : FileLimits) (line : List ℕ) (v w : LineVerdict) → IsVerdict limits line v → IsVerdict limits line w → v ≡ w
 
 -- What an answer to a question of this verb claims is true. A yes: the relation holds wherever a polymatroid and rates make the
 -- question's lines true. A no: the values are such a place, and the target on its side is -1 or less there. A containment: the
@@ -56,49 +58,56 @@ IsClaimTrue q answer = IsClaimTrueBy q q.verb answer
 
 -- The claim of a line with the verdict `Valid` is true of the question that is asked.
 abbrev pub ValidIsTrue : Type 0
-ValidIsTrue = (line : List ℕ) (names : NamesView) (source : Source) (answer : AnswerView)
-    → IsVerdict line (Judged names Valid) → ReadsReport line (Ok (Answered source answer)) → IsClaimTrue (asked source).body answer
+ValidIsTrue = (limits : FileLimits) (line : List ℕ) (names : NamesView) (source : Source) (answer : AnswerView)
+    → IsVerdict limits line (Judged names Valid) → ReadsReport limits line (Ok (Answered source answer))
+    → IsClaimTrue (asked source).body answer
 
 -- Where a valid no has a code, its relation fails at random variables: the point is such a place, and the value of each set of
 -- variables is the entropy of those of the code, as many times as the line says.
 abbrev pub ValidCodeIsTrue : Type 0
-ValidCodeIsTrue = (line : List ℕ) (names : NamesView) (source : Source) (back : Bool) (values : List ℤ) (c : ReportedCodeView)
-    → IsVerdict line (Judged names Valid) → ReadsReport line (Ok (Coded source (No back values) c))
+ValidCodeIsTrue = (limits : FileLimits) (line : List ℕ) (names : NamesView) (source : Source) (back : Bool) (values : List ℤ)
+    (c : ReportedCodeView)
+    → IsVerdict limits line (Judged names Valid) → ReadsReport limits line (Ok (Coded source (No back values) c))
     → IsClaimTrue (asked source).body (No back values) × (variables_of c.code ≡ length (asked source).body.names.variables) × (1 ≤ c.times) × AreEntropies c.code c.times values
 
 -- Where a valid region has origins, each of its rows is true wherever a polymatroid and rates make all lines of the question true. It says
 -- nothing of whether the rows are all.
 abbrev pub ValidOriginsAreTrue : Type 0
-ValidOriginsAreTrue = (line : List ℕ) (names : NamesView) (source : Source) (rows : List (Mark × Terms)) (origins : List CertificateView)
-    → IsVerdict line (Judged names Valid) → ReadsReport line (Ok (Derived source (Region rows) origins))
+ValidOriginsAreTrue = (limits : FileLimits) (line : List ℕ) (names : NamesView) (source : Source) (rows : List (Mark × Terms))
+    (origins : List CertificateView)
+    → IsVerdict limits line (Judged names Valid) → ReadsReport limits line (Ok (Derived source (Region rows) origins))
     → All (λ row. (p : ℕ → ℤ) → AreTrueTogether (under_all_lines (asked source).body) p → pos 0 ≤ℤ value row.1 p) rows
 
 -- What a valid line says of factors is true of those of the relation that the question asks about: the least one holds wherever
 -- a polymatroid and rates make the question's lines true, and no smaller one does; where there is none, none holds; where there
 -- is no least one, the one that the line names and all smaller ones hold.
 abbrev pub ValidFactorIsTrue : Type 0
-ValidFactorIsTrue = (line : List ℕ) (names : NamesView) (source : Source) (best : BestView)
-    → IsVerdict line (Weighed names (Checked Valid)) → ReadsReport line (Ok (Factored source best))
+ValidFactorIsTrue = (limits : FileLimits) (line : List ℕ) (names : NamesView) (source : Source) (best : BestView)
+    → IsVerdict limits line (Weighed names (Checked Valid)) → ReadsReport limits line (Ok (Factored source best))
     → (r : RelationView) × (asked_by (asked source).body.verb ≡ Some r) × IsTrueBest (HoldsFor (asked source).body r) best
 
 -- Of a sharing file, it is true of the factors that hold wherever the secret is shared perfectly.
 abbrev pub ValidFactorIsTrueOfSharing : Type 0
-ValidFactorIsTrueOfSharing = (line : List ℕ) (names : NamesView) (x : SharingView) (best : BestView)
-    → IsVerdict line (Weighed names (Checked Valid)) → ReadsReport line (Ok (Factored (Sharing x) best)) → IsTrueBest (HoldsWherePerfect x) best
+ValidFactorIsTrueOfSharing = (limits : FileLimits) (line : List ℕ) (names : NamesView) (x : SharingView) (best : BestView)
+    → IsVerdict limits line (Weighed names (Checked Valid)) → ReadsReport limits line (Ok (Factored (Sharing x) best))
+    → IsTrueBest (HoldsWherePerfect x) best
 
 -- With a head, a valid yes says that the relation of the text's own question holds at every polymatroid and rates that have such copies.
 abbrev pub ValidIsTrueByCopies : Type 0
-ValidIsTrueByCopies = (line : List ℕ) (names : NamesView) (q : QuestionView) (copies : List CopyView) (r : RelationView) (ws : List CertificateView)
-    → IsVerdict line (Judged names Valid) → ReadsReport line (Ok (Answered (Copies q copies) (Yes ws))) → q.body.verb ≡ Prove r
+ValidIsTrueByCopies = (limits : FileLimits) (line : List ℕ) (names : NamesView) (q : QuestionView) (copies : List CopyView)
+    (r : RelationView) (ws : List CertificateView)
+    → IsVerdict limits line (Judged names Valid) → ReadsReport limits line (Ok (Answered (Copies q copies) (Yes ws)))
+    → q.body.verb ≡ Prove r
     → (p : ℕ → ℤ) → HasCopies q.body (extended q.body copies) p → Holds (length q.body.names.variables) p r
 
 -- Of a sharing file, a valid answer is true wherever the secret is shared perfectly.
 abbrev pub ValidIsTrueOfSharing : Type 0
-ValidIsTrueOfSharing = (line : List ℕ) (names : NamesView) (x : SharingView) (answer : AnswerView)
-    → IsVerdict line (Judged names Valid) → ReadsReport line (Ok (Answered (Sharing x) answer)) → IsTrueOfSharing x answer
+ValidIsTrueOfSharing = (limits : FileLimits) (line : List ℕ) (names : NamesView) (x : SharingView) (answer : AnswerView)
+    → IsVerdict limits line (Judged names Valid) → ReadsReport limits line (Ok (Answered (Sharing x) answer)) → IsTrueOfSharing x answer
 
 -- Valid bounds are exact: their rows, over the rates that stay, hold exactly where some whole multiple of these rates is that of a
 -- polymatroid with rates at which all lines of the question are true; and their rays are such, and span what the rows allow.
 abbrev pub ValidIsTrueOfBounds : Type 0
-ValidIsTrueOfBounds = (line : List ℕ) (source : Source) (b : BoundsView) → IsVerdict line (Hulled HullIsValid) → ReadsReport line (Ok (Bounded source b))
+ValidIsTrueOfBounds = (limits : FileLimits) (line : List ℕ) (source : Source) (b : BoundsView) → IsVerdict limits line (Hulled HullIsValid)
+    → ReadsReport limits line (Ok (Bounded source b))
     → AreExactBounds (asked source).body (gone_rates (asked source).body.verb) b.rows (rays_of b.steps)

@@ -23,6 +23,7 @@ use crate::rows::{point_verdict, proofs_verdict};
 use it_canon::{problem, problem_names, sides, target_rows};
 use it_certificate::{ReportFault, Reported, ReportedCode, answer_from_json, unmarked};
 use it_codes::first_other;
+use it_question::FileLimits;
 use it_question::types::{Question, Verb};
 use it_rates::problem_of_lines;
 use it_ratio::types::Best;
@@ -31,7 +32,8 @@ use it_space::{Answer, Certificate, Mark, Point, Row, VarSet};
 use it_syntax::types::Relation;
 use std::alloc::{AllocError, Global};
 
-/// The line about line `k` of a report; lines are counted from 1, and `line` comes without its end. The verdict is:
+/// The line about line `k` of a report, whose questions are read within these limits; lines are counted from 1, and `line` comes
+/// without its end. The verdict is:
 /// of a yes and of a containment, that on the first of its certificates that isn't valid;
 /// of a no, that on its point against the target on its side; with a code, where that is valid, the first set whose value is
 /// another by the code;
@@ -43,10 +45,15 @@ use std::alloc::{AllocError, Global};
 /// of an outer bound, that on its rows, its rays and their hull.
 /// Answers that claim nothing of polymatroids, or whose claim isn't judged, are skipped: undecided, regions without origins,
 /// open questions and misfits.
-pub fn judge(alloc: Global, k: usize, line: &[u8]) -> Result<JudgedLine, AllocError>
-    ensures { IfOk result (λ j. IsJudgedLine k line.now j.text.items j.invalid) }
+pub fn judge(
+    alloc: Global,
+    k: usize,
+    line: &[u8],
+    limits: FileLimits,
+) -> Result<JudgedLine, AllocError>
+    ensures { IfOk result (λ j. IsJudgedLine limits k line.now j.text.items j.invalid) }
 {
-    match answer_from_json(alloc, line) {
+    match answer_from_json(alloc, line, limits) {
         Ok(reported) => judge_reported(alloc, k, &reported),
         Err(fault) => judge_fault(alloc, k, fault),
     }

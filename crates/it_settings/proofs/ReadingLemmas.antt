@@ -17,14 +17,15 @@ use Rattle.it_settings.specs.declared.types.WordsFault.{WordsFault}
 use Rattle.it_settings.specs.declared.types.WordsFault.TheVariants.{Usage, Memory}
 
 by_their_names : (given : Text → Option Text)
-    → settings_by (by_name (given (codes "mode")) (given (codes "format")) (given (codes "pivots")) (given (codes "rows")) (given (codes "tries")) (given (codes "seed")) (given (codes "count")) (given (codes "run")) (given (codes "report"))) ≡ settings_by given
+    → settings_by (by_name (given (codes "mode")) (given (codes "format")) (given (codes "pivots")) (given (codes "rows")) (given (codes "tries"))
+    (given (codes "seed")) (given (codes "count")) (given (codes "run")) (given (codes "names")) (given (codes "report"))) ≡ settings_by given
 unfolding settings_by answer_of bench_of runs_of outer_of
 by_their_names given = refl
 
 pub same_settings : (given : Text → Option Text) (v : Values) → AreTexts given v → settings_by (texts_of v) ≡ settings_by given
 same_settings given v are =
     (λ i. settings_by (by_name (are.mode i) (are.format i) (are.pivots i) (are.rows i) (are.tries i) (are.seed i) (are.count i) (are.run i)
-    (are.report i))) ∙ by_their_names given
+    (are.names i) (are.report i))) ∙ by_their_names given
 
 pub has_reading : (words : List Text) (f : Found) → fault_of itip_app words ≡ [] → rows_of f ≡ matches_of itip_app words
     → settings_of words ≡ settings_by (first_value f)

@@ -3,7 +3,7 @@ use Rattle.std.proofs.Common.{refl}
 use Rattle.clap.proofs.OnLiterals.{clap_on_literals}
 use Rattle.it_settings.specs.App.{option_rule, flag_rule, mode_rule, bare_app, itip_app}
 use Rattle.it_settings.specs.Settings.{settings_of, settings_by, answer_of, bench_of, runs_of, outer_of, number_of, pivots_of, format_of, run_of}
-use Rattle.it_settings.specs.Rows.{ModesAreRead, FormsAreRead, NumbersAreRead, BenchIsRead, RunsAreRead, CopyIsRead, BestIsRead, SharingIsRead, OuterIsRead, OtherModesAreRead, ReportsAreRead}
+use Rattle.it_settings.specs.Rows.{ModesAreRead, FormsAreRead, NumbersAreRead, BenchIsRead, RunsAreRead, CopyIsRead, BestIsRead, SharingIsRead, OuterIsRead, OtherModesAreRead, ReportsAreRead, NamesAreRead}
 
 pub modes_are_read : ModesAreRead
 unfolding clap_on_literals settings_of settings_by answer_of bench_of number_of pivots_of format_of run_of itip_app bare_app mode_rule option_rule flag_rule
@@ -220,5 +220,29 @@ reports_are_read = record {
   answer = refl;
   check = refl;
   bench = refl;
+  outer = refl;
+}
+
+pub names_are_read : NamesAreRead
+unfolding clap_on_literals settings_of settings_by answer_of bench_of runs_of outer_of number_of pivots_of format_of run_of itip_app
+    bare_app mode_rule option_rule flag_rule
+names_are_read = record {
+  least = refl;
+  most = refl;
+  fewer = refl;
+  more = refl;
+  zero_names = refl;
+  word = refl;
+  no_value = refl;
+  empty = refl;
+  twice = refl;
+  with_all = refl;
+  check = refl;
+  check_more = refl;
+  bench = refl;
+  copy = refl;
+  best = refl;
+  sharing = refl;
+  sharing_fewer = refl;
   outer = refl;
 }

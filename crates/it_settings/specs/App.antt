@@ -22,7 +22,7 @@ bare_app = let a = new_app (codes "itip") in record a { top = record a.top { no_
 
 -- the options of all modes that have a value
 abbrev pub option_names : List Text
-option_names = codes "format" ∷ codes "pivots" ∷ codes "rows" ∷ codes "tries" ∷ codes "seed" ∷ codes "count" ∷ codes "run" ∷ []
+option_names = codes "format" ∷ codes "pivots" ∷ codes "rows" ∷ codes "tries" ∷ codes "seed" ∷ codes "count" ∷ codes "run" ∷ codes "names" ∷ []
 
 -- the mode, and the options of all modes
 unfoldable pub itip_app : App

@@ -1,12 +1,12 @@
 -- The settings that words give: the command matches the words, then each value is read.
-use Rattle.std.specs.Prelude.{ℕ, ◌^◌, ◌≡◌, ◌≤◌, ◌<◌, ◌==◌, ◌&&◌, List, [], ◌∷◌, length, Bool, false, Option, Some, None, is_none, Result, Ok, Err, if◌then◌else◌, codes, option_and_then, option_map, nat_le}
+use Rattle.std.specs.Prelude.{ℕ, ◌^◌, ◌≡◌, ◌≤◌, ◌<◌, ◌==◌, ◌&&◌, List, [], ◌∷◌, length, Bool, false, Option, Some, None, IfSome, is_none, Result, Ok, Err, if◌then◌else◌, codes, option_and_then, option_map, nat_le}
 use Rattle.std.specs.Str.{bytes_eq}
 use Rattle.std.specs.List.{list_all}
 use Rattle.std.specs.Map.{lookup}
 use Rattle.std.specs.Option.{option_map_or}
 use Rattle.it_number.specs.Decimals.{value_from}
 use Rattle.clap.specs.Words.{Text, fault_of, matches_of, first_of}
-use Rattle.it_settings.specs.App.{itip_app, option_names}
+use Rattle.it_settings.specs.App.{itip_app}
 use Rattle.it_settings.specs.declared.types.Format.{Format}
 use Rattle.it_settings.specs.declared.types.Format.TheVariants as formats
 use Rattle.it_settings.specs.declared.types.Run.{Run}
@@ -26,6 +26,10 @@ number_of least most text =
 -- a budget of steps: a number from 1 to 1,000,000, or no budget by the word `none`
 unfoldable pub pivots_of : Text → Option (Option ℕ)
 pivots_of text = if bytes_eq text (codes "none") then Some None else option_map Some (number_of 1 1000000 text)
+
+-- a number of names, from 10 to 16
+abbrev pub names_of : Text → Option (Option ℕ)
+names_of text = option_map Some (number_of 10 16 text)
 
 -- a format by its name
 unfoldable pub format_of : Text → Option Format
@@ -48,6 +52,10 @@ pivots_in given = option_map_or pivots_of (given (codes "pivots")) (Some (Some 2
 -- the run that was given, or the one by Bland's rule where nothing was given
 abbrev pub run_in : (Text → Option Text) → Option Run
 run_in given = option_map_or run_of (given (codes "run")) (Some runs.Bland)
+
+-- the most names of a question that were given, or nothing where nothing was given
+abbrev pub names_in : (Text → Option Text) → Option (Option ℕ)
+names_in given = option_map_or names_of (given (codes "names")) (Some None)
 
 -- whether a report is asked for, by an option without a value
 abbrev pub report_in : (Text → Option Text) → Bool
@@ -74,7 +82,13 @@ answer_of given = do
   pivots ← pivots_in given
   rows ← number_in given (codes "rows") 1 4096 512
   tries ← number_in given (codes "tries") 1 4096 256
-  Some (settings.Answer format run pivots rows tries)
+  names ← names_in given
+  Some (settings.Answer format run pivots rows tries names)
+
+-- the settings of mode `check`, which has no option but `--names`
+abbrev pub check_of : (Text → Option Text) → Option Settings
+check_of given = without given (codes "format" ∷ codes "pivots" ∷ codes "rows" ∷ codes "tries" ∷ codes "seed" ∷ codes "count" ∷ codes "run" ∷ [])
+    (option_map settings.Check (names_in given))
 
 -- the settings of mode `bench`
 unfoldable pub bench_of : (Text → Option Text) → Option Settings
@@ -87,12 +101,13 @@ bench_of given = do
   tries ← number_in given (codes "tries") 1 4096 256
   Some (settings.Bench seed count run pivots rows tries)
 
--- the settings of a mode with the options `--run` and `--pivots`
-unfoldable pub runs_of : (Text → Option Text) → (Run → Option ℕ → Settings) → Option Settings
+-- the settings of a mode with the options `--run`, `--pivots` and `--names`
+unfoldable pub runs_of : (Text → Option Text) → (Run → Option ℕ → Option ℕ → Settings) → Option Settings
 runs_of given read = without given (codes "format" ∷ codes "rows" ∷ codes "tries" ∷ codes "seed" ∷ codes "count" ∷ []) do
   run ← run_in given
   pivots ← pivots_in given
-  Some (read run pivots)
+  names ← names_in given
+  Some (read run pivots names)
 
 -- the settings of mode `outer`
 unfoldable pub outer_of : (Text → Option Text) → Option Settings
@@ -101,14 +116,15 @@ outer_of given = without given (codes "format" ∷ codes "seed" ∷ codes "count
   pivots ← pivots_in given
   rows ← number_in given (codes "rows") 1 4096 512
   tries ← number_in given (codes "tries") 1 4096 256
-  Some (settings.Outer (report_in given) run pivots rows tries)
+  names ← names_in given
+  Some (settings.Outer (report_in given) run pivots rows tries names)
 
 -- the settings of a mode, given without the options of other modes; other words for the mode have no reading
 abbrev pub settings_in : (Text → Option Text) → Text → Option Settings
 settings_in given mode =
     if bytes_eq mode (codes "answer") then without_report given (without given (codes "seed" ∷ codes "count" ∷ []) (answer_of given)) else
-    if bytes_eq mode (codes "check") then without_report given (without given option_names (Some settings.Check)) else
-    if bytes_eq mode (codes "bench") then without_report given (without given (codes "format" ∷ []) (bench_of given)) else
+    if bytes_eq mode (codes "check") then without_report given (check_of given) else
+    if bytes_eq mode (codes "bench") then without_report given (without given (codes "format" ∷ codes "names" ∷ []) (bench_of given)) else
     if bytes_eq mode (codes "copy") then runs_of given (settings.Copy (report_in given)) else
     if bytes_eq mode (codes "best") then runs_of given (settings.Best (report_in given)) else
     if bytes_eq mode (codes "outer") then outer_of given else
@@ -134,12 +150,16 @@ TellsReading reading (Err Memory) = Unit {0}
 abbrev pub AreFew : ℕ → ℕ → Type 0
 AreFew rows tries = ((1 ≤ rows) × (rows ≤ 4096)) × ((1 ≤ tries) × (tries ≤ 4096))
 
--- rows and candidates are few, and a generated file has a seed below 2^31 and 1 to 1000 questions
+-- 10 to 16 names, where their number is given
+abbrev pub AreNamesInRange : Option ℕ → Type 0
+AreNamesInRange names = IfSome names (λ n. (10 ≤ n) × (n ≤ 16))
+
+-- rows and candidates are few, names are as many as may be given, and a generated file has a seed below 2^31 and 1 to 1000 questions
 abbrev pub AreInRange : Settings → Type 0
-AreInRange (settings.Answer format run pivots rows tries) = AreFew rows tries
-AreInRange settings.Check = Unit {0}
+AreInRange (settings.Answer format run pivots rows tries names) = AreFew rows tries × AreNamesInRange names
+AreInRange (settings.Check names) = AreNamesInRange names
 AreInRange (settings.Bench seed count run pivots rows tries) = (seed < 2 ^ 31) × ((1 ≤ count) × (count ≤ 1000)) × AreFew rows tries
-AreInRange (settings.Copy report run pivots) = Unit {0}
-AreInRange (settings.Best report run pivots) = Unit {0}
-AreInRange (settings.Outer report run pivots rows tries) = AreFew rows tries
-AreInRange (settings.Sharing report run pivots) = Unit {0}
+AreInRange (settings.Copy report run pivots names) = AreNamesInRange names
+AreInRange (settings.Best report run pivots names) = AreNamesInRange names
+AreInRange (settings.Outer report run pivots rows tries names) = AreFew rows tries × AreNamesInRange names
+AreInRange (settings.Sharing report run pivots names) = AreNamesInRange names

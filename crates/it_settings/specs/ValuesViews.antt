@@ -6,8 +6,8 @@ use Rattle.clap.specs.Words.{Text}
 use Rattle.it_settings.specs.declared.reading.Values.{Values}
 
 -- the texts of the mode and of each option, as a function of their names
-abbrev pub by_name : (mode format pivots rows tries seed count run report : Option Text) → Text → Option Text
-by_name mode format pivots rows tries seed count run report name =
+abbrev pub by_name : (mode format pivots rows tries seed count run names report : Option Text) → Text → Option Text
+by_name mode format pivots rows tries seed count run names report name =
     if bytes_eq name (codes "mode") then mode else
     if bytes_eq name (codes "format") then format else
     if bytes_eq name (codes "pivots") then pivots else
@@ -16,6 +16,7 @@ by_name mode format pivots rows tries seed count run report name =
     if bytes_eq name (codes "seed") then seed else
     if bytes_eq name (codes "count") then count else
     if bytes_eq name (codes "run") then run else
+    if bytes_eq name (codes "names") then names else
     if bytes_eq name (codes "report") then report else None
 
 -- a text that was given, as contracts see it
@@ -24,7 +25,8 @@ text_of o = option_map (λ s. s.now) o
 
 -- the texts of the values, by name
 abbrev pub texts_of : Values → Text → Option Text
-texts_of v name = by_name (text_of v.mode) (text_of v.format) (text_of v.pivots) (text_of v.rows) (text_of v.tries) (text_of v.seed) (text_of v.count) (text_of v.run) (text_of v.report) name
+texts_of v name = by_name (text_of v.mode) (text_of v.format) (text_of v.pivots) (text_of v.rows) (text_of v.tries) (text_of v.seed) (text_of v.count)
+    (text_of v.run) (text_of v.names) (text_of v.report) name
 
 -- the values have the texts of given
 pub record AreTexts (given : Text → Option Text) (v : Values) : Type 0 where
@@ -36,4 +38,5 @@ pub record AreTexts (given : Text → Option Text) (v : Values) : Type 0 where
   pub seed : text_of v.seed ≡ given (codes "seed")
   pub count : text_of v.count ≡ given (codes "count")
   pub run : text_of v.run ≡ given (codes "run")
+  pub names : text_of v.names ≡ given (codes "names")
   pub report : text_of v.report ≡ given (codes "report")

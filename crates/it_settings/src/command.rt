@@ -97,6 +97,7 @@ fn itip<'a>(alloc: Global) -> Result<Command<'a>, AllocError>
     let command = with_option(command, alloc, "seed")?;
     let command = with_option(command, alloc, "count")?;
     let command = with_option(command, alloc, "run")?;
+    let command = with_option(command, alloc, "names")?;
     with_flag(command, alloc, "report")
 }
 

@@ -1,5 +1,5 @@
 //! Readings of command lines, each table as the contract of a function.
-ghost use Rattle.it_settings.specs.Rows.{ModesAreRead, FormsAreRead, NumbersAreRead, BenchIsRead, RunsAreRead, CopyIsRead, BestIsRead, SharingIsRead, OuterIsRead, OtherModesAreRead, ReportsAreRead};
+ghost use Rattle.it_settings.specs.Rows.{ModesAreRead, FormsAreRead, NumbersAreRead, BenchIsRead, RunsAreRead, CopyIsRead, BestIsRead, SharingIsRead, OuterIsRead, OtherModesAreRead, ReportsAreRead, NamesAreRead};
 
 /// The word for the mode, alone and with others.
 #[tactic(auto, using(crate::proofs::RowLemmas::modes_are_read))]
@@ -31,7 +31,7 @@ pub fn runs_are_read()
     ensures { RunsAreRead }
 {}
 
-/// The modes with the options `--run`, `--pivots` and no other but `--report`.
+/// The modes with the options `--run`, `--pivots` and no other but `--names` and `--report`.
 #[tactic(auto, using(crate::proofs::RowLemmas::copy_is_read, crate::proofs::RowLemmas::best_is_read, crate::proofs::RowLemmas::sharing_is_read))]
 pub fn modes_with_runs_are_read()
     ensures copy { CopyIsRead }
@@ -55,4 +55,10 @@ pub fn other_modes_are_read()
 #[tactic(auto, using(crate::proofs::RowLemmas::reports_are_read))]
 pub fn reports_are_read()
     ensures { ReportsAreRead }
+{}
+
+/// The option `--names`, in the modes that read questions.
+#[tactic(auto, using(crate::proofs::RowLemmas::names_are_read))]
+pub fn names_are_read()
+    ensures { NamesAreRead }
 {}

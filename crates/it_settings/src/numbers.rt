@@ -1,7 +1,7 @@
 //! The values of options.
 ghost use Rattle.std.specs.Prelude.{◌≡◌, ◌≤◌, ◌<◌, ◌+◌, ◌*◌, ◌-◌, ◌&&◌, if◌then◌else◌, nat_le, None, Some, option_map, IfSome, length};
 ghost use Rattle.it_number.specs.Decimals.{value_from};
-ghost use Rattle.it_settings.specs.Settings.{number_of, pivots_of, format_of, run_of};
+ghost use Rattle.it_settings.specs.Settings.{number_of, pivots_of, names_of, format_of, run_of, AreNamesInRange};
 ghost use Rattle.std.specs.Option.{option_map_or};
 ghost use Rattle.it_settings.specs.declared.types.Format.TheVariants as formats;
 ghost use Rattle.it_settings.specs.declared.types.Run.TheVariants as runs;
@@ -95,6 +95,26 @@ pub fn pivots_or(text: Option<&str>) -> Option<Option<u32>>
     match text {
         Some(text) => pivots(text),
         None => Some(Some(20000)),
+    }
+}
+
+/// The number of names that `text` spells, from 10 to 16.
+fn names(text: &str) -> Option<Option<u8>>
+    ensures reads { result ≡ names_of text.now }
+    ensures range { IfSome result AreNamesInRange }
+{
+    let number = number(text, 10, 16)?;
+    Some(Some(number as u8))
+}
+
+/// The value of `--names`, the most names of a question; none where none was given.
+pub fn names_or(text: Option<&str>) -> Option<Option<u8>>
+    ensures reads { result ≡ option_map_or names_of (option_map (λ s. s.now) text.entry) (Some None) }
+    ensures range { IfSome result AreNamesInRange }
+{
+    match text {
+        Some(text) => names(text),
+        None => Some(None),
     }
 }
 

@@ -4,12 +4,11 @@ ghost use Rattle.std.specs.List.{list_all};
 ghost use Rattle.clap.specs.Words.{first_value, found_of, kind_of};
 ghost use Rattle.it_settings.specs.ValuesViews.{AreTexts, texts_of};
 ghost use Rattle.it_settings.specs.declared.types.Settings.TheVariants as settings;
-ghost use Rattle.it_settings.specs.App.{option_names};
 ghost use Rattle.it_settings.specs.ErrorKinds.{IsFaultOf};
-ghost use Rattle.it_settings.specs.Settings.{answer_of, bench_of, outer_of, report_in, runs_of, settings_by, settings_of, without, without_report, TellsReading, AreInRange};
+ghost use Rattle.it_settings.specs.Settings.{answer_of, bench_of, check_of, outer_of, report_in, runs_of, settings_by, settings_of, without, without_report, TellsReading, AreInRange};
 
 use crate::command::parse;
-use crate::numbers::{format_or, number_or, pivots_or, rows_or, run_or, tries_or};
+use crate::numbers::{format_or, names_or, number_or, pivots_or, rows_or, run_or, tries_or};
 use crate::types::{Settings, WordsFault};
 use clap::error::ErrorKind;
 use clap::{ArgMatches, Error};
@@ -26,6 +25,7 @@ struct Values<'a> {
     seed: Option<&'a str>,
     count: Option<&'a str>,
     run: Option<&'a str>,
+    names: Option<&'a str>,
     report: Option<&'a str>,
 }
 
@@ -42,6 +42,7 @@ fn matched_values<'a>(matches: &ArgMatches<'a>) -> Values<'a>
         seed: matches.get_str("seed"),
         count: matches.get_str("count"),
         run: matches.get_str("run"),
+        names: matches.get_str("names"),
         report: matches.get_str("report"),
     }
 }
@@ -76,18 +77,20 @@ fn answer(values: Values) -> Option<Settings>
     let pivots = pivots_or(values.pivots)?;
     let rows = rows_or(values.rows)?;
     let tries = tries_or(values.tries)?;
+    let names = names_or(values.names)?;
     Some(Settings::Answer {
         format,
         run,
         pivots,
         rows,
         tries,
+        names,
     })
 }
 
-/// The settings of mode `check`, which has no options.
+/// The settings of mode `check`, which has no option but `--names`.
 fn check(values: Values) -> Option<Settings>
-    ensures reads { result ≡ without (texts_of values.entry) option_names (Some settings.Check) }
+    ensures reads { result ≡ check_of (texts_of values.entry) }
     ensures ranges { IfSome result AreInRange }
 {
     let none = values.format.is_none()
@@ -97,16 +100,20 @@ fn check(values: Values) -> Option<Settings>
         && values.seed.is_none()
         && values.count.is_none()
         && values.run.is_none();
-    if none { Some(Settings::Check) } else { None }
+    if !none {
+        return None;
+    }
+    let names = names_or(values.names)?;
+    Some(Settings::Check { names })
 }
 
 /// The settings of mode `bench`.
 #[tactic(auto, unfolding(crate::specs::Settings::bench_of))]
 fn bench(values: Values) -> Option<Settings>
-    ensures reads { result ≡ without (texts_of values.entry) (codes "format" ∷ []) (bench_of (texts_of values.entry)) }
+    ensures reads { result ≡ without (texts_of values.entry) (codes "format" ∷ codes "names" ∷ []) (bench_of (texts_of values.entry)) }
     ensures ranges { IfSome result AreInRange }
 {
-    if values.format.is_some() {
+    if values.format.is_some() || values.names.is_some() {
         return None;
     }
     let seed = number_or(values.seed, 0, 2147483647, 1)?;
@@ -125,7 +132,7 @@ fn bench(values: Values) -> Option<Settings>
     })
 }
 
-/// Whether no option was given but `--run`, `--pivots` and `--report`.
+/// Whether no option was given but `--run`, `--pivots`, `--names` and `--report`.
 fn has_runs_alone(values: Values) -> bool
     ensures { result ≡ list_all (λ name. is_none (texts_of values.entry name)) (codes "format" ∷ codes "rows" ∷ codes "tries" ∷ codes "seed" ∷ codes "count" ∷ []) }
 {
@@ -147,11 +154,13 @@ fn copy(values: Values) -> Option<Settings>
     }
     let run = run_or(values.run)?;
     let pivots = pivots_or(values.pivots)?;
+    let names = names_or(values.names)?;
     let report = has_report(values);
     Some(Settings::Copy {
         report,
         run,
         pivots,
+        names,
     })
 }
 
@@ -166,11 +175,13 @@ fn best(values: Values) -> Option<Settings>
     }
     let run = run_or(values.run)?;
     let pivots = pivots_or(values.pivots)?;
+    let names = names_or(values.names)?;
     let report = has_report(values);
     Some(Settings::Best {
         report,
         run,
         pivots,
+        names,
     })
 }
 
@@ -187,6 +198,7 @@ fn outer(values: Values) -> Option<Settings>
     let pivots = pivots_or(values.pivots)?;
     let rows = rows_or(values.rows)?;
     let tries = tries_or(values.tries)?;
+    let names = names_or(values.names)?;
     let report = has_report(values);
     Some(Settings::Outer {
         report,
@@ -194,6 +206,7 @@ fn outer(values: Values) -> Option<Settings>
         pivots,
         rows,
         tries,
+        names,
     })
 }
 
@@ -208,11 +221,13 @@ fn sharing(values: Values) -> Option<Settings>
     }
     let run = run_or(values.run)?;
     let pivots = pivots_or(values.pivots)?;
+    let names = names_or(values.names)?;
     let report = has_report(values);
     Some(Settings::Sharing {
         report,
         run,
         pivots,
+        names,
     })
 }
 

@@ -32,9 +32,14 @@ pub enum Settings {
         rows: u32,
         /// The most candidates of a containment, 1 to 4,096.
         tries: u32,
+        /// The most names of a question, 10 to 16, with tables of any size; none where nothing was given.
+        names: Option<u8>,
     },
     /// Judge a report.
-    Check,
+    Check {
+        /// The most names of a question, 10 to 16, with tables of any size; none where nothing was given.
+        names: Option<u8>,
+    },
     /// Count the answers to a generated file.
     Bench {
         /// The number that the file is generated from, 0 to 2,147,483,647.
@@ -58,6 +63,8 @@ pub enum Settings {
         run: Run,
         /// The most steps of the defined run, 1 to 1,000,000, or no bound.
         pivots: Option<u32>,
+        /// The most names of a question, 10 to 16, with tables of any size; none where nothing was given.
+        names: Option<u8>,
     },
     /// Find the best factors between the sides of a file's relations.
     Best {
@@ -66,6 +73,8 @@ pub enum Settings {
         run: Run,
         /// The most steps of each of the three defined runs about a relation.
         pivots: Option<u32>,
+        /// The most names of a question, 10 to 16, with tables of any size; none where nothing was given.
+        names: Option<u8>,
     },
     /// Find the outer bounds in rates alone of a file's eliminations.
     Outer {
@@ -79,6 +88,8 @@ pub enum Settings {
         rows: u32,
         /// The most rays, 1 to 4,096.
         tries: u32,
+        /// The most names of a question, 10 to 16, with tables of any size; none where nothing was given.
+        names: Option<u8>,
     },
     /// Answer the question of a secret sharing file.
     Sharing {
@@ -88,6 +99,8 @@ pub enum Settings {
         run: Run,
         /// The most steps of each defined run, 1 to 1,000,000, or no bound.
         pivots: Option<u32>,
+        /// The most names of a question, 10 to 16, with tables of any size; none where nothing was given.
+        names: Option<u8>,
     },
 }
 

@@ -10,3 +10,4 @@ pub mod SharingLimits
 pub mod QuestionLimits
 pub mod SharingOutlines
 pub mod WithinLemmas
+pub mod NumberLoops

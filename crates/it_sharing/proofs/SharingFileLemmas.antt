@@ -7,13 +7,13 @@ use Rattle.it_sharing.proofs.SharingLines.{sharing_ends}
 use Rattle.it_sharing.proofs.SharingOutlines.{sharing_has}
 
 pub sharing_is_one : SharingIsOne
-sharing_is_one = form_is_one sharing _ sharing_has (λ lines y. y)
+sharing_is_one limits = form_is_one (sharing limits) _ (sharing_has limits) (λ lines y. y)
 
 pub sharing_fault_is_one : SharingFaultIsOne
-sharing_fault_is_one = whole_fault_is_one (spelling sharing)
+sharing_fault_is_one limits = whole_fault_is_one (spelling (sharing limits))
 
 pub sharing_or_fault : SharingOrFault
-sharing_or_fault = whole_or_fault (spelling sharing) (λ lines y. y.0)
+sharing_or_fault limits = whole_or_fault (spelling (sharing limits)) (λ lines y. y.0)
 
 pub sharing_has_one : SharingHasOne
-sharing_has_one = form_has_one sharing _ sharing_has sharing_ends (λ lines y. y)
+sharing_has_one limits = form_has_one (sharing limits) _ (sharing_has limits) (sharing_ends limits) (λ lines y. y)

@@ -30,7 +30,11 @@ use Rattle.it_syntax.proofs.MultipleLemmas.{one_is_multiple}
 use Rattle.it_sharing.specs.AccessStructures.{IsPartySet}
 use Rattle.it_sharing.specs.Sharings.{SharingView, IsSharing, IsBoundWhereBest}
 use Rattle.it_sharing.specs.SharingForms.{more_lists, bound, aim, sharing}
-use Rattle.it_sharing.specs.Parties.{most_parties, most_qualified, party_env}
+use Rattle.it_space.specs.Spaces.{most_variables}
+use Rattle.it_question.specs.declared.sizes.FileLimits.{FileLimits}
+use Rattle.it_question.specs.QuestionLimits.{names_within}
+use Rattle.it_question.proofs.LimitLemmas.{within_space}
+use Rattle.it_sharing.specs.Parties.{most_parties, most_qualified, parties_within, party_env}
 
 -- ---- names
 
@@ -211,18 +215,26 @@ aim_keeps v =
 even_party : (n s : ℕ) → IsListed n s → IsPartySet n s
 even_party n s h = (h.0.0, ap (λ (b : ℕ). nat_eq b 1) h.0.1)
 
-abbrev Keeps : SharingView → Type 0
-Keeps y = IsSharing y × IsBoundWhereBest y
+abbrev Keeps : FileLimits → SharingView → Type 0
+Keeps limits y = IsSharing y × IsBoundWhereBest y × (length y.names.variables ≤ 1 + parties_within limits)
 
-keeps_all : (secret all : NamesView) (sets : List ℕ) (asked : (Bool × RelationView)) → IsOne secret
-    → HasGrown (length secret.variables + most_parties) secret all → AreListed (length all.variables) sets → IsAsked all asked
-    → Keeps (record { names = all; qualified = sets; best = asked.0; relation = asked.1 })
-keeps_all secret all sets asked one grown listed asks =
+-- the secret and the parties are no more variables than a space has
+pub parties_fit : (limits : FileLimits) → 1 + parties_within limits ≤ most_variables
+parties_fit limits = by_test limits.large_tables
+  where
+    by_test : (b : Bool) → 1 + cond b (names_within limits - 1) most_parties ≤ most_variables
+    by_test true = omega (arith, within_space limits)
+    by_test false = omega arith
+
+keeps_all : (limits : FileLimits) (secret all : NamesView) (sets : List ℕ) (asked : (Bool × RelationView)) → IsOne secret
+    → HasGrown (length secret.variables + parties_within limits) secret all → AreListed (length all.variables) sets → IsAsked all asked
+    → Keeps limits (record { names = all; qualified = sets; best = asked.0; relation = asked.1 })
+keeps_all limits secret all sets asked one grown listed asks =
     let n = length all.variables in
     let none : all.rates ≡ [] = grown.2 ∙ one.1 in (
       record {
         some = omega (arith, one.0, grown.0);
-        few = omega (arith, one.0, grown.1);
+        few = omega (arith, one.0, grown.1, parties_fit limits);
         no_rates = none;
         some_listed = listed.0;
         few_listed = listed.1;
@@ -231,6 +243,7 @@ keeps_all secret all sets asked one grown listed asks =
         relation = subst (λ (names : List (List ℕ)). IsRelationOf n (length names) asked.1) none asks.0;
       },
       asks.1,
+      omega (arith, one.0, grown.1),
     )
 
 -- what comes after the lists, after the first list and after the secret
@@ -243,44 +256,51 @@ after_first all set = more_lists (party_env all) (set ∷ []) >>= after_lists al
 abbrev after_names : NamesView → Form SharingView
 after_names all = Take (word (codes "qualified")) >> (to_end (names (party_env all)) >>= after_first all)
 
-abbrev after_secret : NamesView → Form SharingView
-after_secret secret = Take (word (codes "parties")) >> (new_names Variable (length secret.variables + most_parties) secret >>= after_names)
+abbrev after_secret : FileLimits → NamesView → Form SharingView
+after_secret limits secret = Take (word (codes "parties")) >> (new_names Variable (length secret.variables + parties_within limits) secret >>= after_names)
 
-abbrev KeepsAlways : Form SharingView → Type 0
-KeepsAlways f = Always f (λ p y. Keeps y)
+abbrev KeepsAlways : FileLimits → Form SharingView → Type 0
+KeepsAlways limits f = Always f (λ p y. Keeps limits y)
 
-module _ (secret all : NamesView) (one : IsOne secret) (grown : HasGrown (length secret.variables + most_parties) secret all) where
-  lists_keep : (sets : List ℕ) → AreListed (length all.variables) sets → KeepsAlways (after_lists all sets)
+module _ (limits : FileLimits) (secret all : NamesView) (one : IsOne secret)
+    (grown : HasGrown (length secret.variables + parties_within limits) secret all) where
+  lists_keep : (sets : List ℕ) → AreListed (length all.variables) sets → KeepsAlways limits (after_lists all sets)
   unfolding Always
   lists_keep sets listed = always_weaker (aim all) (λ q x. IsAsked all x) _
-      (λ q asked asks l e m. keeps_all secret all sets asked one grown listed asks) (aim_keeps all)
+      (λ q asked asks l e m. keeps_all limits secret all sets asked one grown listed asks) (aim_keeps all)
 
-  first_keeps : (set : ℕ) → IsListed (length all.variables) set → KeepsAlways (after_first all set)
+  first_keeps : (set : ℕ) → IsListed (length all.variables) set → KeepsAlways limits (after_first all set)
   unfolding Always
   first_keeps set h =
       let n = length all.variables in
-      always_weaker (more_lists (party_env all) (set ∷ [])) (λ q sets. AreListed n sets) (λ q sets. KeepsAlways (after_lists all sets))
+      always_weaker (more_lists (party_env all) (set ∷ [])) (λ q sets. AreListed n sets) (λ q sets. KeepsAlways limits (after_lists all sets))
       (λ q sets listed. lists_keep sets listed)
       (more_lists_keep all (set ∷ []) (omega arith, omega arith, All-cons (IsListed n) set [] h (All-nil (IsListed n))))
 
-  names_keep : KeepsAlways (after_names all)
+  names_keep : KeepsAlways limits (after_names all)
   unfolding Always
   names_keep l e m =
       let n = length all.variables in
-      always_weaker (to_end (names (party_env all))) (λ q set. IsListed n set) (λ q set. KeepsAlways (after_first all set))
+      always_weaker (to_end (names (party_env all))) (λ q set. IsListed n set) (λ q set. KeepsAlways limits (after_first all set))
       (λ q set h. first_keeps set h) (line_keeps (names (party_env all)) (IsListed n) (parties_keep all))
 
-secret_keeps : (secret : NamesView) → IsOne secret → KeepsAlways (after_secret secret)
+secret_keeps : (limits : FileLimits) (secret : NamesView) → IsOne secret → KeepsAlways limits (after_secret limits secret)
 unfolding Always
-secret_keeps secret one l e m =
-    let most = length secret.variables + most_parties in
-    always_weaker (new_names Variable most secret) (λ q w. HasGrown most secret w) (λ q all. KeepsAlways (after_names all))
-    (λ q all grown. names_keep secret all one grown) (new_names_grow most secret)
+secret_keeps limits secret one l e m =
+    let most = length secret.variables + parties_within limits in
+    always_weaker (new_names Variable most secret) (λ q w. HasGrown most secret w) (λ q all. KeepsAlways limits (after_names all))
+    (λ q all grown. names_keep limits secret all one grown) (new_names_grow most secret)
 
-sharing_keeps : KeepsAlways sharing
+sharing_keeps : (limits : FileLimits) → KeepsAlways limits (sharing limits)
 unfolding Always sharing
-sharing_keeps l e m = always_weaker (to_end (new_name Variable 1 no_names)) (λ q v. IsOne v) (λ q secret. KeepsAlways (after_secret secret))
-    (λ q secret one. secret_keeps secret one) (line_keeps (new_name Variable 1 no_names) IsOne secret_is_one)
+sharing_keeps limits l e m = always_weaker (to_end (new_name Variable 1 no_names)) (λ q v. IsOne v)
+    (λ q secret. KeepsAlways limits (after_secret limits secret))
+    (λ q secret one. secret_keeps limits secret one) (line_keeps (new_name Variable 1 no_names) IsOne secret_is_one)
 
-pub sharing_limited : (ls r : List Letter) (y : SharingView) → read sharing ls ≡ Ok (y, r) → IsSharing y × IsBoundWhereBest y
-sharing_limited ls r y = value_read sharing Keeps ls r y sharing_keeps
+pub sharing_limited : (limits : FileLimits) (ls r : List Letter) (y : SharingView) → read (sharing limits) ls ≡ Ok (y, r) → IsSharing y × IsBoundWhereBest y
+sharing_limited limits ls r y e = let kept = value_read (sharing limits) (Keeps limits) ls r y (sharing_keeps limits) e in (kept.0, kept.1)
+
+-- and has no more variables than the secret and the most parties
+pub few_are_named : (limits : FileLimits) (ls r : List Letter) (y : SharingView) → read (sharing limits) ls ≡ Ok (y, r)
+    → length y.names.variables ≤ 1 + parties_within limits
+few_are_named limits ls r y e = let kept = value_read (sharing limits) (Keeps limits) ls r y (sharing_keeps limits) e in kept.2

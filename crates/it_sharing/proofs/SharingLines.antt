@@ -16,6 +16,7 @@ use Rattle.it_syntax.specs.Meaning.{RelationView}
 use Rattle.it_question.proofs.Puts.{HasLines, Puts, puts_at, taken_token, tokens_lines, lines_then, line_puts}
 use Rattle.it_question.proofs.QuestionLines.{Grows, turns_grow, new_name_has_no_end, new_names_lines}
 use Rattle.it_question.proofs.WholeFileLemmas.{EndsFile}
+use Rattle.it_question.specs.declared.sizes.FileLimits.{FileLimits}
 use Rattle.it_sharing.specs.SharingForms.{more_lists, bound, aim, sharing}
 use Rattle.it_sharing.specs.Parties.{most_qualified, party_env}
 
@@ -33,9 +34,9 @@ unfolding aim Spells
 aim_lines v y m k (inl s) = puts_at (tokens_lines 0 (taken_token (word (codes "prove")) s.0 m s.1 refl s.2) (line_puts (relation (scope_of v true)) (relation_has_no_end _) s.3.0 s.1 s.3.1 s.3.2)) s.3.3.1
 aim_lines v y m k (inr s) = puts_at (tokens_lines 0 (taken_token (word (codes "best")) s.0 m s.1 refl s.2) (line_puts (bound (scope_of v true)) (bound_has_no_end _) s.3.0 s.1 s.3.1 s.3.2)) s.3.3.1
 
-pub sharing_ends : EndsFile sharing
+pub sharing_ends : (limits : FileLimits) → EndsFile (sharing limits)
 unfolding sharing Spells
-sharing_ends y m s =
+sharing_ends limits y m s =
     let secret = s.3 in
     let before_parties = secret.3 in
     let parties = before_parties.3 in

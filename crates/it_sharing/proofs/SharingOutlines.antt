@@ -8,6 +8,7 @@ use Rattle.it_forms.specs.declared.types.Symbol.TheVariants.{AtLeast}
 use Rattle.it_forms.specs.declared.types.Code.TheVariants as codes
 use Rattle.it_forms.specs.Letters.{Bad}
 use Rattle.it_syntax.specs.Scopes.{Environment, Scope}
+use Rattle.it_question.specs.declared.sizes.FileLimits.{FileLimits}
 use Rattle.it_sharing.specs.SharingForms.{more_lists, bound, aim, sharing}
 use Rattle.it_syntax.proofs.LineOutlines.{some_names, names_has, a_sum, sum_has, relation_has}
 use Rattle.it_question.proofs.QuestionOutlines.{word_has, new_name_has, new_names_has}
@@ -40,9 +41,9 @@ aim_has v =
     (λ x. has_give _) refl)
     (has_then _ _ _ _ (word_has (codes "best") refl) (λ u. has_then _ _ _ _ (has_then _ _ _ _ (bound_has _) (λ x. has_then _ _ _ _ end_has (λ u. has_give _) refl) refl) (λ x. has_give _) refl) refl) refl
 
-pub sharing_has : Has sharing (one_of (Keyword (codes "secret") ∷ []))
+pub sharing_has : (limits : FileLimits) → Has (sharing limits) (one_of (Keyword (codes "secret") ∷ []))
 unfolding sharing
-sharing_has =
+sharing_has limits =
     has_then _ _ _ _ (word_has (codes "secret") refl) (λ u. has_then _ _ _ _ (has_then _ _ _ _ (new_name_has _ _ _) (λ secret. has_then _ _ _ _ end_has (λ u. has_give _) refl) refl) (λ secret.
     has_then _ _ _ _ (word_has (codes "parties") refl) (λ u. has_then _ _ _ _ (new_names_has _ _ _) (λ all.
     has_then _ _ _ _ (word_has (codes "qualified") refl) (λ u. has_then _ _ _ _ (has_then _ _ _ _ (names_has _) (λ set. has_then _ _ _ _ end_has (λ u. has_give _) refl) refl) (λ first.

@@ -1,5 +1,5 @@
 -- The grammar of sharing files: the secret, the parties, one or more lists of parties who know the secret together, and what is asked.
--- `Name` flags the secret in a list, `Many` a ninth party and the keyword of a list past the limit.
+-- `Name` flags the secret in a list, `Many` a party past the limit and the keyword of a list past it.
 use Rattle.std.specs.Prelude.{ℕ, ◌+◌, ◌-◌, Bool, true, false, List, [], ◌∷◌, ◌++◌, length, codes}
 use Rattle.it_forms.specs.declared.types.Symbol.TheVariants as symbols
 use Rattle.it_syntax.specs.declared.types.Sign.TheVariants.{AtLeast}
@@ -7,7 +7,8 @@ use Rattle.it_syntax.specs.Meaning.{RelationView, multiple_from}
 use Rattle.it_syntax.specs.NamesViews.{NamesView}
 use Rattle.it_syntax.specs.Scopes.{scope_of, Environment, Scope}
 use Rattle.it_syntax.specs.Multiples.{most_terms}
-use Rattle.it_sharing.specs.Parties.{most_parties, most_qualified, party_env}
+use Rattle.it_sharing.specs.Parties.{most_qualified, parties_within, party_env}
+use Rattle.it_question.specs.declared.sizes.FileLimits.{FileLimits}
 use Rattle.it_syntax.specs.LineForms.{names, sum, relation}
 use Rattle.it_question.specs.QuestionForms.{new_name, new_names}
 use Rattle.it_question.specs.NewNames.{Variable, no_names}
@@ -39,16 +40,16 @@ abbrev pub secret_name : Form NamesView
 secret_name = to_end (new_name Variable 1 no_names)
 
 -- the names of the parties, after `parties`, where the secret has its name
-abbrev pub party_names : NamesView → Form NamesView
-party_names secret = new_names Variable (length secret.variables + most_parties) secret
+abbrev pub party_names : FileLimits → NamesView → Form NamesView
+party_names limits secret = new_names Variable (length secret.variables + parties_within limits) secret
 
--- a sharing file, up to its end
-unfoldable pub sharing : Form SharingView
-sharing = do
+-- a sharing file with these limits, up to its end
+unfoldable pub sharing : FileLimits → Form SharingView
+sharing limits = do
   Take (word (codes "secret"))
   secret ← secret_name
   Take (word (codes "parties"))
-  all ← party_names secret
+  all ← party_names limits secret
   Take (word (codes "qualified"))
   first ← to_end (names (party_env all))
   lists ← more_lists (party_env all) (first ∷ [])

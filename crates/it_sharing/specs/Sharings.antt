@@ -7,7 +7,8 @@ use Rattle.it_syntax.specs.NamesViews.{NamesView}
 use Rattle.it_syntax.specs.Meaning.{RelationView}
 use Rattle.it_syntax.specs.Givens.{GivenView, Relation, IsRelationOf}
 use Rattle.it_question.specs.Questions.{Prove, QuestionView}
-use Rattle.it_sharing.specs.Parties.{most_parties, most_qualified}
+use Rattle.it_space.specs.Spaces.{most_variables}
+use Rattle.it_sharing.specs.Parties.{most_qualified}
 use Rattle.it_sharing.specs.AccessStructures.{secret, IsPartySet, minimal_sets, maximal_sets}
 
 -- what a sharing file says: the names, the listed sets in order, whether the least factor is asked for, and the relation
@@ -17,11 +18,11 @@ pub record SharingView : Type 0 where
   pub best : Bool
   pub relation : RelationView
 
--- within the limits: 1 to 8 parties beside the secret, no rates, 1 to 64 listed sets, each a nonempty one of parties, and a relation of
--- the variables
+-- within the limits of any file: a party or more beside the secret, no more variables than a space has, no rates, 1 to 64 listed sets,
+-- each a nonempty one of parties, and a relation of the variables
 pub record IsSharing (x : SharingView) : Type 0 where
   pub some : 2 ≤ length x.names.variables
-  pub few : length x.names.variables ≤ 1 + most_parties
+  pub few : length x.names.variables ≤ most_variables
   pub no_rates : x.names.rates ≡ []
   pub some_listed : 1 ≤ length x.qualified
   pub few_listed : length x.qualified ≤ most_qualified

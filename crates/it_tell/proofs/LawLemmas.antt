@@ -2,6 +2,7 @@
 use Rattle.std.proofs.Common.{◌≡◌, ℕ, ℤ, ◌+◌, inl, inr, List, [], ◌∷◌, ◌++◌, Bool, true, false, Option, Some, None, Ok, option_and_then, codes, length, ◌==◌, refl, ap, sym, subst, ◌∙◌}
 use Rattle.std.specs.List.{zip}
 use Rattle.std.proofs.lemmas.Bool.{true≢false}
+use Rattle.it_question.specs.QuestionLimits.{widest}
 use Rattle.it_outside.specs.Groups.{Groups}
 use Rattle.it_outside.specs.Traffic.{Gains, Gave}
 use Rattle.it_outside.proofs.LawLemmas.{end_comes_last}
@@ -113,7 +114,7 @@ proof_there q options proof = (record { proof = codes "as weights " ++ certifica
 
 point_there : (q : BodyView) (values : List ℤ) → (text : List ℕ) × IsPointText (problem_names q) values text
 unfolding IsPointText
-point_there q values = (codes "as point " ++ values_text (problem_names q) values, inr refl)
+point_there q values = (codes "as point " ++ values_text (problem_names q) values, inr (inr refl))
 
 obligation_there : (q : BodyView) (options : Options) (proof : Form × CertificateView) → (t : Option ProofTexts) × TellsObligation q options proof t
 obligation_there q options proof = let t = proof_there q options proof in (Some t.0, t.1)
@@ -145,8 +146,8 @@ details_there q options (Region rows) = lines_there indented_line (IsMarkedRowTe
 details_there q options (Contained parts proofs) = contained_there q options options.style parts proofs
 details_there q options (Open tried) = ([], refl)
 
-reading_there : (options : Options) (line : List ℕ) (v : LineVerdict) → IsVerdict line v → is_invalid v ≡ false → (x : Reading)
-    → ReadsReport line (Ok x) → (telling : Telling) × IsTelling options line telling
+reading_there : (options : Options) (line : List ℕ) (v : LineVerdict) → IsVerdict widest line v → is_invalid v ≡ false → (x : Reading)
+    → ReadsReport widest line (Ok x) → (telling : Telling) × IsTelling options line telling
 reading_there options line v is accepted (reports.Answered source a) reads =
     let details = details_there (asked source).body options a in
     (Answered source a details.0, (record { verdict = v; is = is; accepted = accepted; reads = reads }, details.1))
@@ -163,9 +164,9 @@ reading_there options line v is accepted (reports.Bounded source b) reads
 reading_there options line v is accepted reports.Misfit reads = (tellings.Misfit, reads)
 
 pub each_line_is_told : EachLineIsTold
-each_line_is_told options line = let judged = (each_line_is_judged 1 line).2 in by_verdict judged.verdict judged.is
+each_line_is_told options line = let judged = (each_line_is_judged widest 1 line).2 in by_verdict judged.verdict judged.is
   where
-    by_verdict : (v : LineVerdict) → IsVerdict line v → (telling : Telling) × IsTelling options line telling
+    by_verdict : (v : LineVerdict) → IsVerdict widest line v → (telling : Telling) × IsTelling options line telling
     by_verdict NotJson is = (tellings.Invalid NotJson, (is, refl))
     by_verdict (Shape key) is = (tellings.Invalid (Shape key), (is, refl))
     by_verdict Skipped is = reading_there options line Skipped is refl is.reading is.reads
@@ -205,33 +206,36 @@ none_claims_nothing q (Contain first second tries) (Open tried) e = tt
 pub told_answers_are_true : ToldAnswersAreTrue
 told_answers_are_true options line source a details (h, lines) = by_verdict h.verdict h.is h.accepted
   where
-    by_verdict : (v : LineVerdict) → IsVerdict line v → is_invalid v ≡ false → IsClaimTrueBy (asked source).body (asked source).body.verb a
+    by_verdict : (v : LineVerdict) → IsVerdict widest line v → is_invalid v ≡ false → IsClaimTrueBy (asked source).body (asked source).body.verb a
     by_verdict NotJson is accepted = absurd (true≢false accepted)
     by_verdict (Shape key) is accepted = absurd (true≢false accepted)
     by_verdict Skipped is accepted =
-        let same = same_read is.reading (reports.Answered source a) (one_reading line (Ok is.reading) (Ok (reports.Answered source a)) is.reads h.reads) in
+        let same = same_read is.reading (reports.Answered source a) (one_reading widest line (Ok is.reading)
+        (Ok (reports.Answered source a)) is.reads h.reads) in
         none_claims_nothing (asked source).body (asked source).body.verb a (subst (λ (x : Reading). IsReadingVerdict x Skipped) same is.verdict)
     by_verdict (Weighed names v) is accepted =
-        let same = same_read is.reading (reports.Answered source a) (one_reading line (Ok is.reading) (Ok (reports.Answered source a)) is.reads h.reads) in
+        let same = same_read is.reading (reports.Answered source a) (one_reading widest line (Ok is.reading)
+        (Ok (reports.Answered source a)) is.reads h.reads) in
         absurd (subst (λ (x : Reading). IsReadingVerdict x (Weighed names v)) same is.verdict)
     by_verdict (OtherCode names s) is accepted = absurd (true≢false accepted)
     by_verdict (Judged names v) is accepted =
-        valid_is_true line names source a (subst (λ (w : Verdict). IsVerdict line (Judged names w)) (not_invalid_is_valid v accepted) is) h.reads
+        valid_is_true widest line names source a (subst (λ (w : Verdict). IsVerdict widest line (Judged names w)) (not_invalid_is_valid v accepted) is) h.reads
     by_verdict (Hulled v) is accepted =
-        let same = same_read is.reading (reports.Answered source a) (one_reading line (Ok is.reading) (Ok (reports.Answered source a)) is.reads h.reads) in
+        let same = same_read is.reading (reports.Answered source a) (one_reading widest line (Ok is.reading)
+        (Ok (reports.Answered source a)) is.reads h.reads) in
         absurd (subst (λ (x : Reading). IsReadingVerdict x (Hulled v)) same is.verdict)
 
 -- what a told no with a code claims is true
 pub told_codes_are_true : ToldCodesAreTrue
 told_codes_are_true options line source back values code details (h, lines) = by_verdict h.verdict h.is h.accepted
   where
-    on_code : (v : LineVerdict) (r : HasReading line v) → IsCodedVerdict (asked source).body (No back values) code v
+    on_code : (v : LineVerdict) (r : HasReading widest line v) → IsCodedVerdict (asked source).body (No back values) code v
     on_code v r =
         let same = same_read r.reading (reports.Coded source (No back values) code)
-        (one_reading line (Ok r.reading) (Ok (reports.Coded source (No back values) code)) r.reads h.reads) in
+        (one_reading widest line (Ok r.reading) (Ok (reports.Coded source (No back values) code)) r.reads h.reads) in
         subst (λ (x : Reading). IsReadingVerdict x v) same r.verdict
 
-    by_verdict : (v : LineVerdict) → IsVerdict line v → is_invalid v ≡ false
+    by_verdict : (v : LineVerdict) → IsVerdict widest line v → is_invalid v ≡ false
         → IsClaimTrue (asked source).body (No back values) × AreEntropies code.code code.times values
     by_verdict NotJson is accepted = absurd (true≢false accepted)
     by_verdict (Shape key) is accepted = absurd (true≢false accepted)
@@ -240,6 +244,6 @@ told_codes_are_true options line source back values code details (h, lines) = by
     by_verdict (Weighed names v) is accepted = absurd (on_code (Weighed names v) is)
     by_verdict (Hulled v) is accepted = absurd (on_code (Hulled v) is)
     by_verdict (Judged names v) is accepted =
-        let true_code = valid_code_is_true line names source back values code
-        (subst (λ (w : Verdict). IsVerdict line (Judged names w)) (not_invalid_is_valid v accepted) is) h.reads in
+        let true_code = valid_code_is_true widest line names source back values code
+        (subst (λ (w : Verdict). IsVerdict widest line (Judged names w)) (not_invalid_is_valid v accepted) is) h.reads in
         (true_code.0, true_code.3)

@@ -7,3 +7,5 @@ pub mod ProofLemmas
 pub mod OrderLemmas
 pub mod OwnLineLemmas
 mod CodeLemmas
+mod AlikeLemmas
+mod ValueLemmas

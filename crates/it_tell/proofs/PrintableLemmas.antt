@@ -17,7 +17,7 @@ use Rattle.it_space.specs.Answers.{AnswerView, CertificateView, answer_view, cer
 use Rattle.it_space.specs.Answers.AnswerView.{Yes, Contained}
 use Rattle.it_problems.specs.Problems.{ProblemView}
 use Rattle.it_space.specs.Rows.{Terms, IsOver}
-use Rattle.it_space.specs.Spaces.{size_of}
+use Rattle.it_space.specs.Spaces.{size_of, most_variables}
 use Rattle.it_space.proofs.OptionLemmas.{some_same}
 use Rattle.it_polymatroid.specs.Certificates.{Form, IsAllowed}
 use Rattle.it_polymatroid.specs.Elementals.{elementals}
@@ -26,7 +26,6 @@ use Rattle.it_elemental.proofs.GeneratorLemmas.{length-listed}
 use Rattle.it_syntax.specs.Meaning.{RelationView}
 use Rattle.it_syntax.specs.NamesViews.{NamesView}
 use Rattle.it_question.specs.Limits.{IsQuestion, IsVerbOver}
-use Rattle.it_question.specs.QuestionLimits.{most_names}
 use Rattle.it_question.specs.OwnLines.{RegionView}
 use Rattle.it_question.specs.Questions.{BodyView, VerbView, Prove, Eliminate, Contain}
 use Rattle.it_question.specs.ProblemLines.{problem_names, names_under}
@@ -173,9 +172,9 @@ module _ (q : BodyView) (k : IsQuestion q) (posed : IsProblemOf q (problem_of q)
   printable_relation r (answers.No back point) about fits is h =
       let own : problem_names q ≡ q.names = ap (names_under q.names) about in
       let size : length point ≡ size_of (space_of (problem_names q)) = subst (λ (ns : NamesView). length point ≡ size_of (space_of ns)) (sym own) h.0 in
-      let few : length (problem_names q).variables ≤ most_names = subst (λ (ns : NamesView). length ns.variables ≤ most_names) (sym own) k.few in
+      let few : length (problem_names q).variables ≤ most_variables = subst (λ (ns : NamesView). length ns.variables ≤ most_variables) (sym own) k.few in
       let few_rates : length (problem_names q).rates ≤ 16 = subst (λ (ns : NamesView). length ns.rates ≤ 16) (sym own) k.few_rates in
-      (omega (arith, size, pow_pos (variable_count q)), omega (arith, size, pow_mono {i = variable_count q} {j = most_names} few, few_rates))
+      (omega (arith, size, pow_pos (variable_count q)), omega (arith, size, pow_mono {i = variable_count q} {j = most_variables} few, few_rates))
   printable_relation r (answers.Undecided cause) about fits is h =
       subst (λ (ns : NamesView). IsCauseOf (length ns.rates) cause) (sym
       (let own : problem_names q ≡ q.names = ap (names_under q.names) about in own)) (cause_of_rates q.names cause h)

@@ -1,3 +1,5 @@
+pub mod Alike
+pub mod Choices
 pub mod CodeTexts
 pub mod SortedRows
 pub mod OwnLines

@@ -5,6 +5,7 @@
 use Rattle.std.specs.Prelude.{◌≡◌, ℕ, ℤ, List, [], ◌++◌, length, Bool, true, false, ◌⊎◌, Ok, codes, decimal, pos, ◌≤ℤ◌, if◌then◌else◌, ◌==◌, Option, Some, None}
 use Rattle.std.specs.Fmt.{signed_decimal}
 use Rattle.std.specs.List.{flat_map, zip}
+use Rattle.it_question.specs.QuestionLimits.{widest}
 use Rattle.it_outside.specs.Groups.{Groups}
 use Rattle.it_space.specs.declared.answers.Mark.{Mark}
 use Rattle.it_space.specs.declared.answers.Mark.TheVariants.{Plain, Needed, Unsettled}
@@ -39,6 +40,7 @@ use Rattle.it_region.specs.AnswerForms.{answer_forms}
 use Rattle.it_report.specs.LineVerdicts.{LineVerdict, is_invalid, numbered_line, verdict_line}
 use Rattle.it_canon.specs.QuestionDemands.{question_origins}
 use Rattle.it_canon.specs.TrueLines.{variable_count}
+use Rattle.it_tell.specs.Alike.{TellsAlike}
 use Rattle.it_tell.specs.OwnLines.{OwnLine, own_line_comment, own_lines}
 use Rattle.it_tell.specs.Settings.{is_plain}
 use Rattle.it_tell.specs.SortedRows.{rows_by_rates}
@@ -111,9 +113,10 @@ MayName Whole named = named ≡ []
 unfoldable pub IsProofText : BodyView → Form × CertificateView → List ℕ → Type 0
 IsProofText q proof text = TellsForm q proof.0 text ⊎ (text ≡ weights_text q (question_origins q) proof.1)
 
--- a point by facts that determine it, or its values as answers have them and said to be that
+-- a point by facts that determine it, or said to be as answers have it: some of its values and maps under which the others are like these,
+-- or all its values
 unfoldable pub IsPointText : NamesView → List ℤ → List ℕ → Type 0
-IsPointText v values text = TellsPoint v values text ⊎ (text ≡ codes "as point " ++ values_text v values)
+IsPointText v values text = TellsPoint v values text ⊎ (TellsAlike v values text ⊎ (text ≡ codes "as point " ++ values_text v values))
 
 -- the text of a proof, and those of its steps
 pub record ProofTexts : Type 0 where
@@ -218,30 +221,30 @@ pub data Telling : Type 0 where
 -- the line reads as this answer to what `source` asks, and its verdict isn't an invalid one
 pub record IsAccepted (line : List ℕ) (source : Source) (answer : AnswerView) : Type 0 where
   pub verdict : LineVerdict
-  pub is : IsVerdict line verdict
+  pub is : IsVerdict widest line verdict
   pub accepted : is_invalid verdict ≡ false
-  pub reads : ReadsReport line (Ok (reports.Answered source answer))
+  pub reads : ReadsReport widest line (Ok (reports.Answered source answer))
 
 -- the line reads as this no with this code, and its verdict isn't an invalid one
 pub record IsAcceptedCode (line : List ℕ) (source : Source) (answer : AnswerView) (code : ReportedCodeView) : Type 0 where
   pub verdict : LineVerdict
-  pub is : IsVerdict line verdict
+  pub is : IsVerdict widest line verdict
   pub accepted : is_invalid verdict ≡ false
-  pub reads : ReadsReport line (Ok (reports.Coded source answer code))
+  pub reads : ReadsReport widest line (Ok (reports.Coded source answer code))
 
 -- the line reads as this region with these origins, and its verdict isn't an invalid one
 pub record IsAcceptedRegion (line : List ℕ) (source : Source) (answer : AnswerView) (origins : List CertificateView) : Type 0 where
   pub verdict : LineVerdict
-  pub is : IsVerdict line verdict
+  pub is : IsVerdict widest line verdict
   pub accepted : is_invalid verdict ≡ false
-  pub reads : ReadsReport line (Ok (reports.Derived source answer origins))
+  pub reads : ReadsReport widest line (Ok (reports.Derived source answer origins))
 
 -- the line reads as what is found of the factors for which `source` asks, and its verdict isn't an invalid one
 pub record IsAcceptedBest (line : List ℕ) (source : Source) (best : BestView) : Type 0 where
   pub verdict : LineVerdict
-  pub is : IsVerdict line verdict
+  pub is : IsVerdict widest line verdict
   pub accepted : is_invalid verdict ≡ false
-  pub reads : ReadsReport line (Ok (reports.Factored source best))
+  pub reads : ReadsReport widest line (Ok (reports.Factored source best))
 
 -- a factor after a word
 abbrev pub factor_words : List ℕ → ℤ → ℤ → List ℕ
@@ -257,9 +260,9 @@ best_words (bests.Undecided cause) = codes "undecided"
 -- the line reads as this outer bound of what `source` asks about, and its verdict isn't an invalid one
 pub record IsAcceptedBound (line : List ℕ) (source : Source) (bounds : BoundsView) : Type 0 where
   pub verdict : LineVerdict
-  pub is : IsVerdict line verdict
+  pub is : IsVerdict widest line verdict
   pub accepted : is_invalid verdict ≡ false
-  pub reads : ReadsReport line (Ok (reports.Bounded source bounds))
+  pub reads : ReadsReport widest line (Ok (reports.Bounded source bounds))
 
 -- the numbers of rows and rays of an outer bound
 unfoldable pub bounds_words : BoundsView → List ℕ
@@ -267,13 +270,13 @@ bounds_words b = codes "outer " ++ decimal (length b.rows) ++ codes " " ++ decim
 
 -- this may be told of the line under these options
 abbrev pub IsTelling : Options → List ℕ → Telling → Type 0
-IsTelling options line (Invalid v) = IsVerdict line v × (is_invalid v ≡ true)
+IsTelling options line (Invalid v) = IsVerdict widest line v × (is_invalid v ≡ true)
 IsTelling options line (Answered source answer details) = IsAccepted line source answer × AreDetails (asked source).body options answer details
 IsTelling options line (Coded source answer code details) = IsAcceptedCode line source answer code × AreDetails (asked source).body options answer details
 IsTelling options line (Derived source answer origins details) = IsAcceptedRegion line source answer origins × AreDetails (asked source).body options answer details
 IsTelling options line (Factored source best) = IsAcceptedBest line source best
 IsTelling options line (Bounded source bounds) = IsAcceptedBound line source bounds
-IsTelling options line Misfit = ReadsReport line (Ok reports.Misfit)
+IsTelling options line Misfit = ReadsReport widest line (Ok reports.Misfit)
 
 -- whether the line is told to be invalid
 abbrev pub tells_invalid : Telling → Bool

@@ -12,7 +12,7 @@ use it_syntax::Names;
 use std::alloc::{AllocError, Global};
 
 /// Writes `separator` if `some`.
-fn write_between(out: &mut Vec<u8>, some: bool, separator: &[u8]) -> Result<(), AllocError>
+pub fn write_between(out: &mut Vec<u8>, some: bool, separator: &[u8]) -> Result<(), AllocError>
     ensures { OnOk result (out.new.items ≡ out.old.items ++ (if some then separator.now else [])) }
 {
     if some {

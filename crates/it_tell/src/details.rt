@@ -1,5 +1,5 @@
 //! The lines below the first one of an answer: proofs and points, and those of regions and containments.
-ghost use Rattle.std.specs.Prelude.{◌≡◌, ◌≤◌, ◌<◌, ◌+◌, ◌^◌, ◌++◌, length, map, codes, IfOk, IfSome, OnOk};
+ghost use Rattle.std.specs.Prelude.{◌≡◌, ◌⊎◌, ◌≤◌, ◌<◌, ◌+◌, ◌^◌, ◌++◌, length, map, codes, IfOk, IfSome, OnOk};
 ghost use Rattle.std.specs.List.{flat_map};
 ghost use Rattle.it_space.specs.Answers.{answer_view, certificate_view};
 ghost use Rattle.it_space.specs.Rows.{value};
@@ -14,10 +14,12 @@ ghost use Rattle.it_certificate.specs.AnswerShapes.{HasQuestionShape};
 ghost use Rattle.it_print.specs.Lines.{AreListed, IsPrintable, origins_of, values_text};
 ghost use Rattle.it_polymatroid.specs.Certificates.{Form};
 ghost use Rattle.it_report.specs.Steps.{IsAboutRelation};
+ghost use Rattle.it_facts.specs.Points.{TellsPoint};
 ghost use Rattle.it_terms.specs.FunctionProofs.{ArePrinted};
 ghost use Rattle.it_tell.specs.Tellings.{ArePrintedSteps, ArePrintedTexts, AreProofSteps, AreProofTexts, IsPointText, IsProofText, indented_line, step_line, weights_text};
 ghost use Rattle.it_tell.specs.Steps.{AppendsDetails, AppendsPoint, AppendsProof, AppendsProofs, AreFormRows, IsListed, IsStyled, proven_form};
 
+use crate::alike::alike_text;
 use crate::containments::{Containment, write_contained};
 use crate::regions::write_rows;
 use crate::settings::{Options, Style, is_plain};
@@ -362,16 +364,54 @@ fn values_of(alloc: Global, question: &Question, point: &Point) -> Result<Vec<u8
     Ok(text)
 }
 
-/// A point by facts that determine it, or as answers have it.
+/// A point by some of its values, where maps say what the others are, or by those that answers have.
 #[tactic(auto, unfolding(crate::specs::Tellings::IsPointText))]
+fn point_by_values(alloc: Global, question: &Question, point: &Point) -> Result<Vec<u8>, AllocError>
+    requires there { length point.now < 2 ^ variable_count question.now.body + length (problem_names question.now.body).rates }
+    requires few { length point.now ≤ most_coordinates }
+    ensures { IfOk result (λ t. IsPointText (problem_names question.now.body) point.now t.items) }
+{
+    match alike_text(alloc, question, point)? {
+        Some(text) => Ok(text),
+        None => values_of(alloc, question, point),
+    }
+}
+
+/// The shorter one of two texts.
+fn shorter(one: Vec<u8>, other: Vec<u8>) -> Vec<u8>
+    ensures { (result.items ≡ one.items) ⊎ (result.items ≡ other.items) }
+{
+    if other.len() < one.len() { other } else { one }
+}
+
+/// A point by `facts` that determine it, or by some of its values, where maps say what the others are and the text is shorter.
+#[tactic(auto, using(crate::proofs::AlikeLemmas::shorter_point), unfolding(crate::specs::Tellings::IsPointText))]
+fn point_by_facts(
+    alloc: Global,
+    question: &Question,
+    point: &Point,
+    facts: Vec<u8>,
+) -> Result<Vec<u8>, AllocError>
+    requires there { length point.now < 2 ^ variable_count question.now.body + length (problem_names question.now.body).rates }
+    requires few { length point.now ≤ most_coordinates }
+    requires tells { TellsPoint (problem_names question.now.body) point.now facts.items }
+    ensures { IfOk result (λ t. IsPointText (problem_names question.now.body) point.now t.items) }
+{
+    match alike_text(alloc, question, point)? {
+        Some(text) => Ok(shorter(facts, text)),
+        None => Ok(facts),
+    }
+}
+
+/// A point by facts that determine it, or by values.
 fn any_point(alloc: Global, question: &Question, point: &Point) -> Result<Vec<u8>, AllocError>
     requires there { length point.now < 2 ^ variable_count question.now.body + length (problem_names question.now.body).rates }
     requires few { length point.now ≤ most_coordinates }
     ensures { IfOk result (λ t. IsPointText (problem_names question.now.body) point.now t.items) }
 {
     match told_point(alloc, question, point)? {
-        Some(text) => Ok(text),
-        None => values_of(alloc, question, point),
+        Some(facts) => point_by_facts(alloc, question, point, facts),
+        None => point_by_values(alloc, question, point),
     }
 }
 

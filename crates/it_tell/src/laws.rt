@@ -1,5 +1,5 @@
 //! What follows from how a call ends and from what may be told, each theorem as the contract of a function.
-ghost use Rattle.it_tell.specs.Laws.{EachLineIsTold, Headline, ToldAnswersAreTrue, ToldCodesAreTrue};
+ghost use Rattle.it_tell.specs.Laws.{EachLineIsTold, Headline, LeftOutAreTold, ToldAnswersAreTrue, ToldCodesAreTrue};
 
 /// What a call that is done has written: what is told of each line of all that the source had.
 pub fn headline()
@@ -22,4 +22,9 @@ pub fn told_answers_are_true()
 /// code's variables, as many times as the line says.
 pub fn told_codes_are_true()
     ensures { ToldCodesAreTrue }
+{}
+
+/// Of a point told by some of its values, each value that an answer's line has is told, or is that of a set whose value is told.
+pub fn left_out_are_told()
+    ensures { LeftOutAreTold }
 {}

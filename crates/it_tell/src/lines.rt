@@ -19,6 +19,7 @@ use crate::settings::Options;
 use it_canon::problem;
 use it_certificate::{Reported, ReportedBounds, ReportedCode, answer_from_json};
 use it_print::write_number;
+use it_question::FileLimits;
 use it_question::types::Question;
 use it_report::{JudgedLine, judge_fault, judge_reported};
 use it_space::Answer;
@@ -111,8 +112,8 @@ fn reported_text(
     }
 }
 
-/// What is told of line `k` of a report; lines are counted from 1, and `line` comes without its end. A line that is judged invalid
-/// is told as mode `check` tells it.
+/// What is told of line `k` of a report, whatever the limits of the files that it is about; lines are counted from 1, and `line` comes
+/// without its end. A line that is judged invalid is told as mode `check` tells it with the widest limits.
 pub fn tell_line(
     alloc: Global,
     options: Options,
@@ -121,7 +122,7 @@ pub fn tell_line(
 ) -> Result<JudgedLine, AllocError>
     ensures { IfOk result (λ t. IsToldLine options k line.now t.text.items t.invalid) }
 {
-    let reported = match answer_from_json(alloc, line) {
+    let reported = match answer_from_json(alloc, line, FileLimits::WIDEST) {
         Ok(reported) => reported,
         Err(fault) => return judge_fault(alloc, k, fault),
     };

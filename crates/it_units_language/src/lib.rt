@@ -8,6 +8,8 @@ mod fixtures;
 #[cfg(test)]
 mod heads;
 #[cfg(test)]
+mod limits;
+#[cfg(test)]
 mod lines;
 #[cfg(test)]
 mod outside;

@@ -9,15 +9,15 @@ use it_contain::{
     Candidate, Contained, Pair, Proposer, Recent, Shape, Singles, Subsets, contain, pair,
 };
 use it_problems::Problem;
-use it_prove::Effort;
-use it_question::questions;
+use it_prove::{Effort, Runs};
 use it_question::types::Verb;
+use it_question::{FileLimits, questions};
 use it_space::{Space, VarSet};
 use std::alloc::Global;
 
 /// The defined run, with as many steps as it takes.
 const DEFINED: Effort = Effort {
-    quick: false,
+    runs: Runs::Defined,
     pivots: None,
 };
 
@@ -219,7 +219,7 @@ fn pair_of_regions(alloc: Global) -> Option<Pair>
     if REGIONS.len() > LONGEST_FILE {
         return None;
     }
-    let asked = questions(alloc, REGIONS).ok()?;
+    let asked = questions(alloc, REGIONS, FileLimits::USUAL).ok()?;
     if asked.len() != 1 {
         return None;
     }

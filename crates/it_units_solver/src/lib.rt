@@ -12,10 +12,14 @@ mod elementals;
 #[cfg(test)]
 mod eliminations;
 #[cfg(test)]
+mod settling;
+#[cfg(test)]
 mod spaces;
 #[cfg(test)]
 mod spans;
 #[cfg(test)]
 mod symmetries;
+#[cfg(test)]
+mod systems;
 #[cfg(test)]
 mod tableaus;

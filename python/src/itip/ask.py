@@ -35,6 +35,7 @@ Answers question files in the field's own notation (docs/guide/ask.md); - is sta
 --pivots N   at most N steps for each run with Bland's rule, or none; what is undecided then isn't asked anew
 --rows N     at most N rows in an elimination, or in a step of an outer bound
 --tries N    at most N candidates in a containment, or rays of an outer bound
+--names N    up to N names in a question, from 10 to 16, with tables of any size; without it ten
 --made       the question file that a file with less to write makes, in the place of answers
 --version    which program this is
 """
@@ -43,7 +44,7 @@ MODES = ("copy", "best", "sharing", "outer")
 REPORTS: dict[str, tuple[str, ...]] = {"answer": ("--format", "json"), "outer": ()}  # the words for a report; the lines of `outer` have marks
 FEW_STEPS = "100"
 THEN = "  # then yes"  # behind what makes a yes of a no
-SETTINGS = ("--run", "--pivots", "--rows", "--tries")
+SETTINGS = ("--run", "--pivots", "--rows", "--tries", "--names")
 WORDS = bytes(code if bytes([code]).isalnum() or code == ord("_") else ord(" ") for code in range(256))  # all but words as blanks
 
 
@@ -249,7 +250,9 @@ class Asker:
 
         found = decoded(line)
         said, coded = linear.told(found)
-        verdict = run([self.prover, "check"], coded + "\n")[1] if coded else "1 valid\n"
+        names = self.words.settings.get("--names", "")
+        check = [self.prover, "check", *(["--names", names] if names else [])]
+        verdict = run(check, coded + "\n")[1] if coded else "1 valid\n"
         if verdict != "1 valid\n":
             say(f"{name}, question {number}: itip check finds of the code: {verdict.partition(' ')[2].strip()}")
             return [linear.NONE]
@@ -365,9 +368,10 @@ class Asker:
         line = [*as_bytes(text).split(b"\n"), b""][number - 1].removesuffix(b"\r")
         show(*(f"    {as_text(part)}" for part in explained(self.docs, word, line, column)))
         if word in ("many", "large"):
-            from .limits import passed
+            from .limits import MOST_NAMES, passed
 
-            counted = passed(questions.text, word, *map(int, place.split(":")))
+            names = int(self.words.settings.get("--names", MOST_NAMES))
+            counted = passed(questions.text, word, *map(int, place.split(":")), names)
             if counted:
                 show(f"    {counted}")
 

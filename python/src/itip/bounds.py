@@ -13,11 +13,11 @@ from typing import Any, NamedTuple, Optional
 from .answers import Answer, No, Yes, read
 from .copies import Copy, copied
 from .errors import Forged, ItipError, NotationError
-from .evidence import Certificate, Point, generator_numbers, point
+from .evidence import Certificate, Generators, Point, point
 from .latex import WIDTH, aligned
 from .modes import asking, proof_of, report_line
 from .notation import Assumption, Names, Rate, Relation, Sum
-from .outer import BoundLines, Numbers, RayLine, RowLine, authored, failing, in_order, numbers_of, rate_sums, read_bound, why_open
+from .outer import BoundLines, Numbers, RayLine, RowLine, authored, failing, in_order, rate_sums, read_bound, why_open
 from .polygons import Polygon, Values, polygon
 from .program import Budget, Itip, default
 from .questions import Eliminate, Given, Prove, Question, listed, named, with_rates, without_rates
@@ -167,7 +167,7 @@ class Naming(NamedTuple):
 
         Where a rate only names a sum, its line adds nothing once the sum stands in its place: so such lines go from the proof.
         """
-        found = proof_of(row.proof, generator_numbers(self.plain))
+        found = proof_of(row.proof, Generators(self.plain))
         multiple = lcm(*(number.denominator for side in (relation.left, relation.right) for number, _ in side.terms))
         proof = {
             "scale": str(int(found["scale"]) * gcd(*row.numbers)),
@@ -179,7 +179,7 @@ class Naming(NamedTuple):
 
     def attained(self, ray: RayLine, program: Itip) -> No:
         """The answer that has the ray's point, at which something plainly fails."""
-        values = point(numbers_of(ray.values), self.question.variables, self.question.rates).values
+        values = point(ray.values, self.question.variables, self.question.rates).values
         own = [str(value) for key, value in values.items() if not isinstance(key, str) or key in self.plain.rates]
         answer = self._answer("no", Prove(failing(ray.numbers, self.kept)), program, point=own, side="forward")
         assert isinstance(answer, No)
@@ -241,7 +241,7 @@ def bound_words(program: Itip, pivots: Budget, most_rows: int = 512, most_rays: 
     settings = {"--run": program.run, "--rows": most_rows, "--tries": most_rays}
     if budget != "usual":
         settings["--pivots"] = "none" if budget is None else budget
-    return tuple(str(word) for pair in settings.items() for word in pair)
+    return (*(str(word) for pair in settings.items() for word in pair), *program.name_words())
 
 
 def bound_lines(asked: Naming, program: Itip, words: Names) -> list[str]:

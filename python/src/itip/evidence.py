@@ -3,19 +3,21 @@
 from __future__ import annotations
 
 import html
-from collections.abc import Iterator, Mapping, Sequence
+import re
+from collections.abc import Collection, Iterator, Mapping, Sequence
 from dataclasses import dataclass, field
 from fractions import Fraction
-from functools import lru_cache
 from itertools import combinations
 from math import comb, lcm
-from typing import Tuple
+from typing import Optional, Tuple
 
 from .errors import Forged, NotationError
+from .limits import MOST_NAMES
 from .notation import Atom, Entropy, Key, Names, Rate, Relation, Sum, Term
 from .questions import Question
 
 Proof = Tuple[int, Tuple[Tuple[int, int], ...]]  # the scale, and numbers of generators with their weights
+ELEMENTAL = re.compile(r"[HI]\((\w+)(?:;(\w+))?(?:\|([\w,]+))?\)")
 
 
 @dataclass(frozen=True)
@@ -72,6 +74,28 @@ def elemental(names: Names, number: int) -> Entropy:
     return Entropy((first,), (second,), subset(others, chosen))
 
 
+def elemental_number(names: Names, text: str) -> Optional[int]:
+    """The number of an elemental inequality in reports, by its text; None where it is none of these variables.
+
+    >>> [elemental_number(("X", "Y", "Z"), text) for text in ("H(Y|X,Z)", "I(X;Z|Y)", "H(Y)")]
+    [1, 6, None]
+    """
+    found = ELEMENTAL.fullmatch(text)
+    members = [part.split(",") if part else [] for part in found.groups()] if found else []
+    if not found or not all(name in names for part in members for name in part):
+        return None
+    (first,), second, given = members
+    number = names.index(first)
+    if second:
+        pairs = list(combinations(names, 2))
+        others = [name for name in names if name not in (first, *second)]
+        if (first, *second) not in pairs or not all(name in others for name in given):
+            return None
+        chosen = sum(1 << others.index(name) for name in given)
+        number = len(names) + (pairs.index((first, *second)) << (len(names) - 2)) + chosen
+    return number if elemental(names, number).text() == text else None
+
+
 def subset(names: Sequence[str], number: int) -> Names:
     """A set by its number: the sum of 2**i over its members.
 
@@ -100,16 +124,22 @@ def line_generators(question: Question) -> list[Generator]:
     return found
 
 
-def generator_numbers(question: Question) -> dict[str, int]:
-    """The numbers of generators in reports, by their names."""
-    elementals = elemental_numbers(question.variables)
-    return {**elementals, **{generator.name: number for number, generator in enumerate(line_generators(question), len(elementals))}}
+class Generators:
+    """What adds up to proofs of a question: elemental inequalities, and then what its lines say, by names and by numbers in reports."""
 
+    def __init__(self, question: Question) -> None:
+        self._variables = question.variables
+        self._lines = [generator.name for generator in line_generators(question)]
+        self._first = elemental_count(len(question.variables))
 
-@lru_cache(maxsize=1)
-def elemental_numbers(names: Names) -> Mapping[str, int]:
-    """The numbers of elemental inequalities, by their texts: many proofs of a bound are about the same variables."""
-    return {elemental(names, number).text(): number for number in range(elemental_count(len(names)))}
+    def number(self, name: str) -> Optional[int]:
+        """The number of the generator of this name; None where it names none."""
+        if name in self._lines:
+            return self._first + self._lines.index(name)
+        return elemental_number(self._variables, name)
+
+    def name(self, number: int) -> str:
+        return self._lines[number - self._first] if number >= self._first else elemental(self._variables, number).text()
 
 
 def certificates(question: Question, relation: Relation, proofs: Sequence[Proof]) -> Iterator[Certificate]:
@@ -145,14 +175,19 @@ class Point:
         return total
 
     def text(self) -> str:
+        """The values as lines have them: with more names than usual those of the rates and of closed sets, which each further variable
+        raises; any other set has the value of the least of them around it."""
         return " ".join(f"{name}={value}" for name, value in self._named())
 
     def _named(self) -> Iterator[tuple[str, int]]:
         for key, value in self.values.items():
             if isinstance(key, str):
                 yield key, value
-            else:
-                yield "h(" + ",".join(name for name in self.variables if name in key) + ")", value
+            elif len(self.variables) <= MOST_NAMES or self._is_closed(key):
+                yield set_text(self.variables, key), value
+
+    def _is_closed(self, members: frozenset[str]) -> bool:
+        return all(self.values[members] < self.values[members | {name}] for name in self.variables if name not in members)
 
     def __repr__(self) -> str:
         return self.text()
@@ -170,6 +205,25 @@ def point(numbers: Sequence[int], variables: Names, rates: Names) -> Point:
     if len(numbers) != len(keys):
         raise Forged(f"the point has {len(numbers)} values, and {len(keys)} are due")
     return Point(variables, dict(zip(keys, numbers)))
+
+
+def set_text(variables: Names, members: Collection[str]) -> str:
+    return "h(" + ",".join(name for name in variables if name in members) + ")"
+
+
+def told_point(text: str, variables: Names, rates: Names) -> Point:
+    """A point as lines have it (`Point.text`).
+
+    >>> told_point("h(X)=1 h(Y)=2 h(X,Y)=3 R=4", ("X", "Y"), ("R",))
+    h(X)=1 h(Y)=2 h(X,Y)=3 R=4
+    """
+    told = {name: int(value) for name, value in re.findall(r"(h\([^)]*\)|\w+)=(-?[0-9]+)", text)}
+    count = len(variables)
+    values = [0] * 2**count
+    for number in range(2**count - 1, 0, -1):
+        around = (values[number | 1 << place] for place in range(count) if not number >> place & 1)
+        values[number] = told.get(set_text(variables, subset(variables, number)), min(around, default=0))
+    return point([*values[1:], *(told.get(rate, 0) for rate in rates)], variables, rates)
 
 
 def row(pairs: Sequence[tuple[int, int]], variables: Names, rates: Names) -> Sum:

@@ -19,22 +19,27 @@ if TYPE_CHECKING:
 
 NAME = re.compile("[A-Za-z][A-Za-z0-9_]*")
 SIGNS = re.compile("<=|>=|=|[-+]")
+MOST_NAMES = 10  # of a question where nothing else is said, and of a containment
+MOST_PARTIES = 8
 MOST_ENTRIES = 4_000_000
 VERBS = {"prove": "prove 0 >= 0", "eliminate": "eliminate R", "contain": "contain"}
 
 
-def passed(text: str, word: str, number: int, column: int) -> str:
-    """`variables of this question: 11, of at most 10` for a refusal at a place of a file. Nothing where no count is past its limit."""
+def passed(text: str, word: str, number: int, column: int, names: int = MOST_NAMES) -> str:
+    """`variables of this question: 11, of at most 10` for a refusal at a place of a file. Nothing where no count is past its limit.
+
+    `names` is how many variables a question may name.
+    """
     lines = [line.partition("#")[0].replace("\t", " ").rstrip(" \r") for line in text.split("\n")]
     if word not in ("many", "large") or number > len(lines):
         return ""
-    if word == "large":
+    if word == "large" and _word(lines[number - 1]) != "region":
         return _entries(lines, number)
-    counts = _counts(lines, number, column)
+    counts = _counts(lines, number, column, names)
     return next((f"{what}: {count:,}, of at most {most:,}" for what, count, most in counts if count > most), "")
 
 
-def _counts(lines: Sequence[str], number: int, column: int) -> Iterator[Count]:
+def _counts(lines: Sequence[str], number: int, column: int, names: int) -> Iterator[Count]:
     """What a line may have too many of, by its first word, beginning with what is at the place."""
     line = lines[number - 1]
     first, named = _word(line), line.strip()[len(_word(line)) :]
@@ -45,11 +50,13 @@ def _counts(lines: Sequence[str], number: int, column: int) -> Iterator[Count]:
     question = lines[begin:end]
     if first == "vars":
         yield "questions of this file", _many(lines, first), 1000
-        yield "variables of this question", len(NAME.findall(named)), 10
+        yield "variables of this question", len(NAME.findall(named)), names
+    elif first == "region":
+        yield "variables of a question about regions", sum(len(NAME.findall(one)) - 1 for one in question[:1]), MOST_NAMES
     elif first == "aux":
         yield "auxiliaries of this region", len(NAME.findall(named)), 4
         variables = [name for one in question[:1] for name in NAME.findall(one)[1:]]
-        yield "variables of this region, with its auxiliaries", len(variables) + len(NAME.findall(named)), 10
+        yield "variables of this region, with its auxiliaries", len(variables) + len(NAME.findall(named)), MOST_NAMES
     elif first == "rates":
         yield "rates of this question", len(NAME.findall(named)), 16
     elif first in ("given", "row", "try", "prove", "best"):
@@ -60,7 +67,7 @@ def _counts(lines: Sequence[str], number: int, column: int) -> Iterator[Count]:
         yield "copies of this head", _many(lines, first), 4
         yield "names of this set", len(NAME.findall(named.partition(" over ")[2])), 4
     elif first == "parties":
-        yield "parties", len(NAME.findall(named)), 8
+        yield "parties", len(NAME.findall(named)), MOST_PARTIES if names == MOST_NAMES else names - 1
     elif first == "qualified":
         yield "`qualified` lines of this file", _many(lines, first), 64
 

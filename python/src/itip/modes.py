@@ -10,7 +10,7 @@ from typing import Any, NamedTuple
 
 from .copies import copied, read_copies
 from .errors import Forged
-from .evidence import generator_numbers, point
+from .evidence import Generators, point
 from .questions import Prove, Question, parse
 from .reports import cut, decoded
 
@@ -128,16 +128,17 @@ def yes_by(question: Question, proofs: list[dict[str, Any]]) -> Shown:
 
 def weights_text(proof: Mapping[str, Any], question: Question) -> str:
     """A proof `L : w G + ..`."""
-    names = {number: name for name, number in generator_numbers(question).items()}
-    terms = " + ".join(f"{weight} {names[number]}" for number, weight in proof["weights"])
+    generators = Generators(question)
+    terms = " + ".join(f"{weight} {generators.name(number)}" for number, weight in proof["weights"])
     return f"{proof['scale']} : {terms or '0'}"
 
 
-def proof_of(text: str, numbers: dict[str, int]) -> dict[str, Any]:
+def proof_of(text: str, generators: Generators) -> dict[str, Any]:
     """The proof that such a text tells; a generator without a number says nothing."""
     scale, _, terms = text.partition(" : ")
     weighed = [term.split(" ", 1) for term in terms.split(" + ") if term != "0"]
-    return {"scale": scale, "weights": [[numbers[name], weight] for weight, name in weighed if name in numbers]}
+    numbered = [(generators.number(name), weight) for weight, name in weighed]
+    return {"scale": scale, "weights": [[number, weight] for number, weight in numbered if number is not None]}
 
 
 def no_at(question: Question, numbers: list[str], side: str = "forward") -> Shown:

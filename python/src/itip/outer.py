@@ -10,7 +10,7 @@ from math import gcd
 from typing import NamedTuple, Tuple, Union
 
 from .errors import Forged, NotationError
-from .evidence import generator_numbers, point
+from .evidence import Generators, told_point
 from .modes import Shown, asking, no_at, proof_of, yes_by
 from .notation import Names, Rate, Relation, Sum
 from .questions import Eliminate, Prove, Question
@@ -33,10 +33,10 @@ class RowLine(NamedTuple):
 
 
 class RayLine(NamedTuple):
-    """A ray by its rates that stay, with the values as the line has them."""
+    """A ray by its rates that stay, with the values of its point in the order of reports."""
 
     numbers: Numbers
-    values: str
+    values: Numbers
 
 
 class BoundLines(NamedTuple):
@@ -116,25 +116,21 @@ def _ray(line: str, question: Question, rates: Names) -> RayLine:
     found = RAY.fullmatch(line)
     if not found:
         raise Forged(f"this is no ray: {line[:200]}")
-    at = point(numbers_of(found[2]), question.variables, question.rates)
+    at = told_point(found[2], question.variables, question.rates)
     own = [at.values[name] for name in rates]
     divisor = gcd(*own)
     lowest = tuple(number // divisor for number in own) if divisor else ()
     if not lowest or found[1] != " ".join(f"{name}={number}" for name, number in zip(rates, lowest)) or found[2] != at.text():
         raise Forged(f"these aren't the rates of its values in lowest terms: {line[:200]}")
-    return RayLine(lowest, found[2])
-
-
-def numbers_of(values: str) -> list[int]:
-    """The numbers of values `h(X)=1 ..`, in order."""
-    return [int(number) for number in re.findall("=(-?[0-9]+)", values)]
+    return RayLine(lowest, tuple(at.values.values()))
 
 
 def why_open(answer: Sequence[str]) -> str:
     """Why more steps may say more of an answer: it is undecided by steps, or a row is unsettled. Nothing where they can't."""
     if any(" row unsettled " in line for line in answer):
         return UNSETTLED
-    return UNDECIDED if answer[0].split(" ")[1:3] == ["undecided", "pivots"] else ""
+    # (without a step the run that takes them is out of reach)
+    return UNDECIDED if re.match("[0-9]+ undecided pivots [1-9]", answer[0]) else ""
 
 
 # What shows a bound
@@ -143,13 +139,13 @@ def why_open(answer: Sequence[str]) -> str:
 def row_shown(question: Question, row: RowLine) -> Shown:
     """A row is what the question's lines prove."""
     asked = asking(question, Prove(authored(row.numbers, rate_sums(staying(question)))))
-    return yes_by(asked, [proof_of(row.proof, generator_numbers(asked))])
+    return yes_by(asked, [proof_of(row.proof, Generators(asked))])
 
 
 def ray_shown(question: Question, ray: RayLine) -> Shown:
     """A ray's values make the question's lines true: so they are a point at which what plainly fails there isn't proved."""
     asked = asking(question, Prove(failing(ray.numbers, rate_sums(staying(question)))))
-    return no_at(asked, re.findall("=(-?[0-9]+)", ray.values))
+    return no_at(asked, list(map(str, ray.values)))
 
 
 def failing(numbers: Numbers, sums: Sequence[Sum]) -> Relation:

@@ -193,9 +193,11 @@ class Paper:
             self.parts.append(self._code(text))
             return
         is_point = text.startswith("as point ")
-        lines = self._point(text[len("as point ") :]) if is_point else self._facts(text)
+        values, _, maps = text.removeprefix("as point ").partition(" alike ") if is_point else (text, "", "")
+        lines = self._point(values) if is_point else self._facts(values)
         if lines:
             self.parts.append("\\begin{align*}\n  " + lines + "\n\\end{align*}")
+            self.parts += [self._maps(maps)] if maps else []
         else:
             self._put_letters(line)
 
@@ -215,6 +217,12 @@ class Paper:
         written = [f"{formula(left, self.names)} &= {right}" for left, right, *_ in pairs]
         lines = [written[place : place + columns] for place in range(0, len(written), columns)]
         return ", \\\\\n  ".join(map(", & ".join, lines))
+
+    def _maps(self, text: str) -> str:
+        """The maps of names that take sets to sets of the same value, as a sentence."""
+        maps = [[move.split("->") for move in moves.split()] for moves in text.split(", ")]
+        written = ["$" + r",\ ".join(rf"{formula(x, self.names)} \mapsto {formula(y, self.names)}" for x, y in moves) + "$" for moves in maps]
+        return "Each set has the value of its image under " + " and under ".join(written) + "."
 
     def _code(self, text: str) -> str:
         """A linear code, or why there is none, as a sentence."""

@@ -44,7 +44,8 @@ class Itip:
     `home` is the repository: without it ITIP_HOME, or the folders around this package. `prover` and `teller` are paths of the
     programs, where they lie elsewhere. `run` is "quick" or "bland": with "bland" each answer is the one that docs/guide/answers.md fixes.
     `pivots` is the budget of steps of each defined run, None for none; "usual" is that of the program, and what stays undecided by
-    it is asked once more without a budget, as `./ask` does. `timeout` is how many seconds one call of a program may take. With
+    it is asked once more without a budget, as `./ask` does. `names` is how many variables a question may name, from 10 to 16, with tables
+    of any size; without it they are ten at most. `timeout` is how many seconds one call of a program may take. With
     `judge` each answer goes through `itip check` before it is handed out.
     """
 
@@ -53,6 +54,7 @@ class Itip:
     teller: Optional[AnyPath] = None
     run: str = "quick"
     pivots: Budget = "usual"
+    names: Optional[int] = None
     timeout: Optional[float] = None
     judge: bool = False
     calls: int = field(default=0, init=False, compare=False)
@@ -132,7 +134,7 @@ class Itip:
 
     def _judged(self, text: str, budget: Budget, words: Sequence[str], mode: Sequence[str]) -> list[str]:
         pivots = [] if budget == "usual" else ["--pivots", "none" if budget is None else str(budget)]
-        lines = self.itip([*mode, "--run", self.run, *pivots, *words], text).splitlines()
+        lines = self.itip([*mode, "--run", self.run, *pivots, *self.name_words(), *words], text).splitlines()
         if self.judge:
             for line, verdict in zip(lines, self.check(lines)):
                 if verdict.startswith("invalid"):
@@ -146,9 +148,13 @@ class Itip:
             raise ProgramFailed(f"one question got {len(lines)} answers")
         return lines[0]
 
+    def name_words(self) -> list[str]:
+        """The words for how many variables a question may name."""
+        return [] if self.names is None else ["--names", str(self.names)]
+
     def check(self, report: Sequence[str]) -> list[str]:
         """The verdict of `itip check` on each line of a report: `valid`, `skipped`, or `invalid` and why."""
-        written = self.itip(["check"], "".join(line + "\n" for line in report)).splitlines()
+        written = self.itip(["check", *self.name_words()], "".join(line + "\n" for line in report)).splitlines()
         verdicts = [line.partition(" ")[2] for line in written]
         if len(verdicts) != len(report):
             raise ProgramFailed(f"{len(report)} lines got {len(verdicts)} verdicts")

@@ -32,7 +32,9 @@ def why_open(line: str) -> str:
     """Why more steps may say more: the answer is undecided by steps, or a row is unsettled. Nothing where they can't."""
     if line.startswith('{"answer":"region"'):
         return UNSETTLED if '"mark":"unsettled"' in line else ""
-    return UNDECIDED if line.startswith('{"answer":"undecided"') and '"cause":"pivots"' in line else ""
+    # (without a step the run that takes them is out of reach)
+    is_open = line.startswith('{"answer":"undecided"') and '"cause":"pivots"' in line and '"at":"0",' not in line
+    return UNDECIDED if is_open else ""
 
 
 def batches(questions: Sequence[str]) -> Iterator[list[str]]:

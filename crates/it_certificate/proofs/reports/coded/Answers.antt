@@ -6,7 +6,7 @@ use Rattle.it_certificate.proofs.reports.coded.Goals as goal
 
 pub returns-in-Ok-question_code-clause-reading : goal.returns-in-Ok-question_code-clause-reading
 returns-in-Ok-question_code-clause-reading c =
-    code_ok (view c.args.value.now) c.requires.told c.requires.outer c.requires.factors c.requires.code c.in_ok-question.question
+    code_ok c.args.limits (view c.args.value.now) c.requires.told c.requires.outer c.requires.factors c.requires.code c.in_ok-question.question
     c.in_ok-question.ensures.reading
     c.in-Ok.answer c.in-Ok-question_code.code c.in-Ok.ensures c.in-Ok-question_code.ensures
 
@@ -19,6 +19,6 @@ returns-in-Ok-question_code-clause-limits c = (
 
 pub returns-in-Err-question_code-clause-reading : goal.returns-in-Err-question_code-clause-reading
 returns-in-Err-question_code-clause-reading c =
-    code_err (view c.args.value.now) c.requires.told c.requires.outer c.requires.factors c.requires.code c.in_ok-question.question
+    code_err c.args.limits (view c.args.value.now) c.requires.told c.requires.outer c.requires.factors c.requires.code c.in_ok-question.question
     c.in_ok-question.ensures.reading
     c.in-Ok.answer c.in-Err-question_code.fault c.in-Ok.ensures c.in-Err-question_code.ensures

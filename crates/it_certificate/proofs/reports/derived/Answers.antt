@@ -7,7 +7,7 @@ use Rattle.it_certificate.proofs.reports.derived.Goals as goal
 
 pub returns-in-Ok-answer_origins-clause-reading : goal.returns-in-Ok-answer_origins-clause-reading
 returns-in-Ok-answer_origins-clause-reading c =
-    origins_ok (view c.args.value.now) c.requires.told c.requires.outer c.requires.factors c.requires.code c.requires.origins
+    origins_ok c.args.limits (view c.args.value.now) c.requires.told c.requires.outer c.requires.factors c.requires.code c.requires.origins
     c.in_ok-question.question c.in_ok-question.ensures.reading
     c.in-Ok.answer c.in-Ok.ensures c.in-Ok-answer_origins.origins c.in-Ok-answer_origins.ensures
 
@@ -20,6 +20,6 @@ returns-in-Ok-answer_origins-clause-limits c = (
 
 pub returns-in-Err-answer_origins-clause-reading : goal.returns-in-Err-answer_origins-clause-reading
 returns-in-Err-answer_origins-clause-reading c =
-    origins_err (view c.args.value.now) c.requires.told c.requires.outer c.requires.factors c.requires.code c.requires.origins
+    origins_err c.args.limits (view c.args.value.now) c.requires.told c.requires.outer c.requires.factors c.requires.code c.requires.origins
     c.in_ok-question.question c.in_ok-question.ensures.reading
     c.in-Ok.answer c.in-Ok.ensures c.in-Err-answer_origins.fault c.in-Err-answer_origins.ensures

@@ -6,7 +6,7 @@ use Rattle.it_certificate.proofs.reports.factored.Goals as goal
 
 pub returns-in-Ok-clause-reading : goal.returns-in-Ok-clause-reading
 returns-in-Ok-clause-reading c =
-    best_ok (view c.args.value.now) c.requires.told c.requires.outer c.args.kind c.requires.factors c.in_ok-question.question c.in-Ok.best
+    best_ok c.args.limits (view c.args.value.now) c.requires.told c.requires.outer c.args.kind c.requires.factors c.in_ok-question.question c.in-Ok.best
     c.in_ok-question.ensures.reading c.in-Ok.ensures
 
 pub returns-in-Ok-clause-limits : goal.returns-in-Ok-clause-limits

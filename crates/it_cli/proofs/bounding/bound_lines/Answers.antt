@@ -14,9 +14,9 @@ use Rattle.it_cli.proofs.bounding.bound_lines.Goals as goal
 pub returns-then-report : goal.returns-then-report
 returns-then-report c =
     let q = c.args.question.now in
-    subst (λ (b : Bool). IfOk c.reply_report.result (λ t. IsTextOf (outer_mode b c.args.limits) [] c.args.k q t.items)) (sym c.if-report.true)
+    subst (λ (b : Bool). IfOk c.reply_report.result (λ t. IsTextOf (outer_mode c.args.file b c.args.limits) [] c.args.k q t.items)) (sym c.if-report.true)
     (if_ok c.reply_report.result (λ t. IsToldReport c.args.limits q (reply_view c.in_ok-replied.replied.reply) t.items)
-    (λ t. IsTextOf (outer_mode true c.args.limits) [] c.args.k q t.items) c.reply_report.ensures (λ t told. record {
+    (λ t. IsTextOf (outer_mode c.args.file true c.args.limits) [] c.args.k q t.items) c.reply_report.ensures (λ t told. record {
       reply = record { reply = reply_view c.in_ok-replied.replied.reply; steps = told.0 };
       right = record { reply = c.in_ok-replied.ensures.right; steps = told.1 };
       is = told.2;
@@ -25,11 +25,11 @@ returns-then-report c =
 pub returns : goal.returns
 returns c =
     let q = c.args.question.now.body in
-    subst (λ (b : Bool). IfOk c.reply_lines.result (λ t. IsTextOf (outer_mode b c.args.limits) [] c.args.k
+    subst (λ (b : Bool). IfOk c.reply_lines.result (λ t. IsTextOf (outer_mode c.args.file b c.args.limits) [] c.args.k
     c.args.question.now t.items)) (sym c.if-report.false)
     (if_ok c.reply_lines.result (λ t. t.items ≡ reply_lines c.args.limits c.args.k q (origins_of c.constraints.result.now)
     (reply_view c.in_ok-replied.replied.reply))
-    (λ t. IsTextOf (outer_mode false c.args.limits) [] c.args.k c.args.question.now t.items) c.reply_lines.ensures (λ t is. record {
+    (λ t. IsTextOf (outer_mode c.args.file false c.args.limits) [] c.args.k c.args.question.now t.items) c.reply_lines.ensures (λ t is. record {
       reply = record { reply = reply_view c.in_ok-replied.replied.reply; steps = None };
       right = record { reply = c.in_ok-replied.ensures.right; steps = refl };
       is = is ∙ ap (λ cs. reply_lines c.args.limits c.args.k q (origins_of cs) (reply_view c.in_ok-replied.replied.reply))

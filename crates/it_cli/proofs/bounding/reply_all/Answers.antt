@@ -7,19 +7,19 @@ use Rattle.it_cli.proofs.RightLemmas.{question_at}
 use Rattle.it_cli.proofs.bounding.reply_all.Goals as goal
 
 pub loop-i-init : goal.loop-i-init
-loop-i-init g c = (([], none_replied (outer_mode c.args.report c.args.limits) _ _), refl)
+loop-i-init g c = (([], none_replied (outer_mode c.args.file c.args.report c.args.limits) _ _), refl)
 
 pub returns-in_default : goal.returns-in_default
 returns-in_default g c bytes asked = (
   c.loop-i.invariant.1,
   inr (first_replied
-      (outer_mode c.args.report c.args.limits) _ _ bytes _ c.loop-i.i c.loop-i.invariant.0.0 asked c.loop-i.invariant.0.1),
+      (outer_mode c.args.file c.args.report c.args.limits) _ _ bytes _ c.loop-i.i c.loop-i.invariant.0.0 asked c.loop-i.invariant.0.1),
 )
 
 pub returns-in_default-write_all : goal.returns-in_default-write_all
 returns-in_default-write_all g c bytes asked = (
   c.in_default-write_all.ensures.counted ∙ ap next_count c.loop-i.invariant.1,
-  inr (replies_stop (outer_mode c.args.report c.args.limits) _ _ _ bytes
+  inr (replies_stop (outer_mode c.args.file c.args.report c.args.limits) _ _ _ bytes
       c.args.questions.now c.loop-i.i c.loop-i.invariant.0.0
       c.index-questions-i.result c.in-Ok.ensures.reply c.in-Ok.text.items c.as_slice.result.now asked c.loop-i.invariant.0.1
       (omega arith) (question_at c.args.questions.now c.loop-i.i c.index-questions-i.result
@@ -31,7 +31,7 @@ pub loop-i-preserved : goal.loop-i-preserved
 loop-i-preserved g c = (
   (
     c.loop-i.invariant.0.0 ++ c.in-Ok.ensures.reply ∷ [],
-    replies_more (outer_mode c.args.report c.args.limits) _ _ _ c.args.questions.now c.loop-i.i c.loop-i.invariant.0.0
+    replies_more (outer_mode c.args.file c.args.report c.args.limits) _ _ _ c.args.questions.now c.loop-i.i c.loop-i.invariant.0.0
         c.index-questions-i.result c.in-Ok.ensures.reply c.in-Ok.text.items c.as_slice.result.now c.loop-i.invariant.0.1
         (omega arith) (question_at c.args.questions.now c.loop-i.i
         c.index-questions-i.result (omega arith) c.index-questions-i.is) c.in-Ok.ensures.right c.in-Ok.ensures.is
@@ -43,6 +43,6 @@ loop-i-preserved g c = (
 pub returns : goal.returns
 returns g c bytes asked = (
   c.loop-i.invariant.1,
-  all_replied (outer_mode c.args.report c.args.limits) _ _ bytes _ c.loop-i.i
+  all_replied (outer_mode c.args.file c.args.report c.args.limits) _ _ bytes _ c.loop-i.i
       c.loop-i.invariant.0.0 asked c.loop-i.invariant.0.1 (omega arith),
 )

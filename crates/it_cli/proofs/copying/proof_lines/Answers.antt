@@ -9,7 +9,8 @@ use Rattle.it_cli.proofs.copying.proof_lines.Goals as goal
 
 pub text_lines-requires : goal.text_lines-requires
 text_lines-requires c = record {
-  printable = right_is_printable _ _ c.args.question.now.body _ c.in_ok-answered.answered.answer c.in_ok-answered.ensures.answered.found c.facts.ensures
+  printable = right_is_printable (record { effort = c.args.effort; rows = 1; tries = 1 }) _ c.args.question.now.body _
+      c.in_ok-answered.answered.answer c.in_ok-answered.ensures.answered.found c.facts.ensures
       (few_constraints c.args.question.now.body c.in_ok-answered.answered.problem.space
       c.in_ok-answered.answered.problem.constraints c.in_ok-answered.ensures.problem)
       c.in_ok-answered.ensures.answered.right;

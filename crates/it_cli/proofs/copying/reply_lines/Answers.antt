@@ -10,11 +10,11 @@ use Rattle.it_cli.proofs.copying.reply_lines.Goals as goal
 
 pub returns-in-Ok : goal.returns-in-Ok
 returns-in-Ok c = if_ok c.proof_lines.result (λ t. IsProofText c.args.effort c.args.k c.in-Ok.extended.body t.items)
-    (λ t. IsTextOf (copy_mode false c.args.effort) [] c.args.k (with_copies (map copy_view c.args.copies.now)
+    (λ t. IsTextOf (copy_mode c.args.limits false c.args.effort) [] c.args.k (with_copies (map copy_view c.args.copies.now)
     c.args.question.now) t.items) c.proof_lines.ensures
     (λ t lines. record { reply = Extended c.in-Ok.extended.body lines.answer; right = (c.in-Ok.ensures.extension, lines.right); is = lines.is })
 
 pub returns-in-Err : goal.returns-in-Err
-returns-in-Err c = misfit_told (copy_mode false c.args.effort) (with_copies (map copy_view c.args.copies.now)
+returns-in-Err c = misfit_told (copy_mode c.args.limits false c.args.effort) (with_copies (map copy_view c.args.copies.now)
     c.args.question.now) c.args.k c.in-Err.fault (Misfit c.in-Err.fault) (λ some. (some, c.in-Err.ensures.misfit))
     (misfit_line c.args.k c.in-Err.fault) c.misfit_line.result refl c.misfit_line.ensures.told c.misfit_line.ensures.some

@@ -13,9 +13,9 @@ returns-then-is_empty c =
     let copies = map copy_view c.args.copies.now in
     let q = c.args.question.now in
     let same = no_copies c.args.copies.now none in
-    factored_report c.args.effort (with_copies copies q) c.args.k q.body _ c.factor_report.result
+    factored_report c.args.limits c.args.effort (with_copies copies q) c.args.k q.body _ c.factor_report.result
     (text_alone _ q.text copies (c.as_slice.ensures.value ∙ c.in_ok-text.ensures) same)
-    (asked_alone q.body copies same) c.factor_report.ensures
+    (asked_alone c.args.limits q.body copies same) c.factor_report.ensures
 
 pub returns-in-Ok : goal.returns-in-Ok
 returns-in-Ok c =
@@ -24,9 +24,9 @@ returns-in-Ok c =
     let q = c.args.question.now in
     let e = c.in-Ok.extended.body in
     let copied = some_copies c.args.copies.now some in
-    factored_report c.args.effort (with_copies copies q) c.args.k e _ c.factor_report-in-Ok.result
+    factored_report c.args.limits c.args.effort (with_copies copies q) c.args.k e _ c.factor_report-in-Ok.result
     (texts_after_head _ _ q.text copies (c.as_slice-2.ensures.value ∙ c.in_ok-head.ensures) (c.as_slice-3.ensures.value ∙ c.in_ok-text.ensures) copied)
-    (asked_with q.body e copies copied c.in-Ok.ensures.extension) c.factor_report-in-Ok.ensures
+    (asked_with c.args.limits q.body e copies copied c.in-Ok.ensures.extension) c.factor_report-in-Ok.ensures
 
 pub returns : goal.returns
 returns c =
@@ -34,7 +34,7 @@ returns c =
     let copies = map copy_view c.args.copies.now in
     let q = c.args.question.now in
     let copied = some_copies c.args.copies.now some in
-    misfit_reported (best_mode true c.args.effort) (with_copies copies q) c.args.k c.in-Err.fault (Misfit c.in-Err.fault)
+    misfit_reported (best_mode c.args.limits true c.args.effort) (with_copies copies q) c.args.k c.in-Err.fault (Misfit c.in-Err.fault)
     (λ told. (copied, told, c.in-Err.ensures.misfit)) _ (texts_with copies q.text) c.misfit_report.result
     (texts_after_head _ _ q.text copies (c.as_slice-2.ensures.value ∙ c.in_ok-head.ensures)
     (c.as_slice-3.ensures.value ∙ c.in_ok-text.ensures) copied) refl c.misfit_report.ensures.told c.misfit_report.ensures.some

@@ -12,8 +12,8 @@ returns-then-is_empty c =
     let none : length c.args.copies.now ≡ 0 = search rules in
     let copies = map copy_view c.args.copies.now in
     let q = c.args.question.now in
-    factored_text c.args.effort (with_copies copies q) c.args.k q.body c.factor_line.result
-    (asked_alone q.body copies (no_copies c.args.copies.now none)) c.factor_line.ensures
+    factored_text c.args.limits c.args.effort (with_copies copies q) c.args.k q.body c.factor_line.result
+    (asked_alone c.args.limits q.body copies (no_copies c.args.copies.now none)) c.factor_line.ensures
 
 pub returns-in-Ok : goal.returns-in-Ok
 returns-in-Ok c =
@@ -21,13 +21,13 @@ returns-in-Ok c =
     let copies = map copy_view c.args.copies.now in
     let q = c.args.question.now in
     let e = c.in-Ok.extended.body in
-    factored_text c.args.effort (with_copies copies q) c.args.k e c.factor_line-in-Ok.result
-    (asked_with q.body e copies (some_copies c.args.copies.now some) c.in-Ok.ensures.extension) c.factor_line-in-Ok.ensures
+    factored_text c.args.limits c.args.effort (with_copies copies q) c.args.k e c.factor_line-in-Ok.result
+    (asked_with c.args.limits q.body e copies (some_copies c.args.copies.now some) c.in-Ok.ensures.extension) c.factor_line-in-Ok.ensures
 
 pub returns-in-Err : goal.returns-in-Err
 returns-in-Err c =
     let some : length c.args.copies.now ≡ 0 → ⊥ = search rules in
     let x = with_copies (map copy_view c.args.copies.now) c.args.question.now in
-    misfit_told (best_mode false c.args.effort) x c.args.k c.in-Err.fault (Misfit c.in-Err.fault)
+    misfit_told (best_mode c.args.limits false c.args.effort) x c.args.k c.in-Err.fault (Misfit c.in-Err.fault)
     (λ told. (some_copies c.args.copies.now some, told, c.in-Err.ensures.misfit))
     (misfit_line c.args.k c.in-Err.fault) c.misfit_line.result refl c.misfit_line.ensures.told c.misfit_line.ensures.some

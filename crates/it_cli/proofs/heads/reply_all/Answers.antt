@@ -8,20 +8,20 @@ use Rattle.it_cli.proofs.ReplyLemmas.{all_replied, first_replied, none_replied, 
 use Rattle.it_cli.proofs.heads.reply_all.Goals as goal
 
 pub loop-i-init : goal.loop-i-init
-loop-i-init g c = (([], none_replied (request_mode c.args.request) _ _), refl)
+loop-i-init g c = (([], none_replied (request_mode c.args.wanted c.args.request) _ _), refl)
 
 pub returns-in_default : goal.returns-in_default
 returns-in_default g c bytes asked = (
   c.loop-i.invariant.1,
   inr (first_replied
-      (request_mode c.args.request) _ _ bytes _ c.loop-i.i c.loop-i.invariant.0.0 asked c.loop-i.invariant.0.1),
+      (request_mode c.args.wanted c.args.request) _ _ bytes _ c.loop-i.i c.loop-i.invariant.0.0 asked c.loop-i.invariant.0.1),
 )
 
 pub returns-in_default-write_all : goal.returns-in_default-write_all
 returns-in_default-write_all g c bytes asked =
     let cs = map copy_view c.args.copies.now in (
       c.in_default-write_all.ensures.counted ∙ ap next_count c.loop-i.invariant.1,
-      inr (replies_stop (request_mode c.args.request) _ _ _ bytes
+      inr (replies_stop (request_mode c.args.wanted c.args.request) _ _ _ bytes
           (map (with_copies cs) c.args.questions.now) c.loop-i.i c.loop-i.invariant.0.0
           (with_copies cs c.index-questions-i.result) c.in-Ok.ensures.reply c.in-Ok.text.items c.as_slice.result.now asked
           c.loop-i.invariant.0.1
@@ -35,7 +35,7 @@ loop-i-preserved g c =
     let cs = map copy_view c.args.copies.now in (
       (
         c.loop-i.invariant.0.0 ++ c.in-Ok.ensures.reply ∷ [],
-        replies_more (request_mode c.args.request) _ _ _
+        replies_more (request_mode c.args.wanted c.args.request) _ _ _
             (map (with_copies cs) c.args.questions.now) c.loop-i.i c.loop-i.invariant.0.0
             (with_copies cs c.index-questions-i.result) c.in-Ok.ensures.reply c.in-Ok.text.items c.as_slice.result.now
             c.loop-i.invariant.0.1
@@ -49,6 +49,6 @@ loop-i-preserved g c =
 pub returns : goal.returns
 returns g c bytes asked = (
   c.loop-i.invariant.1,
-  all_replied (request_mode c.args.request) _ _ bytes _ c.loop-i.i
+  all_replied (request_mode c.args.wanted c.args.request) _ _ bytes _ c.loop-i.i
       c.loop-i.invariant.0.0 asked c.loop-i.invariant.0.1 (omega (arith, items_long (map copy_view c.args.copies.now) c.args.questions.now)),
 )

@@ -6,7 +6,7 @@ use Rattle.it_cli.proofs.ReplyLemmas.{Replied}
 use Rattle.it_cli.proofs.heads.reply_all.Given as goal
 
 abbrev pub invariant-loop-i : goal.invariant-loop-i
-invariant-loop-i g l = ((replies : List (request_mode l.request).Reply)
-    × Replied (request_mode l.request) (g.K.Sink.taken l.initial.sink) (g.K.Sink.taken l.sink)
+invariant-loop-i g l = ((replies : List (request_mode l.wanted l.request).Reply)
+    × Replied (request_mode l.wanted l.request) (g.K.Sink.taken l.initial.sink) (g.K.Sink.taken l.sink)
     (map (with_copies (map copy_view l.copies)) l.questions) l.i replies)
     × (g.K.Sink.faults l.sink ≡ g.K.Sink.faults l.initial.sink)

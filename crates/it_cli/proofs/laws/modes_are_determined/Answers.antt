@@ -11,3 +11,4 @@ returns c = proof.modes_are_determined c.modes_have_one_reading.ensures c.answer
       misfit = c.copies_are_determined.ensures.misfit;
       either = c.copies_are_determined.ensures.either;
     }) c.replies_are_determined.ensures.one c.replies_are_determined-2.ensures.told
+    c.questions_are_in_reach.ensures.file c.questions_are_in_reach.ensures.copies c.questions_are_in_reach.ensures.sharing

@@ -35,9 +35,9 @@ with_texts-requires c = c.in-Ok.ensures.limits
 
 pub returns-in_ok-questions-in-Ok-clause-read : goal.returns-in_ok-questions-in-Ok-clause-read
 returns-in_ok-questions-in-Ok-clause-read c =
-    copy_file_read c.args.bytes.now (map line_view c.in_ok-lines.lines.items) (map copy_view c.in-Ok.read.copies.items)
+    copy_file_read c.args.limits c.args.bytes.now (map line_view c.in_ok-lines.lines.items) (map copy_view c.in-Ok.read.copies.items)
     (map body_view c.in-Ok.read.bodies.items) (letters_left c.whole.new.cursor) _ c.in_ok-lines.ensures
-    (items_are_read copy_file _ _ _ _ c.at-cursor.ensures c.as_slice.ensures.value c.in-Ok.ensures.gives)
+    (items_are_read (copy_file c.args.limits) _ _ _ _ c.at-cursor.ensures c.as_slice.ensures.value c.in-Ok.ensures.gives)
     (after_copies _ _ c.in-Ok.read.copies.items c.in-Ok.read.bodies.items _ _
     (omega (arith, c.len.ensures, c.in-Ok.read.copies.ok)) c.in_ok-after-in-Ok.ensures c.in_ok-questions-in-Ok.ensures)
 
@@ -54,16 +54,18 @@ stop_fault-requires-clause-few c = same_lines (λ ls. length (letters_of_lines l
 pub stop_fault-requires-clause-there : goal.stop_fault-requires-clause-there
 stop_fault-requires-clause-there c = same_lines (λ ls. IfFault c.in-Err.stop (IsLeft ls (letters_left c.whole.new.cursor)))
     c.in_ok-lines.lines.items c.as_slice-in-Err.result.now c.as_slice-in-Err.ensures.value
-    (some_left copy_file _ copy_file_has copy_file_ends c.args.bytes.now (map line_view c.in_ok-lines.lines.items) c.in-Err.stop
+    (some_left (copy_file c.args.limits) _ (copy_file_has c.args.limits) (copy_file_ends c.args.limits) c.args.bytes.now
+    (map line_view c.in_ok-lines.lines.items) c.in-Err.stop
     (letters_left c.whole.new.cursor) c.in_ok-lines.ensures
-    (begun_stop copy_file c.in_ok-lines.lines.items _ _ c.in-Err.stop (letters_left c.whole.new.cursor) c.at-cursor.ensures
+    (begun_stop (copy_file c.args.limits) c.in_ok-lines.lines.items _ _ c.in-Err.stop (letters_left c.whole.new.cursor) c.at-cursor.ensures
     c.as_slice.ensures.value c.in-Err.ensures.gives))
 
 pub returns-in-Err-clause-fault : goal.returns-in-Err-clause-fault
 returns-in-Err-clause-fault c =
-    first_form_fault copy_file _ copy_file_has copy_file_ends c.args.bytes.now (map line_view c.in_ok-lines.lines.items) c.in-Err.stop
+    first_form_fault (copy_file c.args.limits) _ (copy_file_has c.args.limits) (copy_file_ends c.args.limits) c.args.bytes.now
+    (map line_view c.in_ok-lines.lines.items) c.in-Err.stop
     (letters_left c.whole.new.cursor) c.stop_fault.result c.in_ok-lines.ensures
-    (begun_stop copy_file c.in_ok-lines.lines.items _ _ c.in-Err.stop (letters_left c.whole.new.cursor) c.at-cursor.ensures
+    (begun_stop (copy_file c.args.limits) c.in_ok-lines.lines.items _ _ c.in-Err.stop (letters_left c.whole.new.cursor) c.at-cursor.ensures
     c.as_slice.ensures.value c.in-Err.ensures.gives)
     (subst (λ (ls : List Line). IsStopAt (place_of (map line_view ls) (letters_left c.whole.new.cursor)) c.in-Err.stop c.stop_fault.result)
     c.as_slice-in-Err.ensures.value c.stop_fault.ensures)

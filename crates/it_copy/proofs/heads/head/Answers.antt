@@ -10,6 +10,7 @@ use Rattle.it_question.specs.WholeFiles.{place_of}
 use Rattle.it_question.proofs.WholeFileLemmas.{few_letters, some_left}
 use Rattle.it_copy.specs.declared.types.CopyLine.{CopyLine}
 use Rattle.it_copy.specs.CopyLines.{copy_view}
+use Rattle.it_question.specs.QuestionLimits.{usual}
 use Rattle.it_copy.specs.CopyForms.{more_copies, copy_file}
 use Rattle.it_copy.specs.Heads.{lines_before}
 use Rattle.it_copy.specs.HeadSteps.{StopsInHead}
@@ -56,7 +57,7 @@ stop_fault-requires-clause-few c = same_lines (λ ls. length (letters_of_lines l
 pub stop_fault-requires-clause-there : goal.stop_fault-requires-clause-there
 stop_fault-requires-clause-there c = same_lines (λ ls. IfFault c.in-Err.stop (IsLeft ls (letters_left c.copies_of_head.new.cursor)))
     c.in_ok-lines.lines.items c.as_slice-in-Err.result.now c.as_slice-in-Err.ensures.value
-    (some_left copy_file _ copy_file_has copy_file_ends c.args.bytes.now (map line_view c.in_ok-lines.lines.items) c.in-Err.stop
+    (some_left (copy_file usual) _ (copy_file_has usual) (copy_file_ends usual) c.args.bytes.now (map line_view c.in_ok-lines.lines.items) c.in-Err.stop
     (letters_left c.copies_of_head.new.cursor) c.in_ok-lines.ensures
     (stops_begun c.in_ok-lines.lines.items _ _ c.in-Err.stop (letters_left c.copies_of_head.new.cursor) c.at-cursor.ensures
     c.as_slice.ensures.value c.in-Err.ensures.stops).stops)

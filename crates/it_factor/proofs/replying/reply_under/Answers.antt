@@ -4,7 +4,7 @@ use Rattle.it_question.specs.Questions.{verb_view}
 use Rattle.it_run.proofs.AnswerLemmas.{if_ok}
 use Rattle.it_factor.specs.Lines.{IsPrintable}
 use Rattle.it_factor.specs.Replies.{reply_view}
-use Rattle.it_factor.specs.RightReplies.{IsRightReply}
+use Rattle.it_factor.specs.RightReplies.{IsDueReply}
 use Rattle.it_factor.specs.RowReplies.{IsReplyByRows}
 use Rattle.it_ratio.specs.Truth.{at_least}
 use Rattle.it_factor.proofs.PrintLemmas.{constraint_count, reply_printable}
@@ -17,7 +17,7 @@ returns-in-Prove-clause-right c =
     let p = c.args.problem.now in
     let r = relation_view c.in-Prove.relation in
     if_ok c.relation_reply.result (λ x. IsReplyByRows p c.args.effort (at_least r.sign r) (reply_view x))
-    (λ x. IsRightReply c.args.effort q (reply_view x)) c.relation_reply.ensures
+    (λ x. IsDueReply c.args.effort q (reply_view x)) c.relation_reply.ensures
     (λ x by_rows. right_reply q p c.requires.problem c.args.effort r (reply_view x) (sym c.verb.ensures.value ∙ ap verb_view c.in-Prove.is) by_rows)
 
 pub returns-in-Prove-clause-printable : goal.returns-in-Prove-clause-printable

@@ -1,7 +1,7 @@
 use Rattle.std.proofs.Common.{◌≡◌, ℕ, List, [], Ok, arith, subst}
 use Rattle.std.proofs.lemmas.Result.{err_from_is_err_and}
 use Rattle.it_question.specs.Cursors.{letters_left}
-use Rattle.it_question.specs.QuestionLimits.{most_lines, givens_left, rows_left}
+use Rattle.it_question.specs.QuestionLimits.{most_lines, most_names, givens_left, rows_left}
 use Rattle.it_question.proofs.LimitLemmas.{declared_space, region_limited}
 use Rattle.it_question.proofs.RegionLemmas.{tries_stop, contain_stops, contain_gives, region_under}
 use Rattle.it_forms.specs.FormReading.{read}
@@ -86,7 +86,7 @@ returns c = contain_gives c.args.lines.now c.args.names.now (letters_left c.args
     (letters_left c.contain.new.cursor) c.in_ok-contain.ensures
 
 pub contain-requires-clause-space : goal.contain-requires-clause-space
-contain-requires-clause-space c = declared_space c.args.names.now c.requires.names
+contain-requires-clause-space c = declared_space most_names c.args.names.now (omega arith) c.requires.names
 
 pub contain-requires-clause-region : goal.contain-requires-clause-region
 contain-requires-clause-region c =

@@ -9,7 +9,7 @@ use Rattle.it_sharing.proofs.reading.whole.Goals as goal
 pub invariant_of-result : goal.invariant_of-result
 unfolding sharing read
 invariant_of-result c =
-    let reads : read sharing (letters_left c.args.cursor.now) ≡ Ok (
+    let reads : read (sharing c.args.limits) (letters_left c.args.cursor.now) ≡ Ok (
       record {
         names = c.parties.new.names;
         qualified = c.in_ok-qualified.qualified.items;
@@ -18,4 +18,4 @@ invariant_of-result c =
       },
       letters_left c.file_end.new.cursor,
     ) = search rules in
-    (sharing_limited (letters_left c.args.cursor.now) (letters_left c.file_end.new.cursor) _ reads).0
+    (sharing_limited c.args.limits (letters_left c.args.cursor.now) (letters_left c.file_end.new.cursor) _ reads).0
