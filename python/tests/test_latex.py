@@ -39,6 +39,15 @@ class Latex(unittest.TestCase):
         self.assertIn("h(X) &= 2, & h(X,Y) &= 3, & R &= 1\n", text)
         said = r"under $X \mapsto Y,\ Y \mapsto X$ and under $Z_{1} \mapsto X,\ X \mapsto Z_{1}$."
         self.assertIn(f"Each set has the value of its image {said}", text)
+        self.assertNotIn("Any other set", text)
+
+    def test_closed(self):
+        """A point of eleven names by the values of closed sets."""
+        names = "A,B,C,D,E,F,G,J,K"
+        values = f"h({names})=0 h({names},X)=2 h({names},X,Y)=3"
+        said = "Any other set has the value of the least set around it that has one.\n"
+        for maps, before in (("", "\\end{align*}\n"), (" alike X->Y Y->X", r"under $X \mapsto Y,\ Y \mapsto X$." + "\n")):
+            self.assertTrue(typeset(f"1 no\n  as point {values}{maps}\n").endswith(before + said), maps)
 
     def test_nothing(self):
         self.assertEqual((typeset(""), typeset("\n")), ("", "\\par{\\raggedright\\texttt{}\\par}\n"))

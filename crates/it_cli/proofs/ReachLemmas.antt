@@ -1,15 +1,10 @@
 -- The defined run about the questions of a usual file with a head, and about the one that is made of a usual sharing file, is in reach.
-use Rattle.std.proofs.Common.{◌≡◌, ◌+◌, ◌≤◌, ℕ, List, length, get_or, Bool, true, false, cond, Some, None, nat_lt, refl, sym, subst, arith}
-use Rattle.std.proofs.lemmas.Bool.Decides.{nat_tests}
-use Rattle.it_forms.specs.declared.types.Code.TheVariants as codes
-use Rattle.it_closure.specs.Sizes.{most_entries, table_size}
-use Rattle.it_syntax.specs.NamesViews.{NamesView}
+use Rattle.std.proofs.Common.{◌≡◌, ◌+◌, ◌≤◌, ℕ, List, length, get_or, true, refl, sym, subst, arith}
 use Rattle.it_question.specs.Limits.{IsQuestion}
-use Rattle.it_question.specs.OwnLines.{OwnLinesView}
 use Rattle.it_question.specs.QuestionLimits.{most_lines, most_names, names_within, usual}
 use Rattle.it_question.specs.Questions.{BodyView}
-use Rattle.it_question.specs.TableSizes.{HasSmallTable, problem_of_lines, size_flag}
-use Rattle.it_question.proofs.LimitLemmas.{IsRead, few_usual_names, usual_names, within_any}
+use Rattle.it_question.specs.TableSizes.{HasSmallTable}
+use Rattle.it_question.proofs.LimitLemmas.{IsRead, few_usual_names, unflagged_is_small, usual_names, within_any}
 use Rattle.it_question.proofs.TableLemmas.{few_variables}
 use Rattle.it_canon.specs.QuestionDemands.{problem_of}
 use Rattle.it_prove.specs.Reach.{is_in_reach}
@@ -41,16 +36,6 @@ copies_are_in_reach bytes copies qs s = λ i d l.
 
 -- ---- sharing files
 
--- a table that isn't flagged isn't too large
-small_where_no_flag : (v : NamesView) (own : OwnLinesView) → size_flag v own ≡ None → table_size (problem_of_lines v own) ≤ most_entries
-unfolding size_flag
-small_where_no_flag v own e = by_test (nat_lt most_entries (table_size (problem_of_lines v own))) refl e
-  where
-    by_test : (b : Bool) → nat_lt most_entries (table_size (problem_of_lines v own)) ≡ b → cond b (Some codes.Large) None ≡ None
-        → table_size (problem_of_lines v own) ≤ most_entries
-    by_test true t k = absurd cc
-    by_test false t k = grind (arith, nat_tests)
-
 -- the made question has at most nine variables
 made_is_few : (x : SharingView) → length x.names.variables ≤ 1 + most_parties → length (made_question x).body.names.variables ≤ most_names
 unfolding made_question
@@ -58,7 +43,7 @@ made_is_few x named = omega (arith, named)
 
 made_is_small : (x : SharingView) → length x.names.variables ≤ 1 + most_parties → IsQuestion (made_question x).body → HasSmallTable (made_question x).body
 unfolding made_question
-made_is_small x named k = small_where_no_flag (made_question x).body.names (made_question x).body.lines
+made_is_small x named k = unflagged_is_small (made_question x).body.names (made_question x).body.lines
     (few_variables (made_question x).body.names (made_question x).body.lines (omega (arith, named)) k.few_rates
     k.lines.givens k.lines.few_givens k.lines.few_rows)
 

@@ -14,10 +14,10 @@ mod values;
 
 pub use generators::{write_elemental, write_origin};
 pub use lines::answer_line;
-pub use pieces::{write_number, write_signed};
+pub use pieces::{write_between, write_if, write_number, write_signed};
 pub use posed::PosedQuestion;
 pub use proof_lines::proof_text;
 pub use rows::row_text;
 pub use sets::write_set;
 pub use sums::{sum_text, write_proof};
-pub use values::{values_text, write_coordinate};
+pub use values::{is_closed, is_told, pair_text, value_of, values_text, write_coordinate};

@@ -23,7 +23,7 @@ pub fn write_signed(out: &mut Vec<u8>, number: i128) -> Result<(), AllocError>
 }
 
 /// Appends the separator, if `some`: a text stands before.
-fn write_between(out: &mut Vec<u8>, some: bool, separator: &[u8]) -> Result<(), AllocError>
+pub fn write_between(out: &mut Vec<u8>, some: bool, separator: &[u8]) -> Result<(), AllocError>
     ensures { OnOk result (out.new.items ≡ out.old.items ++ (if some then separator.now else [])) }
 {
     if some {

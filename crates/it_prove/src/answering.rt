@@ -15,23 +15,27 @@ use it_problems::Problem;
 use it_space::{Cause, Row};
 use std::alloc::{AllocError, Global};
 
-/// The most steps of a quick run. Answers don't show it.
+/// The most steps of a quick run before the defined one. Answers don't show it.
 pub const QUICK_STEPS: u32 = 4000;
 
+/// The most steps of a quick run that is made alone. Answers don't show it.
+const LONE_STEPS: u32 = 12_000;
+
 impl ClosedProblem {
-    /// The proof by a quick run, if this closed problem has one and it settles the target.
+    /// The proof by a quick run of at most `steps` steps, if this closed problem has one and it settles the target.
     fn settled(
         &mut self,
         alloc: Global,
         problem: &Problem,
         target: &Row,
+        steps: u32,
     ) -> Result<Option<Proof>, AllocError>
         requires target { IsOver (size_of problem.now.space) target.now }
         ensures settled { IfOk result (λ o. IfSome o (λ proof. IsSettled problem.now target.now (proof_view proof))) }
         ensures stays { OnOk result ((q : ProblemView) → IsClosedProblem q self.old → IsClosedProblem q self.new) }
     {
         match &mut self.quick {
-            Some(quick) => settle(alloc, quick, problem, target, QUICK_STEPS),
+            Some(quick) => settle(alloc, quick, problem, target, steps),
             None => Ok(None),
         }
     }
@@ -51,8 +55,8 @@ impl ClosedProblem {
     {
         match runs {
             Runs::Defined => Ok(None),
-            Runs::QuickFirst => self.settled(alloc, problem, target),
-            Runs::QuickAlone => match self.settled(alloc, problem, target)? {
+            Runs::QuickFirst => self.settled(alloc, problem, target, QUICK_STEPS),
+            Runs::QuickAlone => match self.settled(alloc, problem, target, LONE_STEPS)? {
                 Some(proof) => Ok(Some(proof)),
                 None => Ok(Some(Proof::Undecided(Cause::Pivots(0)))),
             },

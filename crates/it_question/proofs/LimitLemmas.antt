@@ -352,7 +352,7 @@ unflagged_is_few most n e = by_test (nat_lt most n) refl e
     by_test false t k = grind (arith, nat_tests)
 
 -- a table that isn't flagged
-unflagged_is_small : (v : NamesView) (own : OwnLinesView) → size_flag v own ≡ None → table_size (problem_of_lines v own) ≤ most_entries
+pub unflagged_is_small : (v : NamesView) (own : OwnLinesView) → size_flag v own ≡ None → table_size (problem_of_lines v own) ≤ most_entries
 unfolding size_flag
 unflagged_is_small v own e = unflagged_is_few most_entries (table_size (problem_of_lines v own)) e
 

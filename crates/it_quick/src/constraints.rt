@@ -60,6 +60,7 @@ fn push_column(
         cost,
         generator,
         negated,
+        rest: None,
     })?;
     Ok(())
 }

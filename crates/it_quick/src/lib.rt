@@ -10,8 +10,8 @@
 //! target begins at the basis at which the last run ended, and if that proposes nothing, again from the start.
 //!
 //! Where there are very many columns, and where such a run gives up, the program is one over the orbits of closed sets under the
-//! symmetries of the problem and the target, with fewer inequalities; the inequalities that have weights there, and their images, are
-//! those of a second run without symmetry.
+//! symmetries of the problem and the target, with fewer inequalities, and with equations that independences imply; the inequalities that
+//! have weights there, and their images, are those of a second run without symmetry.
 #![tactic(auto)]
 
 mod closed;
@@ -19,6 +19,7 @@ mod closures;
 mod constraints;
 mod costs;
 mod covers;
+mod implied;
 mod lifting;
 mod numbers;
 mod placed;

@@ -1,7 +1,9 @@
 //! Linear programs about targets, with what their places and columns stand for.
 
+use crate::closures::Closures;
 use crate::constraints::{push_constraints, put_right};
-use crate::costs::inequality_cost;
+use crate::costs::{constraint_cost, inequality_cost};
+use crate::implied::{Independence, Part, independences};
 use crate::places::Places;
 use crate::programs::{Column, Inequality, Program};
 use crate::resuming::resumed;
@@ -11,7 +13,7 @@ use crate::summands::{Summand, SummandWeight, of_constraint};
 use indexmap::IndexSet;
 use it_orbits::Submodular;
 use it_problems::Problem;
-use it_space::Row;
+use it_space::{Row, VarSet};
 use std::alloc::{AllocError, Global};
 
 /// A run from the start may make this many times the steps of a run from the basis of an earlier one.
@@ -107,6 +109,47 @@ impl PlacedProgram {
         Ok(is_posed)
     }
 
+    /// Appends the columns of the parts by `sets`, closed sets, of the independences that `problem` has; of those at the same places the
+    /// first one's.
+    pub fn push_implied(
+        &mut self,
+        alloc: Global,
+        problem: &Problem,
+        closures: &Closures,
+        sets: &[VarSet],
+    ) -> Result<(), AllocError> {
+        let mut met = IndexSet::new(alloc);
+        for independence in independences(alloc, closures, problem)? {
+            for set in sets {
+                if let Some(part) = independence.part(closures, *set) {
+                    if met.insert(self.next_column(&part.mutual).places())? {
+                        self.push_part(alloc, &independence, &part)?;
+                    }
+                }
+            }
+        }
+        Ok(())
+    }
+
+    /// Appends the column of the negation of a part of `independence`.
+    fn push_part(
+        &mut self,
+        alloc: Global,
+        independence: &Independence,
+        part: &Part,
+    ) -> Result<(), AllocError> {
+        let entries = self.next_column(&part.mutual).negated(alloc)?;
+        let cost = constraint_cost(self.program.columns());
+        self.program.others.push(Column {
+            entries,
+            cost,
+            generator: independence.generator,
+            negated: independence.negated,
+            rest: Some(part.rest),
+        })?;
+        Ok(())
+    }
+
     /// The end of a run about `target` with the constraints of `problem`, from the start, within `steps` steps.
     pub fn run_about(
         &mut self,
@@ -151,6 +194,14 @@ impl PlacedProgram {
         Ok(end)
     }
 
+    /// The inequality of column `column`, or the one that is added to its constraint.
+    fn inequality(&self, column: usize) -> Option<Submodular> {
+        match self.inequalities.get(column) {
+            Some(inequality) => Some(*inequality),
+            None => self.program.other(column)?.rest,
+        }
+    }
+
     /// The inequalities that have weights.
     pub fn weighed(
         &self,
@@ -159,19 +210,11 @@ impl PlacedProgram {
     ) -> Result<Vec<Submodular>, AllocError> {
         let mut weighed = Vec::new(alloc);
         for weight in weights {
-            if let Some(inequality) = self.inequalities.get(weight.column) {
-                weighed.push(*inequality)?;
+            if let Some(inequality) = self.inequality(weight.column) {
+                weighed.push(inequality)?;
             }
         }
         Ok(weighed)
-    }
-
-    /// What column `column` stands for; `None` if there is no such column.
-    fn summand(&self, column: usize) -> Option<Summand> {
-        match self.inequalities.get(column) {
-            Some(inequality) => Some(Summand::Inequality(*inequality)),
-            None => Some(of_constraint(self.program.other(column)?)),
-        }
     }
 
     /// The weights of what the columns of `weights` stand for.
@@ -182,8 +225,11 @@ impl PlacedProgram {
     ) -> Result<Vec<SummandWeight>, AllocError> {
         let mut summands = Vec::with_capacity(alloc, weights.len())?;
         for weight in weights {
-            if let Some(summand) = self.summand(weight.column) {
-                summands.push(SummandWeight::new(summand, weight))?;
+            if let Some(inequality) = self.inequality(weight.column) {
+                summands.push(SummandWeight::new(Summand::Inequality(inequality), weight))?;
+            }
+            if let Some(column) = self.program.other(weight.column) {
+                summands.push(SummandWeight::new(of_constraint(column), weight))?;
             }
         }
         Ok(summands)

@@ -2,6 +2,7 @@
 //! Its rows are the places from 2 on. Place 0 is that of sets without entropy, and has the number 0; place 1 is the right side.
 
 use crate::numbers::{at, number_at};
+use it_orbits::Submodular;
 use std::alloc::{AllocError, Global};
 
 /// The column h(plus) + h(other_plus) - h(minus) - h(other_minus) of an inequality, each set by its place.
@@ -18,6 +19,22 @@ impl Inequality {
     /// The places of its sets.
     pub fn places(&self) -> (u16, u16, u16, u16) {
         (self.plus, self.other_plus, self.minus, self.other_minus)
+    }
+
+    /// The entries of the negated column, those at one place apart from each other.
+    pub fn negated(&self, alloc: Global) -> Result<Vec<Entry>, AllocError> {
+        let mut entries = Vec::new(alloc);
+        for (place, number) in [
+            (self.plus, -1i32),
+            (self.other_plus, -1),
+            (self.minus, 1),
+            (self.other_minus, 1),
+        ] {
+            if place != 0 {
+                entries.push(Entry { place, number })?;
+            }
+        }
+        Ok(entries)
     }
 
     /// The column's entry in `row`, a row of the inverse.
@@ -50,15 +67,17 @@ pub struct Entry {
     pub number: i32,
 }
 
-/// The column of a constraint.
+/// The column of a constraint, or the sum of it and of an inequality.
 #[derive(Drop)]
 pub struct Column {
     pub entries: Vec<Entry>,
     pub cost: i64,
     /// The number of the constraint among the generators of the problem.
     pub generator: u32,
-    /// Whether the column is the constraint's, negated.
+    /// Whether it is the constraint, negated.
     pub negated: bool,
+    /// The inequality that is added.
+    pub rest: Option<Submodular>,
 }
 
 impl Column {

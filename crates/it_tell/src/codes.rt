@@ -7,19 +7,9 @@ ghost use Rattle.it_space.specs.Spaces.{most_variables};
 
 use it_certificate::ReportedCode;
 use it_codes::Variable;
-use it_print::write_number;
+use it_print::{write_between, write_number};
 use it_syntax::Names;
 use std::alloc::{AllocError, Global};
-
-/// Writes `separator` if `some`.
-pub fn write_between(out: &mut Vec<u8>, some: bool, separator: &[u8]) -> Result<(), AllocError>
-    ensures { OnOk result (out.new.items ≡ out.old.items ++ (if some then separator.now else [])) }
-{
-    if some {
-        out.extend_from_slice(separator)?;
-    }
-    Ok(())
-}
 
 /// Writes symbol `i` with its coefficient, which is left out if it is 1.
 #[tactic(auto, unfolding(crate::specs::CodeTexts::symbol_text))]

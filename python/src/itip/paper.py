@@ -6,6 +6,7 @@ import re
 
 from .ask import THEN
 from .latex import WIDTH, Names, align, escaped, formula, is_relation
+from .limits import MOST_NAMES
 from .stated import constraint, copied, spaced, stated
 
 TYPE_CHECKING = False
@@ -44,6 +45,15 @@ SENTENCES = {
     "none": "No factor holds: at the following point the left side is 0, and the right side is above 0.",
     "unbounded": "The factor ${}$ holds, and so does each smaller number, since the left side is never above 0:",
 }
+
+# what is said of a point of more names than usual
+CLOSED = "Any other set has the value of the least set around it that has one."
+
+
+def is_wide(values: str) -> bool:
+    """Whether the values of a point are those of more names than usual, so that they leave out the sets that aren't closed. The set of all
+    names is closed."""
+    return any(len(value.split(",")) > MOST_NAMES for value in values.split() if value.startswith("h("))
 
 
 def typeset(told: str, questions: Sequence[str] = (), mode: str = "answer") -> str:
@@ -198,6 +208,7 @@ class Paper:
         if lines:
             self.parts.append("\\begin{align*}\n  " + lines + "\n\\end{align*}")
             self.parts += [self._maps(maps)] if maps else []
+            self.parts += [CLOSED] if is_point and is_wide(values) else []
         else:
             self._put_letters(line)
 
